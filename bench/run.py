@@ -1,0 +1,137 @@
+#!/usr/bin/env python3
+"""Measures `reqs check` beside Python's packaging, and beside a native program where one is named.
+
+    run.py [PROGRAM] [--native PATH] [--only NAME,..] [--sizes N,..] [--runs N] [--seed N]
+           [--folder FOLDER]
+
+PROGRAM is crates/reqs_cli/out/reqs_cli where none is named. A native program is called as
+`PATH bench REQUIREMENTS ENVIRONMENT CANDIDATES` and prints the rows. All have to print the same
+rows. Times are the least of several runs of the whole process.
+"""
+
+import argparse
+import ctypes
+import os
+import subprocess
+import sys
+import tempfile
+import time
+
+HERE = os.path.dirname(os.path.abspath(__file__))
+sys.dont_write_bytecode = True
+sys.path.insert(0, HERE)
+from workload import write_workload
+
+SET_CHILD_SUBREAPER = 36
+
+
+def timed(command, out):
+    """Runs the command, its output going to the file. Returns wall and processor time, in ms."""
+    with open(out, "wb") as rows, tempfile.TemporaryFile() as said:
+        began = time.perf_counter()
+        process = subprocess.Popen(command, stdin=subprocess.DEVNULL, stdout=rows, stderr=said)
+        _, status, usage = os.wait4(process.pid, 0)
+        wall = time.perf_counter() - began
+        process.returncode = os.waitstatus_to_exitcode(status)
+        if process.returncode:
+            said.seek(0)
+            text = said.read().decode(errors="replace")
+            sys.exit(f"{' '.join(command)}: status {process.returncode}\n{text}")
+    return wall * 1e3, (usage.ru_utime + usage.ru_stime) * 1e3
+
+
+def peak(command):
+    """Runs the command and returns the most memory that it held, in KiB.
+
+    The system counts for a process also what its parent held when it was started. So a small shell
+    starts the command and ends; the command's process then becomes a child of this one.
+    """
+    if ctypes.CDLL(None, use_errno=True).prctl(SET_CHILD_SUBREAPER, 1, 0, 0, 0):
+        sys.exit(f"run.py: prctl: {os.strerror(ctypes.get_errno())}")
+    script = '"$@" >/dev/null 2>&1 </dev/null & echo $!'
+    started = subprocess.run(
+        ["/bin/sh", "-c", script, "sh", *command], stdout=subprocess.PIPE, check=True
+    )
+    _, status, usage = os.wait4(int(started.stdout), 0)
+    if status:
+        sys.exit(f"{' '.join(command)}: status {os.waitstatus_to_exitcode(status)}")
+    return usage.ru_maxrss
+
+
+def numbers(text):
+    return [int(word) for word in text.replace("_", "").split(",")]
+
+
+def read_words():
+    words = argparse.ArgumentParser(
+        description=__doc__, formatter_class=argparse.RawDescriptionHelpFormatter
+    )
+    program = os.path.join(HERE, "..", "crates", "reqs_cli", "out", "reqs_cli")
+    words.add_argument("program", nargs="?", default=os.path.normpath(program))
+    words.add_argument("--native", metavar="PATH")
+    words.add_argument("--only", metavar="NAME,..", help="of reqs, native, packaging")
+    words.add_argument("--sizes", metavar="N,..", type=numbers, default=[1000, 10000, 100000],
+                       help="numbers of candidates; there are a tenth as many lines")
+    words.add_argument("--runs", metavar="N", type=int, default=15,
+                       help="of packaging, which takes seconds, a third as many")
+    words.add_argument("--seed", metavar="N", type=int, default=7)
+    words.add_argument("--folder", metavar="FOLDER", help="where the workloads are kept")
+    return words.parse_args()
+
+
+def main():
+    words = read_words()
+    packaging = [sys.executable, os.path.join(HERE, "packaging_check.py")]
+    heads = {"reqs": [words.program, "check"], "packaging": packaging}
+    if words.native:
+        heads["native"] = [words.native, "bench"]
+    if words.only:
+        chosen = words.only.split(",")
+        if set(chosen) - set(heads):
+            sys.exit(f"run.py: --only takes names of {', '.join(heads)}")
+        heads = {name: heads[name] for name in chosen}
+    for name in ("reqs", "native"):
+        if name in heads and not os.access(heads[name][0], os.X_OK):
+            sys.exit(f"run.py: no program at {heads[name][0]}" + (
+                "; ./reqs --help at the top builds it" if name == "reqs" else ""))
+
+    if "packaging" in heads:
+        print(subprocess.run([*packaging, "--which"], stdout=subprocess.PIPE, text=True,
+                             check=True).stdout)
+    print("| candidates | lines | program | wall ms | CPU ms | peak KiB "
+          "| wall / native | peak / native | packaging / wall | rows |")
+    print("|---|---|---|---|---|---|---|---|---|---|")
+    differ = False
+    with tempfile.TemporaryDirectory(prefix="reqs-bench-") as room:
+        for size in words.sizes:
+            lines = max(1, size // 10)
+            folder = os.path.join(words.folder or room, str(size))
+            inputs = write_workload(lines, size, words.seed, folder)
+            found, rows = {}, {}
+            for name, head in heads.items():
+                runs = words.runs if name != "packaging" else max(1, words.runs // 3)
+                command, out = head + inputs, os.path.join(folder, f"{name}.rows")
+                times = [timed(command, out) for _ in range(runs)]
+                with open(out, "rb") as file:
+                    rows[name] = file.read()
+                found[name] = (min(it[0] for it in times), min(it[1] for it in times),
+                               max(peak(command) for _ in range(3)))
+            first = next(iter(rows))
+            native, slow = found.get("native"), found.get("packaging")
+            for name, (wall, cpu, memory) in found.items():
+                same = rows[name] == rows[first]
+                differ = differ or not same
+                count = rows[name].count(b"\n")
+                print(f"| {size:,} | {lines:,} | {name} | {wall:.2f} | {cpu:.2f} | {memory:,} | "
+                      + (f"{wall / native[0]:.2f} | {memory / native[2]:.2f} | " if native
+                         else "- | - | ")
+                      + (f"{slow[0] / wall:.1f} | " if slow else "- | ")
+                      + (f"{count:,} |" if same else f"{count:,}, NOT those of {first} |"),
+                      flush=True)
+    if differ:
+        print("\nThe programs do not print the same rows.")
+    return 1 if differ else 0
+
+
+if __name__ == "__main__":
+    sys.exit(main())

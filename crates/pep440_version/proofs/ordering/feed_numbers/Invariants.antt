@@ -1,0 +1,7 @@
+use Rattle.std.proofs.Common.{◌≡◌, take, fold}
+use Rattle.std.specs.List.{flat_map}
+use Rattle.std.specs.Hash as fed
+use Rattle.pep440_version.proofs.ordering.feed_numbers.Given as goal
+
+abbrev pub invariant-loop-number : goal.invariant-loop-number
+invariant-loop-number g l = l.state ≡ fold g.H.Hasher.write l.fn.state (flat_map fed.u64 (take l.number-index l.numbers))

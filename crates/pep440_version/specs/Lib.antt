@@ -1,0 +1,4 @@
+pub mod Record
+pub mod Order
+pub mod Text
+pub mod Print

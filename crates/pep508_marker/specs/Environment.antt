@@ -1,0 +1,109 @@
+-- What a marker environment is as a JSON value, and what refuses one (PEP 508, "Environment Markers").
+use Rattle.std.specs.Prelude.{◌≡◌, ℕ, ◌&&◌, Bool, true, false, not, if◌then◌else◌, List, [], ◌∷◌, ◌++◌, codes, Option, Some, None, is_some, option_and_then, Result, Ok, Err}
+use Rattle.std.specs.List.{filter_map}
+use Rattle.serde_json.specs.Data.{Data}
+use Rattle.serde_json.specs.Find.{get, as_str, as_object}
+use Rattle.serde_json.specs.Written.{has_float}
+use Rattle.pep440_rs.specs.Record.{VersionRecord}
+use Rattle.pep440_rs.specs.Text.{version_of}
+use Rattle.pep508_marker.specs.declared.EnvironmentMember.{EnvironmentMember}
+use Rattle.pep508_marker.specs.declared.EnvironmentMember.TheVariants.{ImplementationName, ImplementationVersion, OsName, PlatformMachine, PlatformPythonImplementation, PlatformRelease, PlatformSystem, PlatformVersion, PythonFullVersion, PythonVersion, SysPlatform}
+use Rattle.pep508_marker.specs.declared.EnvironmentError.{EnvironmentError}
+use Rattle.pep508_marker.specs.declared.EnvironmentError.TheVariants.{Float, Shape, Member, Version, Memory}
+
+-- an environment: so far the version of Python that is looked at (PEP 508, "Environment Markers")
+pub record EnvironmentRecord : Type 0 where
+  pub python_full_version : VersionRecord
+
+-- the name under which a member stands
+abbrev pub member_name : EnvironmentMember → List ℕ
+member_name ImplementationName = codes "implementation_name"
+member_name ImplementationVersion = codes "implementation_version"
+member_name OsName = codes "os_name"
+member_name PlatformMachine = codes "platform_machine"
+member_name PlatformPythonImplementation = codes "platform_python_implementation"
+member_name PlatformRelease = codes "platform_release"
+member_name PlatformSystem = codes "platform_system"
+member_name PlatformVersion = codes "platform_version"
+member_name PythonFullVersion = codes "python_full_version"
+member_name PythonVersion = codes "python_version"
+member_name SysPlatform = codes "sys_platform"
+
+-- the members, in the order in which they are looked at
+abbrev pub members : List EnvironmentMember
+members =
+    ImplementationName ∷ ImplementationVersion ∷ OsName ∷ PlatformMachine ∷ PlatformPythonImplementation ∷ PlatformRelease ∷ PlatformSystem ∷ PlatformVersion
+    ∷ PythonFullVersion ∷ PythonVersion ∷ SysPlatform ∷ []
+
+-- whether a member's text has to be a version (PEP 440, "Version scheme")
+abbrev pub is_version : EnvironmentMember → Bool
+is_version ImplementationName = false
+is_version ImplementationVersion = true
+is_version OsName = false
+is_version PlatformMachine = false
+is_version PlatformPythonImplementation = false
+is_version PlatformRelease = false
+is_version PlatformSystem = false
+is_version PlatformVersion = false
+is_version PythonFullVersion = true
+is_version PythonVersion = true
+is_version SysPlatform = false
+
+-- the text of a member, if it is there and a text
+abbrev pub member_text : Data → EnvironmentMember → Option (List ℕ)
+member_text value member = option_and_then as_str (get (member_name member) value)
+
+-- the version of a member, if it is there and reads as one
+abbrev pub member_version : Data → EnvironmentMember → Option VersionRecord
+member_version value member = option_and_then version_of (member_text value member)
+
+-- what is wrong with a member
+unfoldable pub member_fault : Data → EnvironmentMember → Option EnvironmentError
+member_fault value member =
+    if not (is_some (member_text value member)) then Some (Member member)
+    else (if is_version member && not (is_some (member_version value member)) then Some (Version member) else None)
+
+-- an error but want of memory is what is wrong with a member
+abbrev pub IsFault : EnvironmentError → Option EnvironmentError → Type 0
+IsFault Float fault = fault ≡ Some Float
+IsFault Shape fault = fault ≡ Some Shape
+IsFault (Member member) fault = fault ≡ Some (Member member)
+IsFault (Version member) fault = fault ≡ Some (Version member)
+IsFault Memory fault = Unit {0}
+
+-- what is wrong with the members, in their order
+abbrev pub faults : Data → List EnvironmentError
+faults value = filter_map (member_fault value) members
+
+-- the first fault, or the environment; a version that is missing is a fault of its member
+abbrev pub first_fault_or : List EnvironmentError → Option VersionRecord → Result EnvironmentRecord EnvironmentError
+first_fault_or (fault ∷ others) version = Err fault
+first_fault_or [] (Some version) = Ok (record { python_full_version = version })
+first_fault_or [] None = Err (Version PythonFullVersion)
+
+-- the environment that a value is, or the first that is wrong: a float anywhere, then the shape, then the members
+unfoldable pub environment_of : Data → Result EnvironmentRecord EnvironmentError
+environment_of value =
+    if has_float value then Err Float
+    else (if not (is_some (as_object value)) then Err Shape else first_fault_or (faults value) (member_version value PythonFullVersion))
+
+-- an error but want of memory is what is wrong with the value
+abbrev pub Refuses : EnvironmentError → Result EnvironmentRecord EnvironmentError → Type 0
+Refuses Float read = read ≡ Err Float
+Refuses Shape read = read ≡ Err Shape
+Refuses (Member member) read = read ≡ Err (Member member)
+Refuses (Version member) read = read ≡ Err (Version member)
+Refuses Memory read = Unit {0}
+
+-- an answer is what the value is; only want of memory leaves it open
+abbrev pub Reads : Result EnvironmentRecord EnvironmentError → Result EnvironmentRecord EnvironmentError → Type 0
+Reads (Ok environment) read = read ≡ Ok environment
+Reads (Err fault) read = Refuses fault read
+
+-- the print of an error
+abbrev pub error_text : EnvironmentError → List ℕ
+error_text Float = codes "a number is a float"
+error_text Shape = codes "no object"
+error_text (Member member) = codes "member " ++ member_name member ++ codes " is missing or no text"
+error_text (Version member) = codes "member " ++ member_name member ++ codes " is no version"
+error_text Memory = codes "out of memory"

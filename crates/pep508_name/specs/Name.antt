@@ -1,0 +1,101 @@
+-- Names of packages and extras: which texts are names (PEP 508, "Names"), and the normal form of each (PEP 503,
+-- "Normalized Names").
+use Rattle.std.specs.Prelude.{◌≡◌, ℕ, ◌-◌, ◌==◌, ◌&&◌, ◌||◌, Bool, true, false, if◌then◌else◌, List, [], ◌∷◌, ◌++◌, length, map, filter, codes, Option, Some, None, Result, Ok, Err}
+use Rattle.std.specs.Option.{option_map_or}
+use Rattle.std.specs.List.{slice_get, slice_split, join_with_byte, list_all}
+use Rattle.std.specs.Char.{is_ascii_alphanumeric, to_ascii_lowercase}
+use Rattle.std.specs.String.{string_bytes}
+use Rattle.std.specs.Str.{bytes_eq}
+use Rattle.std.specs.Hash as fed
+use Rattle.std.specs.declared.cmp.Ordering.{Ordering}
+use Rattle.std.specs.Ordering.{nat_cmp}
+use Rattle.std.specs.Cmp.Lexicographic.{slice_cmp}
+use Rattle.std.proofs.Common.{ap}
+use Rattle.std.proofs.lemmas.Slice.Eq.{bytes_eq-Decides}
+use Rattle.pep508_name.specs.declared.InvalidNameError.{InvalidNameError}
+use Rattle.pep508_name.specs.declared.InvalidNameError.TheVariants.{Memory, InvalidName}
+
+-- whether a byte is an ASCII letter or digit (PEP 508, "Names")
+abbrev pub is_alphanumeric : ℕ → Bool
+is_alphanumeric byte = is_ascii_alphanumeric byte
+
+-- whether a byte is `-`, `_` or `.`, which are all alike between the parts of a name (PEP 503, "Normalized Names")
+abbrev pub is_separator : ℕ → Bool
+is_separator byte = byte == 45 || byte == 95 || byte == 46
+
+-- whether a byte may stand in a name (PEP 508, "Names")
+abbrev pub is_name_byte : ℕ → Bool
+is_name_byte byte = is_alphanumeric byte || is_separator byte
+
+-- whether a letter or digit stands at a place of a text
+abbrev pub is_alphanumeric_at : List ℕ → ℕ → Bool
+is_alphanumeric_at text place = option_map_or is_alphanumeric (slice_get text place) false
+
+-- whether a text is a name: bytes of names, of which the first and the last are letters or digits (PEP 508, "Names")
+abbrev pub is_name : List ℕ → Bool
+is_name text = list_all is_name_byte text && is_alphanumeric_at text 0 && is_alphanumeric_at text (length text - 1)
+
+-- whether a part between two separators is not empty
+abbrev pub is_part : List ℕ → Bool
+is_part [] = false
+is_part (byte ∷ bytes) = true
+
+-- the parts of a text between runs of separators
+abbrev pub name_parts : List ℕ → List (List ℕ)
+name_parts text = filter is_part (slice_split is_separator text)
+
+-- the normal form of a name: its parts in lower case, with one `-` between each two (PEP 503, "Normalized Names")
+unfoldable pub normal_name : List ℕ → List ℕ
+normal_name text = map to_ascii_lowercase (join_with_byte 45 (name_parts text))
+
+-- the normal name that a text stands for, if it is a name
+unfoldable pub name_of : List ℕ → Option (List ℕ)
+name_of text = if is_name text then Some (normal_name text) else None
+
+-- an error but want of memory says that a text is no name
+abbrev pub LacksName : InvalidNameError → Option (List ℕ) → Type 0
+LacksName Memory read = Unit {0}
+LacksName (InvalidName text) read = read ≡ None
+
+-- an answer, seen by `view`, is the name that a text stands for; only want of memory leaves open whether there is one
+abbrev pub ReadsBy : {X : Type 0} → (X → List ℕ) → Result X InvalidNameError → Option (List ℕ) → Type 0
+ReadsBy view (Ok name) read = read ≡ Some (view name)
+ReadsBy view (Err fault) read = LacksName fault read
+
+-- an answer is the name that a text stands for
+abbrev pub Reads : Result (List ℕ) InvalidNameError → Option (List ℕ) → Type 0
+Reads (Ok name) read = read ≡ Some name
+Reads (Err fault) read = LacksName fault read
+
+-- an error but want of memory holds the text that was given
+abbrev pub HoldsText : List ℕ → InvalidNameError → Type 0
+HoldsText text Memory = Unit {0}
+HoldsText text (InvalidName given) = string_bytes given ≡ text
+
+-- the text that an error holds
+abbrev pub refused_text : InvalidNameError → List ℕ
+refused_text Memory = []
+refused_text (InvalidName text) = string_bytes text
+
+-- the print of an error
+abbrev pub error_text : InvalidNameError → List ℕ
+error_text Memory = codes "out of memory"
+error_text (InvalidName text) =
+    codes "Not a valid package or extra name: \"" ++ string_bytes text
+    ++ codes "\". Names must start and end with a letter or digit and may only contain -, _, ., and alphanumeric characters."
+
+-- names are equal where they are byte by byte
+abbrev pub name_eq : List ℕ → List ℕ → Bool
+name_eq = bytes_eq
+
+-- names are ordered by their bytes, the first that differs decides
+abbrev pub name_cmp : List ℕ → List ℕ → Ordering
+name_cmp = slice_cmp nat_cmp
+
+-- what a name feeds a hash: its bytes, and a byte that ends them
+abbrev pub fed_name : List ℕ → List (List ℕ)
+fed_name name = fed.str name
+
+-- equal names feed a hash alike
+pub alike_names : (a b : List ℕ) → name_eq a b ≡ true → fed_name a ≡ fed_name b
+alike_names a b h = ap fed_name ((bytes_eq-Decides a b).0 h)

@@ -1,0 +1,13 @@
+//! The commands of `reqs`: each reads its inputs whole, and writes its answer once it is made whole.
+#![tactic(auto)]
+
+mod checks;
+mod fault;
+mod input;
+
+pub use checks::check;
+pub use fault::{Input, RefusedWord, RunFault, Status};
+pub use input::Vars;
+
+#[cfg(test)]
+mod tests;

@@ -1,0 +1,136 @@
+//! The command line: which files are opened, what is said of a fault, and the exit status.
+
+ghost use Rattle.std.specs.Prelude.{◌≡◌, length};
+
+use reqs::{Input, RunFault, Status, Vars, check};
+use clap::error::ErrorKind;
+use clap::{Arg, ArgMatches, Command, Error};
+use std::alloc::Global;
+use std::env;
+use std::fs::File;
+use std::io;
+use std::process::ExitCode;
+use std::rt::Runtime;
+
+/// The exit status of a command line that is refused.
+const USAGE_STATUS: u8 = 2;
+
+/// The exit status where memory is refused.
+const MEMORY_STATUS: u8 = 3;
+
+/// Runs the command that the process was started with.
+pub fn run<R: Runtime + AllocGlobal>(rt: &R) -> ExitCode {
+    let words = match words(rt) {
+        Ok(words) => words,
+        Err(_) => return end(rt, USAGE_STATUS, "the arguments can't be read as text"),
+    };
+    match matches(rt.alloc(), words.as_slice()) {
+        Ok(matches) => match matches.subcommand_matches("check") {
+            Some(given) => run_check(rt, given),
+            None => ExitCode::from(USAGE_STATUS),
+        },
+        Err(error) => refuse_words(rt, &error),
+    }
+}
+
+/// The words of the command line, the program's name first.
+fn words<R: Runtime + AllocGlobal>(rt: &R) -> io::Result<Vec<String>> {
+    let words = env::args(rt)?.collect(rt.alloc())?;
+    Ok(words)
+}
+
+/// What the words ask for.
+fn matches<'a>(alloc: Global, words: &'a [String]) -> Result<ArgMatches<'a>, Error> {
+    let requirements = Arg::new(alloc, "REQS")
+        .help("The requirement lines, a file")
+        .required(true);
+    let environment = Arg::new(alloc, "ENV")
+        .help("The environment, a JSON object in a file")
+        .required(true);
+    let candidates = Arg::new(alloc, "CANDIDATES")
+        .help("The candidates, a name and a version a line, a file")
+        .required(true);
+    let extras = Arg::new(alloc, "EXTRA")
+        .help("The extras that are asked for")
+        .num_args(0..);
+    let check = Command::new(alloc, "check")
+        .about("Prints the greatest candidate of each package that the lines ask for")
+        .arg(requirements)?
+        .arg(environment)?
+        .arg(candidates)?
+        .arg(extras)?;
+    let reqs = Command::new(alloc, "reqs")
+        .about("Judges lists of Python requirements")
+        .subcommand_required(true)
+        .subcommand(check)?;
+    reqs.try_get_matches_from(words)
+}
+
+/// Says what is wrong with the words, or prints the help that they ask for.
+fn refuse_words<R: Runtime>(rt: &R, error: &Error) -> ExitCode {
+    if error.kind() == ErrorKind::OutOfMemory {
+        return end(rt, MEMORY_STATUS, "out of memory");
+    }
+    let printed = error.print(rt);
+    if error.use_stderr() {
+        ExitCode::from(USAGE_STATUS)
+    } else if printed.is_err() {
+        ExitCode::from(RunFault::Write.status())
+    } else {
+        ExitCode::from(Status::Answered.code())
+    }
+}
+
+/// Runs `check` on the files that were named.
+fn run_check<R: Runtime + AllocGlobal>(rt: &R, given: &ArgMatches<'_>) -> ExitCode {
+    let paths = [
+        given.get_str("REQS").unwrap_or(""),
+        given.get_str("ENV").unwrap_or(""),
+        given.get_str("CANDIDATES").unwrap_or(""),
+    ];
+    let extras = given.get_strs("EXTRA").unwrap_or(&[]);
+    match check_files(rt, &paths, extras) {
+        Ok(status) => ExitCode::from(status.code()),
+        Err(fault) => match fault.text(rt.alloc(), &paths) {
+            Ok(text) => end(rt, fault.status(), text.as_str()),
+            Err(_) => end(rt, fault.status(), "out of memory"),
+        },
+    }
+}
+
+/// Opens all files, in the order of the command line, and judges them.
+fn check_files<R: Runtime + AllocGlobal>(
+    rt: &R,
+    paths: &[&str],
+    extras: &[&str],
+) -> Result<Status, RunFault>
+    requires { length paths.now ≡ 3 }
+{
+    let mut requirements = open(rt, Input::First, paths[0])?;
+    let mut environment = open(rt, Input::Second, paths[1])?;
+    let mut candidates = open(rt, Input::Third, paths[2])?;
+    check(
+        rt.alloc(),
+        &mut requirements,
+        &mut environment,
+        &mut candidates,
+        extras,
+        &Vars,
+        &mut io::writer(rt),
+    )
+}
+
+/// Opens an input.
+fn open<R: Runtime>(rt: &R, input: Input, path: &str) -> Result<R::File, RunFault> {
+    match File::open(rt, path) {
+        Ok(file) => Ok(file),
+        Err(_) => Err(RunFault::Read { input }),
+    }
+}
+
+/// Says why the program ends, and ends it with this status.
+fn end<R: Eprint>(rt: &R, status: u8, text: &str) -> ExitCode {
+    // Where not even this can be said, the status still tells.
+    let _ = eprintln!(rt; "reqs: {text}");
+    ExitCode::from(status)
+}

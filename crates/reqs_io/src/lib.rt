@@ -1,0 +1,120 @@
+//! The two ends of a command: an input is read whole before it is looked at, and an answer is
+//! written whole once it is made.
+#![tactic(auto)]
+
+ghost use Rattle.std.specs.Prelude.{◌≡◌, ◌<◌, ◌≤◌, length, drop, IfOk, IfErr, OnOk, OnErr, IfSome};
+ghost use Rattle.std.specs.Io.KnownBytes.{Appends, Consumes};
+ghost use Rattle.reqs_io.specs.Front.{AppendsFront};
+
+use std::alloc::{AllocError, Global};
+use std::io::{ErrorKind, Read, Write};
+
+#[cfg(test)]
+mod tests;
+
+/// The most bytes that an input may have.
+pub const INPUT_LIMIT: usize = 16_777_216;
+
+/// How often a reader is asked at most, interrupted asks included.
+pub const ASK_LIMIT: u64 = 33_554_432;
+
+/// How many interrupted writes in a row are borne with.
+const INTERRUPTION_LIMIT: u32 = 1024;
+
+/// How many bytes a reader is asked for at once.
+const BUFFER_SIZE: usize = 16_384;
+
+/// Why an input was not read whole.
+#[derive(Clone, Copy, Debug, PartialEq, Eq)]
+pub enum ReadFault {
+    /// The reader failed, or was asked too often.
+    Read,
+    /// The input is longer than its limit.
+    TooLong,
+    Memory,
+}
+
+impl From<AllocError> for ReadFault {
+    ghost use Rattle.reqs_io.specs.declared.ReadFault.TheVariants.{Memory};
+
+    ghost from_gives = { λ _ fault. fault ≡ Memory };
+
+    fn from(_: AllocError) -> ReadFault {
+        ReadFault::Memory
+    }
+}
+
+/// Reads to the end: at most `limit` bytes, in at most `asks` asks.
+///
+/// An interrupted ask is asked again. No clause can say why a reader failed, nor how often it was
+/// asked. The time is linear in the input.
+pub fn read_whole<R: Read>(
+    alloc: Global,
+    reader: &mut R,
+    limit: usize,
+    asks: u64,
+) -> Result<Vec<u8>, ReadFault>
+    ensures bytes { IfOk result (λ bytes. IfSome (R.remaining reader.old) (λ all. bytes.items ≡ all)) }
+    ensures within { IfOk result (λ bytes. length bytes.items ≤ limit) }
+    ensures too_long { result ≡ Err ReadFault.TooLong → IfSome (R.remaining reader.old) (λ all. limit < length all) }
+{
+    let mut bytes = Vec::new(alloc);
+    let mut buffer = [0u8; BUFFER_SIZE];
+    for _ in 0..asks {
+        match reader.read(&mut buffer) {
+            Ok(0) => return Ok(bytes),
+            Ok(count) => {
+                if count > limit - bytes.len() {
+                    return Err(ReadFault::TooLong);
+                }
+                bytes.extend_from_slice(&buffer[..count])?;
+            }
+            Err(error) => {
+                if error.kind() != ErrorKind::Interrupted {
+                    return Err(ReadFault::Read);
+                }
+            }
+        }
+    }
+    Err(ReadFault::Read)
+}
+
+/// A write failed, took nothing, or was interrupted too often in a row.
+#[derive(Clone, Copy, Debug, PartialEq, Eq)]
+pub struct WriteFault;
+
+/// Writes the whole text, in as many writes as the writer wants; an empty text makes none.
+///
+/// After a fault a front of the text was written. The 1,025th interruption in a row is a fault.
+/// Linear in the text and the number of writes.
+pub fn write_whole<W: Write>(writer: &mut W, text: &[u8]) -> Result<(), WriteFault>
+    ensures all { OnOk result (Appends (W.contents writer.old) (W.contents writer.new) text.now) }
+    ensures front { OnErr result (AppendsFront (W.contents writer.old) (W.contents writer.new) text.now) }
+{
+    let mut rest = text;
+    let mut interrupted = 0u32;
+    while !rest.is_empty() {
+        match writer.write(rest) {
+            Ok(0) => return Err(WriteFault),
+            Ok(count) => {
+                rest = after(rest, count);
+                interrupted = 0;
+            }
+            Err(error) => {
+                if error.kind() != ErrorKind::Interrupted || interrupted == INTERRUPTION_LIMIT {
+                    return Err(WriteFault);
+                }
+                interrupted += 1;
+            }
+        }
+    }
+    Ok(())
+}
+
+/// What is left behind some bytes.
+fn after(bytes: &[u8], count: usize) -> &[u8]
+    requires { count ≤ length bytes.now }
+    ensures { result.now ≡ drop count bytes.now }
+{
+    &bytes[count..]
+}

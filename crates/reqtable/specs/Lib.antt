@@ -1,0 +1,4 @@
+pub mod Applies
+pub mod Answer
+pub mod Rows
+pub mod Groups

@@ -1,0 +1,9 @@
+use Rattle.std.proofs.Common.{◌≡◌, drop, map}
+use Rattle.reqtable_lines.specs.TextLines.{each_line}
+use Rattle.reqtable_lines.specs.Candidates.{candidate_at}
+use Rattle.reqtable_lines.proofs.Lines.{after}
+use Rattle.reqtable_lines.proofs.candidates.read_candidates.Given as goal
+
+abbrev pub invariant-loop-line : goal.invariant-loop-line
+invariant-loop-line l =
+    after l.read.items (each_line candidate_at (map (λ line. (line.number, line.text.now)) (drop l.line-index l.lines))) ≡ each_line candidate_at (map (λ line. (line.number, line.text.now)) l.lines)

@@ -1,0 +1,14 @@
+use Rattle.std.proofs.Common.{◌∙◌, Err, ap, sym, rules}
+use Rattle.reqtable_lines.specs.declared.requirements.RequirementsError.TheVariants.{NotText}
+use Rattle.reqtable_lines.proofs.Texts.{requirements_text, requirements_no_text}
+use Rattle.reqtable_lines.proofs.requirements.Requirements.parse.Goals as goal
+
+pub returns-in-Err : goal.returns-in-Err
+returns-in-Err c =
+    requirements_no_text c.args.bytes.now c.in-Err.ensures.cases.0 ∙ ap (λ n. Err (NotText n)) (sym (c.valid_up_to.ensures ∙ c.in-Err.ensures.valid_len))
+
+pub returns-in_err-lines : goal.returns-in_err-lines
+returns-in_err-lines c = rw (requirements_text c.args.bytes.now c.in-Ok.ensures.cases.1) (search rules)
+
+pub returns : goal.returns
+returns c = rw (requirements_text c.args.bytes.now c.in-Ok.ensures.cases.1) (search rules)

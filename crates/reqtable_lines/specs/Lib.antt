@@ -1,0 +1,6 @@
+pub mod TextLines
+pub mod RequirementLine
+pub mod Reading
+pub mod Requirements
+pub mod CandidateLine
+pub mod Candidates

@@ -1,0 +1,36 @@
+-- The lines of a list: which there are, where each ends, and which are skipped.
+use Rattle.std.specs.Prelude.{ℕ, ◌==◌, ◌&&◌, Bool, true, not, List, [], ◌∷◌, map, if◌then◌else◌, Result, Ok, Err}
+use Rattle.std.specs.List.{filter, slice_split, enumerate_from, list_all}
+use Rattle.std.specs.Char.{is_whitespace}
+use Rattle.std.specs.Str.{chars, encode_utf8_all}
+use Rattle.std.specs.Str.Lines.{strip_carriage_return}
+
+-- the characters before a comment; the truth says whether a `#` here begins one
+abbrev pub before_comment : Bool → List ℕ → List ℕ
+before_comment begins [] = []
+before_comment begins (c ∷ cs) = if begins && c == 35 then [] else c ∷ before_comment (is_whitespace c) cs
+
+-- a line without its comment, which a `#` begins that stands first or after white space
+unfoldable pub without_comment : List ℕ → List ℕ
+without_comment line = encode_utf8_all (before_comment true (chars line))
+
+-- white space alone
+unfoldable pub is_blank : List ℕ → Bool
+is_blank line = list_all is_whitespace (chars line)
+
+-- the lines with their numbers from 1, each without its end (a line feed, with one carriage return before it)
+-- and its comment; blank ones are counted and left out
+unfoldable pub text_lines : List ℕ → List (ℕ × List ℕ)
+text_lines bytes =
+    filter (λ l. not (is_blank l.1)) (enumerate_from 1 (map (λ l. without_comment (strip_carriage_return l)) (slice_split (λ b. b == 10) bytes)))
+
+-- a first value before others, or the first fault
+abbrev pub with_first : {A E : Type 0} → Result A E → Result (List A) E → Result (List A) E
+with_first (Ok x) (Ok xs) = Ok (x ∷ xs)
+with_first (Ok x) (Err fault) = Err fault
+with_first (Err fault) others = Err fault
+
+-- what all numbered lines read as, or the first fault
+abbrev pub each_line : {A E : Type 0} → (ℕ → List ℕ → Result A E) → List (ℕ × List ℕ) → Result (List A) E
+each_line read [] = Ok []
+each_line read (line ∷ lines) = with_first (read line.0 line.1) (each_line read lines)

@@ -1,0 +1,157 @@
+//! A candidate list: one candidate after another.
+
+ghost use Rattle.std.specs.Prelude.{◌≡◌, map};
+ghost use Rattle.reqtable_lines.specs.TextLines.{each_line};
+ghost use Rattle.std.specs.Option.{option_map};
+ghost use Rattle.reqtable_lines.specs.CandidateLine.{parts_in};
+ghost use Rattle.reqtable_lines.specs.Candidates.{Reads, ReadsBy, candidate_at, candidates_of};
+
+use crate::text_lines::{TextLine, text_lines};
+use pep440_rs::{Version, VersionParseError};
+use pep508_name::{InvalidNameError, PackageName};
+use std::alloc::{AllocError, AllocFailed, Global};
+use std::marker::Model;
+use std::str;
+
+/// A version of a package that may be taken.
+#[derive(Drop)]
+pub struct Candidate {
+    pub name: PackageName,
+    pub version: Version,
+}
+
+/// What is wrong with a candidate line.
+#[derive(Clone, Copy, Debug, PartialEq, Eq)]
+pub enum CandidateFault {
+    /// No white space stands inside, so name and version can't be told apart.
+    Shape,
+    /// What stands before the white space is no name (PEP 508, "Names").
+    Name,
+    /// What stands behind it is no version that is read.
+    Version,
+}
+
+/// Why bytes are no candidate list.
+#[derive(Clone, Copy, Debug, PartialEq, Eq)]
+pub enum CandidatesError {
+    /// The bytes stop being UTF-8 here, counted from 0.
+    NotText {
+        offset: usize,
+    },
+    /// The first line, counted from 1, that is no candidate.
+    Line {
+        number: usize,
+        cause: CandidateFault,
+    },
+    /// Memory ran out while reading.
+    Memory,
+}
+
+impl From<AllocError> for CandidatesError {
+    ghost use Rattle.reqtable_lines.specs.declared.candidates.CandidatesError.TheVariants.{Memory};
+
+    ghost from_gives = { λ _ error. error ≡ Memory };
+
+    fn from(_: AllocError) -> CandidatesError {
+        CandidatesError::Memory
+    }
+}
+
+impl<T: Drop> From<AllocFailed<T>> for CandidatesError {
+    ghost use Rattle.reqtable_lines.specs.declared.candidates.CandidatesError.TheVariants.{Memory};
+
+    ghost from_gives = { λ _ error. error ≡ Memory };
+
+    fn from(_: AllocFailed<T>) -> CandidatesError {
+        CandidatesError::Memory
+    }
+}
+
+/// The candidates of a list, in order.
+#[derive(Drop)]
+pub struct Candidates {
+    items: Vec<Candidate>,
+}
+
+impl Model for Candidates {
+    ghost use Rattle.std.specs.Prelude.{List};
+    ghost use Rattle.reqtable_lines.specs.declared.candidates.Candidate.{Candidate};
+
+    ghost Value = { List Candidate };
+
+    ghost view = { λ c. c.items.items };
+}
+
+impl Candidates {
+    /// Reads a candidate list, which is UTF-8, by lines.
+    ///
+    /// Lines end, have comments and are left out as in a requirements text. Each other line is a name, white space and a
+    /// version, as `numpy 1.26.4`, with white space around them or none.
+    ///
+    /// The first line of another kind ends the reading, with the first thing that is wrong of its shape, its name and its
+    /// version. Time and memory grow with the length of the bytes.
+    pub fn parse(alloc: Global, bytes: &[u8]) -> Result<Candidates, CandidatesError>
+        ensures { Reads result (candidates_of bytes.now) }
+    {
+        let text = match str::from_utf8(bytes) {
+            Ok(text) => text,
+            Err(error) => {
+                return Err(CandidatesError::NotText {
+                    offset: error.valid_up_to(),
+                });
+            }
+        };
+        let items = read_candidates(alloc, &text_lines(alloc, text)?)?;
+        Ok(Candidates { items })
+    }
+
+    /// The candidates in the order of the list.
+    pub fn items(&self) -> &[Candidate]
+        ensures { result.now ≡ self.now }
+    {
+        &self.items
+    }
+}
+
+/// The text before the first white space, and what follows that run of white space.
+fn split_at_white(text: &str) -> Option<(&str, &str)>
+    ensures { option_map (λ parts. (parts.0.now, parts.1.now)) result ≡ parts_in text.now }
+{
+    let (name, rest) = text.split_once(|c: char| c.is_whitespace())?;
+    Some((name, rest.trim_start()))
+}
+
+#[tactic(auto, unfolding(crate::specs::CandidateLine::candidate_of))]
+fn read_candidate(alloc: Global, number: usize, text: &str) -> Result<Candidate, CandidatesError>
+    ensures { ReadsBy (λ candidate. candidate) result (candidate_at number text.now) }
+{
+    let Some((name, version)) = split_at_white(text.trim()) else {
+        return Err(fault(number, CandidateFault::Shape));
+    };
+    let name = match PackageName::from_str(alloc, name) {
+        Ok(name) => name,
+        Err(InvalidNameError::Memory) => return Err(CandidatesError::Memory),
+        Err(InvalidNameError::InvalidName(_)) => return Err(fault(number, CandidateFault::Name)),
+    };
+    match Version::from_str(alloc, version) {
+        Ok(version) => Ok(Candidate { name, version }),
+        Err(VersionParseError::Memory) => Err(CandidatesError::Memory),
+        Err(_) => Err(fault(number, CandidateFault::Version)),
+    }
+}
+
+fn fault(number: usize, cause: CandidateFault) -> CandidatesError
+    ensures { result ≡ CandidatesError.Line number cause }
+{
+    CandidatesError::Line { number, cause }
+}
+
+fn read_candidates(alloc: Global, lines: &[TextLine<'_>]) -> Result<Vec<Candidate>, CandidatesError>
+    ensures { ReadsBy (λ read. read.items) result (each_line candidate_at (map (λ l. (l.number, l.text.now)) lines.now)) }
+{
+    let mut read = Vec::new(alloc);
+    for line in lines {
+        read.push(read_candidate(alloc, line.number, line.text)?)?;
+    }
+    Ok(read)
+}

@@ -1,0 +1,245 @@
+//! One requirement line, as far as lines are read today.
+
+ghost use Rattle.std.specs.Prelude.{◌≡◌, ◌<◌, IfOk};
+ghost use Rattle.std.specs.Option.{option_map, option_copied};
+ghost use Rattle.std.specs.List.{take_while};
+ghost use Rattle.pep440_rs.specs.Text.{version_of};
+ghost use Rattle.pep508_name.specs.Name.{name_of};
+ghost use Rattle.reqtable_lines.specs.RequirementLine.{operator_of};
+ghost use Rattle.reqtable_lines.specs.Reading.{is_in, after_run, after_blanks, behind, comparator_at, before_quote, in_quotes, comparison_of, marker_of, line_behind, requirement_of};
+
+use pep440_rs::{Operator, Version, VersionParseError, VersionSpecifier};
+use pep508_name::{InvalidNameError, PackageName};
+use std::alloc::{AllocError, Global};
+
+/// The two comparisons that are read today (PEP 440, "Version specifiers").
+#[derive(Clone, Copy, Debug, PartialEq, Eq)]
+pub enum Comparator {
+    /// `==`
+    Equal,
+    /// `>=`
+    GreaterThanEqual,
+}
+
+/// A comparison of the interpreter's full version, as `python_full_version >= '3.8'` (PEP 508, "Environment Markers").
+#[derive(Drop)]
+pub struct Comparison {
+    pub comparator: Comparator,
+    pub version: Version,
+}
+
+/// A line of a requirements text: a package, the versions of it that are allowed, and where it applies.
+#[derive(Drop)]
+pub struct RequirementLine {
+    /// The line's number in its text, from 1.
+    pub number: usize,
+    pub name: PackageName,
+    pub specifier: VersionSpecifier,
+    /// Without one the line applies everywhere.
+    pub marker: Option<Comparison>,
+}
+
+/// What a run of bytes is made of.
+#[derive(Clone, Copy)]
+enum ByteClass {
+    /// U+0020.
+    Blank,
+    /// ASCII letters and digits, `-`, `_` and `.`.
+    Name,
+    /// ASCII digits and `.`.
+    Version,
+}
+
+fn is_in(class: ByteClass, byte: u8) -> bool
+    ensures { result ≡ is_in class byte }
+{
+    match class {
+        ByteClass::Blank => byte == b' ',
+        ByteClass::Name => byte.is_ascii_alphanumeric()
+            || byte == b'-'
+            || byte == b'_'
+            || byte == b'.',
+        ByteClass::Version => byte.is_ascii_digit() || byte == b'.',
+    }
+}
+
+/// The longest run of a class at the front, and what follows it.
+fn split_run(class: ByteClass, text: &str) -> (&str, &str)
+    ensures run { result.0.now ≡ take_while (is_in class) text.now }
+    ensures rest { result.1.now ≡ after_run class text.now }
+{
+    let bytes = text.as_bytes();
+    let mut count = 0;
+    while count < bytes.len() && is_in(class, bytes[count]) {
+        count += 1;
+    }
+    text.split_at(count)
+}
+
+fn skip_blanks(text: &str) -> &str
+    ensures { result.now ≡ after_blanks text.now }
+{
+    let (_, rest) = split_run(ByteClass::Blank, text);
+    rest
+}
+
+/// What follows a word, where it stands at the front.
+#[tactic(auto, unfolding(crate::specs::Reading::behind))]
+fn behind<'a>(word: &str, text: &'a str) -> Option<&'a str>
+    ensures { option_copied result ≡ behind word.now text.now }
+{
+    text.strip_prefix(word)
+}
+
+/// A comparison at the front, and what follows it.
+#[tactic(auto, unfolding(crate::specs::Reading::comparator_at))]
+fn split_comparator(text: &str) -> Option<(Comparator, &str)>
+    ensures { option_map (λ found. (found.0, found.1.now)) result ≡ comparator_at text.now }
+{
+    if let Some(rest) = behind("==", text) {
+        return Some((Comparator::Equal, rest));
+    }
+    let rest = behind(">=", text)?;
+    Some((Comparator::GreaterThanEqual, rest))
+}
+
+/// The version that the whole text is.
+fn read_version(alloc: Global, text: &str) -> Result<Option<Version>, AllocError>
+    ensures { IfOk result (λ version. version ≡ version_of text.now) }
+{
+    match Version::from_str(alloc, text) {
+        Ok(version) => Ok(Some(version)),
+        Err(VersionParseError::Memory) => Err(AllocError),
+        Err(_) => Ok(None),
+    }
+}
+
+/// The name that the whole text is.
+fn read_name(alloc: Global, text: &str) -> Result<Option<PackageName>, AllocError>
+    ensures { IfOk result (λ name. name ≡ name_of text.now) }
+{
+    match PackageName::from_str(alloc, text) {
+        Ok(name) => Ok(Some(name)),
+        Err(InvalidNameError::Memory) => Err(AllocError),
+        Err(InvalidNameError::InvalidName(_)) => Ok(None),
+    }
+}
+
+/// What stands between two quotes of one kind, which blanks alone may follow.
+#[tactic(auto, unfolding(crate::specs::Reading::in_quotes))]
+fn unquote(text: &str) -> Option<&str>
+    ensures { option_copied result ≡ in_quotes text.now }
+{
+    if let Some(single) = behind("'", text) {
+        return before_quote('\'', single);
+    }
+    let double = behind("\"", text)?;
+    before_quote('"', double)
+}
+
+/// What stands before a quote that blanks alone follow.
+fn before_quote(quote: char, text: &str) -> Option<&str>
+    requires { quote < 128 }
+    ensures { option_copied result ≡ before_quote quote text.now }
+{
+    let (inner, rest) = text.split_once(quote)?;
+    if !skip_blanks(rest).is_empty() {
+        return None;
+    }
+    Some(inner)
+}
+
+/// A comparison of `python_full_version`, which ends the text.
+#[tactic(auto, unfolding(crate::specs::Reading::comparison_of, crate::specs::Reading::comparison_by))]
+fn read_comparison(alloc: Global, text: &str) -> Result<Option<Comparison>, AllocError>
+    ensures { IfOk result (λ comparison. comparison ≡ comparison_of text.now) }
+{
+    let Some(rest) = behind("python_full_version", text) else {
+        return Ok(None);
+    };
+    let Some((comparator, rest)) = split_comparator(skip_blanks(rest)) else {
+        return Ok(None);
+    };
+    let Some(inner) = unquote(skip_blanks(rest)) else {
+        return Ok(None);
+    };
+    match read_version(alloc, inner)? {
+        None => Ok(None),
+        Some(version) => Ok(Some(Comparison {
+            comparator,
+            version,
+        })),
+    }
+}
+
+/// The marker of a line, from its semicolon on. The outer `None` says that the text is neither one nor empty.
+#[tactic(auto, unfolding(crate::specs::Reading::marker_of))]
+fn read_marker(alloc: Global, text: &str) -> Result<Option<Option<Comparison>>, AllocError>
+    ensures { IfOk result (λ marker. marker ≡ marker_of text.now) }
+{
+    if text.is_empty() {
+        return Ok(Some(None));
+    }
+    let Some(rest) = behind(";", text) else {
+        return Ok(None);
+    };
+    match read_comparison(alloc, skip_blanks(rest))? {
+        None => Ok(None),
+        Some(comparison) => Ok(Some(Some(comparison))),
+    }
+}
+
+fn operator(comparator: Comparator) -> Operator
+    ensures { result ≡ operator_of comparator }
+{
+    match comparator {
+        Comparator::Equal => Operator::Equal,
+        Comparator::GreaterThanEqual => Operator::GreaterThanEqual,
+    }
+}
+
+/// What follows the name of a line.
+#[tactic(auto, using(crate::proofs::Runs::read_has_no_local), unfolding(crate::specs::Reading::line_behind, crate::specs::Reading::line_by))]
+fn read_behind_name(
+    alloc: Global,
+    number: usize,
+    name: PackageName,
+    text: &str,
+) -> Result<Option<RequirementLine>, AllocError>
+    ensures { IfOk result (λ line. line ≡ line_behind number name text.now) }
+{
+    let Some((comparator, rest)) = split_comparator(text) else {
+        return Ok(None);
+    };
+    let (version, rest) = split_run(ByteClass::Version, skip_blanks(rest));
+    let Some(version) = read_version(alloc, version)? else {
+        return Ok(None);
+    };
+    match read_marker(alloc, skip_blanks(rest))? {
+        None => Ok(None),
+        Some(marker) => Ok(Some(RequirementLine {
+            number,
+            name,
+            specifier: VersionSpecifier::from_version(operator(comparator), version),
+            marker,
+        })),
+    }
+}
+
+impl RequirementLine {
+    /// The line that a text is, if lines of its kind are read.
+    #[tactic(auto, unfolding(crate::specs::Reading::requirement_of))]
+    pub(crate) fn read(
+        alloc: Global,
+        number: usize,
+        text: &str,
+    ) -> Result<Option<RequirementLine>, AllocError>
+        ensures { IfOk result (λ line. line ≡ requirement_of number text.now) }
+    {
+        let (name, rest) = split_run(ByteClass::Name, skip_blanks(text));
+        match read_name(alloc, name)? {
+            None => Ok(None),
+            Some(name) => read_behind_name(alloc, number, name, skip_blanks(rest)),
+        }
+    }
+}

@@ -1,0 +1,250 @@
+#!/usr/bin/env bash
+# Tests of the command line.
+#
+#     cli.sh [PROGRAM]
+#
+# PROGRAM is the launcher ../reqs where none is named, which builds the program where needed. A line
+# is printed for each test that fails; the last line is `cli: N passed, M failed`.
+set -u
+export LC_ALL=C.UTF-8
+
+top=$(cd -- "$(dirname -- "$(readlink -f -- "${BASH_SOURCE[0]}")")/.." && pwd) || exit 1
+program=$(realpath -- "${1:-$top/reqs}")
+passed=0
+failed=0
+
+finish() {
+    echo "cli: $passed passed, $failed failed"
+    [ "$failed" -eq 0 ]
+    exit
+}
+
+# Built once, outside the tests.
+if ! "$program" --help >/dev/null </dev/null; then
+    echo "FAILED: the program can't be run: $program"
+    failed=1
+    finish
+fi
+
+work=$(mktemp -d) || exit 1
+trap 'rm -rf "$work"' EXIT
+cd "$work" || exit 1
+
+# run WORDS..: runs the program; its outputs go to the files `out` and `err`, its status to `status`.
+run() {
+    "$program" "$@" >out 2>err </dev/null
+    status=$?
+}
+
+# has FILE TEXT: whether the file holds the text and nothing else; the text `SOMETHING` stands for
+# any text but the empty one, `ANYTHING` for any.
+has() {
+    case $2 in
+        SOMETHING) [ -s "$1" ] ;;
+        ANYTHING) true ;;
+        *) printf '%s' "$2" | cmp -s - "$1" ;;
+    esac
+}
+
+# wants NAME STATUS OUT ERR: judges the last run.
+wants() {
+    local why=""
+    [ "$status" -eq "$2" ] || why="status $status, not $2"
+    has out "$3" || why="$why; standard output is $(head -c 300 out | od -An -c | head -n 8 | tr -s ' \n' ' ')"
+    has err "$4" || why="$why; standard error is $(head -c 300 err | tr '\n' '|')"
+    if [ -z "$why" ]; then
+        passed=$((passed + 1))
+    else
+        failed=$((failed + 1))
+        echo "FAILED: $1: ${why#; }"
+    fi
+}
+
+# environment [LINE..]: an environment, without the lines that hold one of these texts.
+environment() {
+    local lines=(
+        '"implementation_name": "cpython"' '"implementation_version": "3.11.4"' '"os_name": "posix"'
+        '"platform_machine": "x86_64"' '"platform_python_implementation": "CPython"'
+        '"platform_release": "5.4"' '"platform_system": "Linux"' '"platform_version": "#1"'
+        '"python_full_version": "3.11.4"' '"python_version": "3.11"' '"sys_platform": "linux"'
+    )
+    local line without text=""
+    for line in "${lines[@]}"; do
+        for without in "$@"; do
+            [[ $line == *"$without"* ]] && continue 2
+        done
+        text="$text${text:+, }$line"
+    done
+    printf '{%s}\n' "$text"
+}
+
+n=$'\n'
+environment >E
+printf 'Foo_Bar>=1.16\nfoo-bar == 1.19\n' >R
+printf 'foo-bar 1.15\nfoo-bar 1.19\nfoo-bar 2.0\n' >C
+: >empty
+
+# Answers.
+run check R E C
+wants "two spellings of a name are one package" 0 "foo-bar 1.19$n" ""
+printf 'Foo_Bar>=1.16\n' >lower
+run check lower E C
+wants "the greatest candidate" 0 "foo-bar 2.0$n" ""
+run check empty E C
+wants "no lines, no rows" 0 "" ""
+run check empty E empty
+wants "no lines and no candidates" 0 "" ""
+run check R E empty
+wants "no candidates" 0 "foo-bar none$n" ""
+printf '# a comment\n\n  # another\r\nFoo.Bar==2.0  # pinned\r\n' >comments
+run check comments E C
+wants "comments and blank lines" 0 "foo-bar 2.0$n" ""
+printf "b>=1.0 ; python_full_version >= '3.12'\na>=1.0 ; python_full_version >= \"3.8\"\n" >markers
+printf 'b 1.0\na 1.9\na 1.10\n' >two
+run check markers E two
+wants "a line that doesn't apply gives no row" 0 "a 1.10$n" ""
+printf 'zope>=1.0\nabc>=1.0\nm.n>=1.0\n' >order
+run check order E empty
+wants "rows in the order of names" 0 "abc none${n}m-n none${n}zope none$n" ""
+run check R E C dev
+wants "an extra" 0 "foo-bar 1.19$n" ""
+run check R E C dev Other_Extra
+wants "two extras" 0 "foo-bar 1.19$n" ""
+
+# Examples.
+for example in "$top"/examples/*/; do
+    name=$(basename "$example")
+    run check "$example/requirements.txt" "$example/environment.json" "$example/candidates.txt"
+    cp out example.out
+    wants "examples/$name: an answer" 0 SOMETHING ""
+    if cmp -s example.out "$example/expected.txt"; then
+        passed=$((passed + 1))
+    else
+        failed=$((failed + 1))
+        echo "FAILED: examples/$name: the answer is not expected.txt"
+        diff example.out "$example/expected.txt" | head -n 5
+    fi
+done
+
+# Inputs that are refused.
+printf 'foo-bar>=1.0\n\nfoo-bar ~= 1.0\n' >unread
+run check unread E C
+wants "a line that isn't read yet" 2 "" "reqs: unread: line 3: not yet read$n"
+printf 'foo-bar 1.15\n\nfoo-bar\n' >shape
+run check R E shape
+wants "a candidate without a version" 2 "" "reqs: shape: line 3: shape$n"
+printf 'foo- 1.0\n' >name
+run check R E name
+wants "a candidate whose name is none" 2 "" "reqs: name: line 1: name$n"
+printf 'foo-bar 1.15\nfoo-bar one\n' >version
+run check R E version
+wants "a candidate whose version is none" 2 "" "reqs: version: line 2: version$n"
+environment sys_platform >fewer
+run check R fewer C
+wants "an environment without sys_platform" 2 "" \
+    "reqs: fewer: environment 1: member sys_platform is missing or no text$n"
+environment python_version | sed 's/}/, "python_version": "three"}/' >three
+run check R three C
+wants "an environment with a bad version" 2 "" \
+    "reqs: three: environment 1: member python_version is no version$n"
+printf '{' >brace
+run check R brace C
+wants "an environment that isn't JSON" 2 "" "reqs: brace: not JSON$n"
+printf '[]' >list
+run check R list C
+wants "an environment that is a list" 2 "" "reqs: list: not an object$n"
+environment | sed 's/}/, "load": 0.5}/' >float
+run check R float C
+wants "an environment with a float" 2 "" "reqs: float: a number is a float$n"
+run check R E C dev -
+wants "an extra that is no name" 2 "" "reqs: extra - is no name$n"
+run check R E C 'a b'
+wants "an extra with a blank" 2 "" "reqs: extra a b is no name$n"
+printf 'foo\xff>=1.0\n' >bytes
+run check bytes E C
+wants "requirements that aren't UTF-8" 2 "" "reqs: bytes: not UTF-8 at byte 3$n"
+run check R bytes C
+wants "an environment that isn't UTF-8" 2 "" "reqs: bytes: not UTF-8 at byte 3$n"
+run check R E bytes
+wants "candidates that aren't UTF-8" 2 "" "reqs: bytes: not UTF-8 at byte 3$n"
+
+# Files.
+run check absent E C
+wants "requirements that don't open" 3 "" "reqs: absent: read fault$n"
+run check R absent C
+wants "an environment that doesn't open" 3 "" "reqs: absent: read fault$n"
+run check R E absent
+wants "candidates that don't open" 3 "" "reqs: absent: read fault$n"
+run check bytes E absent
+wants "all files are opened before any is read" 3 "" "reqs: absent: read fault$n"
+mkdir folder
+run check folder E C
+wants "a folder as a file" 3 "" "reqs: folder: read fault$n"
+(cd folder && "$program" check ../R ../E ../C >../out 2>../err </dev/null)
+status=$?
+wants "paths are relative to the current directory" 0 "foo-bar 1.19$n" ""
+(cd folder && "$program" check R ../E ../C >../out 2>../err </dev/null)
+status=$?
+wants "a path is told as it was given" 3 "" "reqs: R: read fault$n"
+mkdir 'a b'
+printf 'foo-bar>=1.0\n' >'a b/é'
+run check 'a b/é' "$work/E" ./C
+wants "blanks and letters past ASCII in a path" 0 "foo-bar 2.0$n" ""
+
+# Outputs that can't be written.
+: >out
+"$program" check R E C >/dev/full 2>err </dev/null
+status=$?
+wants "a full standard output" 3 "" "reqs: write fault$n"
+"$program" check R E C >&- 2>err </dev/null
+status=$?
+wants "a closed standard output" 3 "" "reqs: write fault$n"
+"$program" check R E C </dev/null >/dev/full 2>&1
+status=$?
+: >err
+wants "neither output can be written" 3 "" ""
+"$program" check empty E C >/dev/full 2>err </dev/null
+status=$?
+wants "no rows, and nothing to write" 0 "" ""
+"$program" --help >/dev/full 2>err </dev/null
+status=$?
+wants "help that can't be written" 3 "" ANYTHING
+
+# Words.
+run --help
+wants "--help" 0 SOMETHING ""
+run check --help
+wants "check --help" 0 SOMETHING ""
+run help
+wants "help" 0 SOMETHING ""
+run
+wants "no words" 2 "" SOMETHING
+run frobnicate
+wants "an unknown command" 2 "" SOMETHING
+run check
+wants "check without files" 2 "" SOMETHING
+run check R E
+wants "too few files" 2 "" SOMETHING
+run check --frobnicate R E C
+wants "an unknown option" 2 "" SOMETHING
+
+# The stored runs.
+if command -v python3 >/dev/null; then
+    python3 "$top/tests/runs.py" "$program" >runs.out
+    grep -v '^runs: ' runs.out
+    line=$(grep -E '^runs: [0-9]+ passed, [0-9]+ failed$' runs.out | tail -n 1)
+    if [ -n "$line" ]; then
+        line=${line#runs: }
+        good=${line%% passed*}
+        bad=${line##*, }
+        passed=$((passed + good))
+        failed=$((failed + ${bad%% failed}))
+    else
+        failed=$((failed + 1))
+        echo "FAILED: tests/runs.py ended without its closing line"
+    fi
+else
+    failed=$((failed + 1))
+    echo "FAILED: python3 is not on the PATH, and the stored runs need it"
+fi
+finish
