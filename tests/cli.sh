@@ -99,6 +99,9 @@ wants "no candidates" 0 "foo-bar none$n" ""
 printf '# a comment\n\n  # another\r\nFoo.Bar==2.0  # pinned\r\n' >comments
 run check comments E C
 wants "comments and blank lines" 0 "foo-bar 2.0$n" ""
+printf "Foo_Bar>=1.16  # any spelling\nfoo-bar == 1.19 ; python_full_version >= '3.8'\n" >marked
+run check marked E C
+wants "a marker that holds" 0 "foo-bar 1.19$n" ""
 printf "b>=1.0 ; python_full_version >= '3.12'\na>=1.0 ; python_full_version >= \"3.8\"\n" >markers
 printf 'b 1.0\na 1.9\na 1.10\n' >two
 run check markers E two
@@ -167,6 +170,21 @@ run check R bytes C
 wants "an environment that isn't UTF-8" 2 "" "reqs: bytes: not UTF-8 at byte 3$n"
 run check R E bytes
 wants "candidates that aren't UTF-8" 2 "" "reqs: bytes: not UTF-8 at byte 3$n"
+
+# The size of an input.
+head -c 16777217 /dev/zero | tr '\0' '#' >long
+head -c 16777216 long >fits
+run check fits E C
+wants "requirements of 16777216 bytes, one comment" 0 "" ""
+run check R E fits
+wants "candidates of 16777216 bytes, one comment" 0 "foo-bar none$n" ""
+run check long E C
+wants "requirements that are too long" 2 "" "reqs: long: longer than 16777216 bytes$n"
+run check R long C
+wants "an environment that is too long" 2 "" "reqs: long: longer than 16777216 bytes$n"
+run check R E long
+wants "candidates that are too long" 2 "" "reqs: long: longer than 16777216 bytes$n"
+rm long fits
 
 # Files.
 run check absent E C

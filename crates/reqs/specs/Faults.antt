@@ -11,7 +11,7 @@ use Rattle.reqtable_lines.specs.declared.candidates.CandidatesError.TheVariants 
 use Rattle.reqs.specs.declared.fault.Input.{Input}
 use Rattle.reqs.specs.declared.fault.Input.TheVariants.{First, Second, Third}
 use Rattle.reqs.specs.declared.fault.RunFault.{RunFault}
-use Rattle.reqs.specs.declared.fault.RunFault.TheVariants.{Read, Write, Memory, TooLong, NotText, NotYet, Json, Float, Shape, Member, Version, Candidate}
+use Rattle.reqs.specs.declared.fault.RunFault.TheVariants.{Read, Write, Memory, TooLong, NotText, NotYet, Float, Shape, Member, Version, Candidate}
 
 -- 3 for a reader, the writer and memory; 2 where an input or the command line is refused
 abbrev pub status_of : RunFault → ℕ

@@ -91,23 +91,41 @@ impl fmt::Display for RefusedWord {
 #[derive(Debug, Drop)]
 pub enum RunFault {
     /// The input could not be read to its end.
-    Read { input: Input },
+    Read {
+        input: Input,
+    },
     /// The answer could not be written whole; a front of it was.
     Write,
     Memory,
     /// The input is longer than 16,777,216 bytes.
-    TooLong { input: Input },
+    TooLong {
+        input: Input,
+    },
     /// The input stops being UTF-8 at this byte, counted from 0.
-    NotText { input: Input, offset: usize },
+    NotText {
+        input: Input,
+        offset: usize,
+    },
     /// An extra of the command line is no name.
-    Extra { text: RefusedWord },
+    Extra {
+        text: RefusedWord,
+    },
     /// A requirement line of a kind that is not read yet.
-    NotYet { input: Input, number: usize },
-    Json { input: Input },
+    NotYet {
+        input: Input,
+        number: usize,
+    },
+    Json {
+        input: Input,
+    },
     /// The environment holds a number that JSON keeps as a float.
-    Float { input: Input },
+    Float {
+        input: Input,
+    },
     /// The environment is no JSON object.
-    Shape { input: Input },
+    Shape {
+        input: Input,
+    },
     /// A member of the environment is missing or no text.
     Member {
         input: Input,
@@ -259,7 +277,9 @@ impl RunFault {
             }
             RunFault::Member { input, index, name } => {
                 let path = input.path(paths);
-                format!(in alloc; "{path}: environment {index}: member {name} is missing or no text")
+                format!(in alloc;
+                    "{path}: environment {index}: member {name} is missing or no text"
+                )
             }
             RunFault::Version { input, index, name } => {
                 let path = input.path(paths);

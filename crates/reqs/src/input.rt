@@ -21,11 +21,7 @@ use std::io::Read;
 pub struct Vars;
 
 /// Reads an input to its end.
-pub fn read_input<R: Read>(
-    alloc: Global,
-    input: Input,
-    reader: &mut R,
-) -> Result<Vec<u8>, RunFault>
+pub fn read_input<R: Read>(alloc: Global, input: Input, reader: &mut R) -> Result<Vec<u8>, RunFault>
     ensures { IfSome (R.remaining reader.old) (λ all. Answers (λ bytes. bytes.items) result (input_of input all)) }
 {
     match read_whole(alloc, reader, INPUT_LIMIT, ASK_LIMIT) {

@@ -106,7 +106,11 @@ fn takes_the_greatest_candidate(rt: HostRuntime) -> Result<(), Fail> {
 fn names_the_line_that_is_refused(rt: HostRuntime) -> Result<(), Fail> {
     let rows = [
         ("# x\nfoo<2.0", "", "status 2, REQS: line 2: not yet read"),
-        ("foo==1.0", "foo 1.0 x", "status 2, CANDIDATES: line 1: version"),
+        (
+            "foo==1.0",
+            "foo 1.0 x",
+            "status 2, CANDIDATES: line 1: version",
+        ),
         ("foo==1.0", "\nfoo", "status 2, CANDIDATES: line 2: shape"),
         ("foo==1.0", "-foo 1.0", "status 2, CANDIDATES: line 1: name"),
     ];
@@ -146,7 +150,13 @@ fn names_what_is_wrong_with_an_environment(rt: HostRuntime) -> Result<(), Fail> 
 #[test]
 fn reads_extras_as_names(rt: HostRuntime) -> Result<(), Fail> {
     let environment = ENVIRONMENT.as_bytes();
-    let told = run(rt.alloc(), b"foo==1", environment, b"foo 1", &["dev", "A_b"])?;
+    let told = run(
+        rt.alloc(),
+        b"foo==1",
+        environment,
+        b"foo 1",
+        &["dev", "A_b"],
+    )?;
     assert_eq!(rt; told.as_str(), "foo 1\nstatus 0");
     // An extra is looked at before any text, and after all of them were read.
     let told = run(rt.alloc(), b"<", b"{", b"\xff", &["dev", "a-"])?;
@@ -157,7 +167,12 @@ fn reads_extras_as_names(rt: HostRuntime) -> Result<(), Fail> {
 #[test]
 fn looks_at_the_inputs_in_order(rt: HostRuntime) -> Result<(), Fail> {
     let rows: [(&[u8], &[u8], &[u8], &str); 4] = [
-        (b"foo\xff", b"{", b"x", "status 2, REQS: not UTF-8 at byte 3"),
+        (
+            b"foo\xff",
+            b"{",
+            b"x",
+            "status 2, REQS: not UTF-8 at byte 3",
+        ),
         (b"<", b"{\xff", b"x", "status 2, REQS: line 1: not yet read"),
         (b"", b"{\xff", b"x", "status 2, ENV: not UTF-8 at byte 1"),
         (b"", b"{", b"\xff", "status 2, ENV: not JSON"),

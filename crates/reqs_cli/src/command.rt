@@ -2,15 +2,14 @@
 
 ghost use Rattle.std.specs.Prelude.{◌≡◌, length};
 
-use reqs::{Input, RunFault, Status, Vars, check};
 use clap::error::ErrorKind;
 use clap::{Arg, ArgMatches, Command, Error};
+use reqs::{Input, RunFault, Status, Vars, check};
 use std::alloc::Global;
-use std::env;
 use std::fs::File;
-use std::io;
 use std::process::ExitCode;
 use std::rt::Runtime;
+use std::{env, io};
 
 /// The exit status of a command line that is refused.
 const USAGE_STATUS: u8 = 2;

@@ -70,11 +70,11 @@ module _ {K : Type 0} {R : K → K → Ordering} (total : IsTotalOrder R) where
     back = [];
     split = refl;
     above_front =
-      let P : K → Type 0 = λ x. is_gt (R n x) ≡ true in
-      let front : AllByRecursion P best.front = all_mapped (λ x. is_gt (R b x) ≡ true) P (λ x g. above_all n b x h (not_below b x g)) best.front best.above_front in
-      let back : AllByRecursion P best.back = all_mapped (λ x. is_gt (R x b) ≡ false) P (λ x g. above_all n b x h g) best.back best.not_below_back in
-      let all : AllByRecursion P (best.front ++ (b ∷ best.back)) = all_append P best.front (b ∷ best.back) front (h, back) in
-      rw best.split all;
+        let P : K → Type 0 = λ x. is_gt (R n x) ≡ true in
+        let front : AllByRecursion P best.front = all_mapped (λ x. is_gt (R b x) ≡ true) P (λ x g. above_all n b x h (not_below b x g)) best.front best.above_front in
+        let back : AllByRecursion P best.back = all_mapped (λ x. is_gt (R x b) ≡ false) P (λ x g. above_all n b x h g) best.back best.not_below_back in
+        let all : AllByRecursion P (best.front ++ (b ∷ best.back)) = all_append P best.front (b ∷ best.back) front (h, back) in
+        rw best.split all;
     not_below_back = tt;
   }
 
@@ -97,16 +97,16 @@ module _ {K : Type 0} {R : K → K → Ordering} (total : IsTotalOrder R) where
   -- the definition finds it
   pub first_greatest-is : (xs : List K) (b : K) → IsFirstGreatest R xs b → first_greatest R xs ≡ Some b
   first_greatest-is xs b best =
-    let is_greatest : K → Bool = λ x. list_all (λ y. not (is_gt (R y x))) xs in
-    let fails : (x : K) → is_gt (R b x) ≡ true → is_greatest x ≡ false =
+      let is_greatest : K → Bool = λ x. list_all (λ y. not (is_gt (R y x))) xs in
+      let fails : (x : K) → is_gt (R b x) ≡ true → is_greatest x ≡ false =
       λ x h. ap (list_all (λ y. not (is_gt (R y x)))) best.split ∙ one_fails (λ y. not (is_gt (R y x))) best.front b best.back (ap not h) in
-    let front : AllByRecursion (λ y. is_gt (R y b) ≡ false) best.front = all_mapped _ _ (λ y h. not_below total b y h) best.front best.above_front in
-    let below : AllByRecursion (λ y. is_gt (R y b) ≡ false) (best.front ++ (b ∷ best.back)) = all_append _ best.front (b ∷ best.back) front (itself total b, best.not_below_back) in
-    let passes : is_greatest b ≡ true =
+      let front : AllByRecursion (λ y. is_gt (R y b) ≡ false) best.front = all_mapped _ _ (λ y h. not_below total b y h) best.front best.above_front in
+      let below : AllByRecursion (λ y. is_gt (R y b) ≡ false) (best.front ++ (b ∷ best.back)) = all_append _ best.front (b ∷ best.back) front (itself total b, best.not_below_back) in
+      let passes : is_greatest b ≡ true =
       ap (list_all (λ y. not (is_gt (R y b)))) best.split ∙ all_pass (λ y. not (is_gt (R y b))) (best.front ++ (b ∷ best.back)) (all_mapped _ _ (λ y h. ap not h) (best.front ++ (b ∷ best.back)) below) in
-    ap (find is_greatest) best.split
-    ∙ find-none_in_front is_greatest best.front (b ∷ best.back) (all_mapped _ _ fails best.front best.above_front)
-    ∙ ap (λ v. cond v (Some b) (find is_greatest best.back)) passes
+      ap (find is_greatest) best.split
+      ∙ find-none_in_front is_greatest best.front (b ∷ best.back) (all_mapped _ _ fails best.front best.above_front)
+      ∙ ap (λ v. cond v (Some b) (find is_greatest best.back)) passes
 
   pub first_greatest-best : (xs : List K) (best : Option K) → IsBest R xs best → first_greatest R xs ≡ best
   first_greatest-best xs None h = ap (first_greatest R) h

@@ -1,5 +1,5 @@
 -- The answer of `check`, by whole lists: which packages have a row, and what stands in it.
-use Rattle.std.specs.Prelude.{◌≡◌, ℕ, ◌&&◌, Bool, true, not, List, [], ◌∷◌, ◌++◌, map, filter, Option, Some, None, option_map, codes, find}
+use Rattle.std.specs.Prelude.{◌≡◌, ℕ, ◌&&◌, Bool, true, not, List, ◌++◌, map, filter, Option, Some, None, option_map, codes, find}
 use Rattle.std.specs.List.{list_any, list_all, flat_map}
 use Rattle.std.specs.List.Sorted.{IsStrictlySortedBy}
 use Rattle.std.specs.Cmp.Lexicographic.{slice_cmp}

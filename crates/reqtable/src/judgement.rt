@@ -14,7 +14,9 @@ ghost use Rattle.std.specs.BTreeMap.{get_by};
 use crate::answer::{Answer, Outcome, Row};
 use pep440_rs::Version;
 use pep508_marker::MarkerEnvironment;
-use reqtable_lines::{Candidate, Candidates, Comparator, Comparison, RequirementLine, Requirements};
+use reqtable_lines::{
+    Candidate, Candidates, Comparator, Comparison, RequirementLine, Requirements,
+};
 use std::alloc::{AllocError, Global};
 use std::collections::BTreeMap;
 

@@ -108,7 +108,9 @@ impl Write for Busy {
 }
 
 const REQUIREMENTS: &[u8] = b"foo>=1\nbar==2";
+
 const CANDIDATES: &[u8] = b"foo 1.5\nbar 3";
+
 const ANSWER: &str = "bar none\nfoo 1.5\n";
 
 /// Runs `check` on the texts above with this writer.

@@ -1,8 +1,7 @@
-use Rattle.std.proofs.Common.{◌≡◌, ap, map, refl, Ok}
+use Rattle.std.proofs.Common.{map, refl}
 use Rattle.std.proofs.lemmas.Result.{err_from_is_err_and}
 use Rattle.reqtable.specs.Rows.{row_seen}
-use Rattle.reqs.specs.Faults.{of_requirements, of_candidates}
-use Rattle.reqs.specs.Inputs.{texts_of, with_fault}
+use Rattle.reqs.specs.Inputs.{texts_of}
 use Rattle.reqs.proofs.Steps.{explains_rest, requirements_explain, candidates_explain}
 use Rattle.reqs.proofs.checks.check_text.Goals as goal
 

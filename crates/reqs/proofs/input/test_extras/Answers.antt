@@ -1,6 +1,5 @@
-use Rattle.std.proofs.Common.{◌≡◌, ◌∙◌, sym, ap, true, false, not, is_some, find, map, Some, None, Bool, List, ℕ, Bor, Err, get_or, [], rules}
+use Rattle.std.proofs.Common.{◌≡◌, ◌∙◌, sym, ap, not, is_some, map, None, List, ℕ, Bor, Err, get_or, [], rules}
 use Rattle.pep508_name.specs.Name.{name_of}
-use Rattle.pep508_name.specs.declared.InvalidNameError.TheVariants.{InvalidName}
 use Rattle.reqs.specs.declared.fault.RunFault.TheVariants.{Extra}
 use Rattle.reqs.specs.Inputs.{unless_refused}
 use Rattle.reqs.proofs.Extras.{none_more, first_found}

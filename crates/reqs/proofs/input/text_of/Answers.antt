@@ -1,4 +1,4 @@
-use Rattle.std.proofs.Common.{◌∙◌, ap, sym}
+use Rattle.std.proofs.Common.{◌∙◌, ap}
 use Rattle.std.proofs.lemmas.Str.{is_utf8-from_IsUtf8}
 use Rattle.reqs.specs.declared.fault.RunFault.TheVariants.{NotText}
 use Rattle.reqs.proofs.Texts.{is_utf8-false}

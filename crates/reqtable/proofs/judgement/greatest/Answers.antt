@@ -1,4 +1,4 @@
-use Rattle.std.proofs.Common.{◌≡◌, ◌∙◌, ◌++◌, ◌∷◌, [], ◌+◌, List, Bool, true, false, sym, ap, subst, map, filter, take, option_map}
+use Rattle.std.proofs.Common.{◌≡◌, ◌∙◌, ◌++◌, ◌∷◌, [], ◌+◌, List, Bool, sym, ap, subst, map, filter, take, option_map}
 use Rattle.std.proofs.lemmas.List.{map_more, take_all}
 use Rattle.pep440_rs.specs.Order.{version_cmp_total}
 use Rattle.std.specs.Cmp.{IsTotalOrder, on_total}
@@ -18,17 +18,17 @@ loop-candidate-preserved c =
     let before = map (λ r. r.now) (take c.loop-candidate.candidate-index c.args.candidates.now) in
     let p : Candidate → Bool = λ x. all_match (map (λ r. r.now) c.args.lines.now) x.version in
     let grown : map (λ r. r.now) (take (c.loop-candidate.candidate-index + 1) c.args.candidates.now) ≡ before ++ n ∷ [] =
-      map_more (λ r. r.now) c.args.candidates.now c.loop-candidate.candidate-index c.candidate-item.result c.loop-candidate-test.true
-      ∙ ap (λ x. before ++ x.now ∷ []) (sym c.candidate-item.is) in
+    map_more (λ r. r.now) c.args.candidates.now c.loop-candidate.candidate-index c.candidate-item.result c.loop-candidate-test.true
+    ∙ ap (λ x. before ++ x.now ∷ []) (sym c.candidate-item.is) in
     let P : List Candidate → Type 0 = λ l. IsBest by_version (filter p l) (taken c.if-all_match.best) in
     subst P (sym grown) (elim c.if-all_match.branch [
       | then-all_match+then-is_greater w ↦
-        rw w.best-is (best_taken total p before n (taken c.loop-candidate.best) (sym c.all_match.ensures ∙ w.if-all_match.true) (sym w.is_greater.ensures ∙ w.if-is_greater.true) c.loop-candidate.invariant)
+          rw w.best-is (best_taken total p before n (taken c.loop-candidate.best) (sym c.all_match.ensures ∙ w.if-all_match.true) (sym w.is_greater.ensures ∙ w.if-is_greater.true) c.loop-candidate.invariant)
       | else-all_match w ↦ rw w.best-is (elim w.else-all_match.branch [
         | else-all_match-via-then-all_match+else-is_greater v ↦
-          best_kept total p before n (taken c.loop-candidate.best) (sym c.all_match.ensures ∙ v.if-all_match.true) (sym v.is_greater.ensures ∙ v.if-is_greater.false) c.loop-candidate.invariant
+            best_kept total p before n (taken c.loop-candidate.best) (sym c.all_match.ensures ∙ v.if-all_match.true) (sym v.is_greater.ensures ∙ v.if-is_greater.false) c.loop-candidate.invariant
         | else-all_match-via-else-all_match v ↦
-          best_passed_over total p before n (taken c.loop-candidate.best) (sym c.all_match.ensures ∙ v.if-all_match.false) c.loop-candidate.invariant
+            best_passed_over total p before n (taken c.loop-candidate.best) (sym c.all_match.ensures ∙ v.if-all_match.false) c.loop-candidate.invariant
       ])
     ])
 
@@ -36,5 +36,5 @@ pub returns : goal.returns
 returns c =
     let p : Candidate → Bool = λ x. all_match (map (λ r. r.now) c.args.lines.now) x.version in
     let best : first_greatest by_version (filter p (map (λ r. r.now) (take c.loop-candidate.candidate-index c.args.candidates.now))) ≡ taken c.loop-candidate.best =
-      first_greatest-best total _ _ c.loop-candidate.invariant in
+    first_greatest-best total _ _ c.loop-candidate.invariant in
     ap (option_map (λ x. x.version)) (sym (rw (take_all _ _ c.loop-candidate-test.false) at best))
