@@ -103,6 +103,13 @@ fn takes_the_greatest_candidate(rt: HostRuntime) -> Result<(), Fail> {
 }
 
 #[test]
+fn says_that_memory_was_refused(rt: HostRuntime) -> Result<(), Fail> {
+    let told = told(rt.alloc(), b"", Err(RunFault::Memory))?;
+    assert_eq!(rt; told.as_str(), "status 3, out of memory");
+    Ok(())
+}
+
+#[test]
 fn names_the_line_that_is_refused(rt: HostRuntime) -> Result<(), Fail> {
     let rows = [
         ("# x\nfoo<2.0", "", "status 2, REQS: line 2: not yet read"),
