@@ -1,5 +1,4 @@
-//! Versions of Python packages, as PEP 440 has them: what a version says, its text, its print and the order of
-//! versions.
+//! Versions of Python packages, as PEP 440 has them: what a version says, its text, its print and their order.
 //!
 //! Contracts see a `Version` as a `VersionRecord`, whose parts stand each for itself. So far text is read of
 //! versions with a release alone, as `1.26.4`.
