@@ -9,7 +9,8 @@ use Rattle.reqtable_lines.specs.Candidates as choices
 use Rattle.reqs.specs.declared.fault.RunFault.{RunFault}
 use Rattle.reqs.specs.declared.fault.RunFault.TheVariants.{Read, Write, Memory}
 use Rattle.reqs.specs.declared.fault.Status.{Status}
-use Rattle.reqs.specs.Faults.{Explains, of_requirements, of_candidates}
+use Rattle.reqs.specs.Faults.{Explains, ExplainsReading, of_requirements, of_candidates}
+use Rattle.reqs.specs.declared.fault.Input.{Input}
 use Rattle.reqs.specs.declared.fault.Input.TheVariants.{First, Second, Third}
 use Rattle.reqs.specs.Inputs.{CheckInputs, ◌>>=◌, with_fault, input_of, texts_of, check_inputs}
 use Rattle.reqs.specs.Check.{EndsAs, RunsCheck, IsAnswerText}
@@ -19,10 +20,14 @@ use Rattle.reqs.specs.declared.fault.Status.TheVariants.{Answered}
 
 -- a step's fault is that of all that follows
 pub explains_rest : {A B : Type 0} (fault : RunFault) (step : Result A RunFault) (rest : A → Result B RunFault) → Explains fault step → Explains fault (step >>= rest)
-explains_rest (Read input) step rest h = tt
+explains_rest (Read input) step rest h = h
 explains_rest Write step rest h = h
 explains_rest Memory step rest h = tt
 explains_rest fault step rest h = ap (λ r. r >>= rest) h
+
+pub reading_explains_rest : {A B : Type 0} (input : Input) (fault : RunFault) (step : Result A RunFault) (rest : A → Result B RunFault) → ExplainsReading input fault step → ExplainsReading input fault (step >>= rest)
+reading_explains_rest input (Read failed) step rest h = h
+reading_explains_rest input fault step rest h = explains_rest fault step rest h
 
 pub requirements_explain : {A : Type 0} (fault : RequirementsError) (read : Result A RequirementsError) → lists.Refuses fault read → Explains (of_requirements fault) (with_fault of_requirements read)
 requirements_explain (requirements.NotText offset) read h = ap (with_fault of_requirements) h
@@ -36,8 +41,13 @@ candidates_explain candidates.Memory read h = tt
 
 -- a fault that is explained ends the command so
 pub ends_so : (fault : RunFault) (inputs : Result CheckInputs RunFault) (old new : Option (List ℕ)) → Explains fault inputs → EndsAs inputs old new (Err fault)
+ends_so (Read input) inputs old new h = absurd h
 ends_so Write inputs old new h = absurd h
 ends_so fault inputs old new h = h
+
+pub reading_ends_so : (input : Input) (fault : RunFault) (inputs : Result CheckInputs RunFault) (old new : Option (List ℕ)) → ExplainsReading input fault inputs → EndsAs inputs old new (Err fault)
+reading_ends_so input (Read failed) inputs old new h = tt
+reading_ends_so input fault inputs old new h = ends_so fault inputs old new h
 
 -- inputs that are read whole are what their texts are
 inputs_are : (extras : List (List ℕ)) (x y z first second third : List ℕ) → input_of First x ≡ Ok first → input_of Second y ≡ Ok second → input_of Third z ≡ Ok third
@@ -47,28 +57,28 @@ inputs_are extras x y z first second third h i j = rw (h, i, j) refl
 
 -- how the command ends at each of its exits, over readers whose bytes are told
 module _ (extras : List (List ℕ)) where
-  pub first_unread : (a b c old new : Option (List ℕ)) (fault : RunFault) → IfSome a (λ all. Explains fault (input_of First all)) → RunsCheck extras a b c old new (Err fault)
+  pub first_unread : (a b c old new : Option (List ℕ)) (fault : RunFault) → IfSome a (λ all. ExplainsReading First fault (input_of First all)) → RunsCheck extras a b c old new (Err fault)
   unfolding check_inputs
   first_unread None b c old new fault h = tt
   first_unread (Some x) None c old new fault h = tt
   first_unread (Some x) (Some y) None old new fault h = tt
-  first_unread (Some x) (Some y) (Some z) old new fault h = ends_so fault _ old new (explains_rest fault (input_of First x) _ h)
+  first_unread (Some x) (Some y) (Some z) old new fault h = reading_ends_so First fault _ old new (reading_explains_rest First fault (input_of First x) _ h)
 
-  pub second_unread : (a b c old new : Option (List ℕ)) (first : List ℕ) (fault : RunFault) → IfSome a (λ all. input_of First all ≡ Ok first) → IfSome b (λ all. Explains fault (input_of Second all))
+  pub second_unread : (a b c old new : Option (List ℕ)) (first : List ℕ) (fault : RunFault) → IfSome a (λ all. input_of First all ≡ Ok first) → IfSome b (λ all. ExplainsReading Second fault (input_of Second all))
       → RunsCheck extras a b c old new (Err fault)
   unfolding check_inputs
   second_unread None b c old new first fault h i = tt
   second_unread (Some x) None c old new first fault h i = tt
   second_unread (Some x) (Some y) None old new first fault h i = tt
-  second_unread (Some x) (Some y) (Some z) old new first fault h i = ends_so fault _ old new (rw h (explains_rest fault (input_of Second y) _ i))
+  second_unread (Some x) (Some y) (Some z) old new first fault h i = reading_ends_so Second fault _ old new (rw h (reading_explains_rest Second fault (input_of Second y) _ i))
 
   pub third_unread : (a b c old new : Option (List ℕ)) (first second : List ℕ) (fault : RunFault) → IfSome a (λ all. input_of First all ≡ Ok first) → IfSome b (λ all. input_of Second all ≡ Ok second)
-      → IfSome c (λ all. Explains fault (input_of Third all)) → RunsCheck extras a b c old new (Err fault)
+      → IfSome c (λ all. ExplainsReading Third fault (input_of Third all)) → RunsCheck extras a b c old new (Err fault)
   unfolding check_inputs
   third_unread None b c old new first second fault h i j = tt
   third_unread (Some x) None c old new first second fault h i j = tt
   third_unread (Some x) (Some y) None old new first second fault h i j = tt
-  third_unread (Some x) (Some y) (Some z) old new first second fault h i j = ends_so fault _ old new (rw (h, i) (explains_rest fault (input_of Third z) _ j))
+  third_unread (Some x) (Some y) (Some z) old new first second fault h i j = reading_ends_so Third fault _ old new (rw (h, i) (reading_explains_rest Third fault (input_of Third z) _ j))
 
   module _ (first second third : List ℕ) where
     -- inputs that were read whole end the command as their texts do

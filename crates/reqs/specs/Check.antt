@@ -5,7 +5,7 @@ use Rattle.std.specs.Io.KnownBytes.{Appends}
 use Rattle.reqs_io.specs.Front.{AppendsFront}
 use Rattle.reqtable.specs.Answer.{IsCheckText}
 use Rattle.reqs.specs.declared.fault.RunFault.{RunFault}
-use Rattle.reqs.specs.declared.fault.RunFault.TheVariants.{Write}
+use Rattle.reqs.specs.declared.fault.RunFault.TheVariants.{Read, Write}
 use Rattle.reqs.specs.declared.fault.Status.{Status}
 use Rattle.reqs.specs.declared.fault.Status.TheVariants.{Answered}
 use Rattle.reqs.specs.Faults.{Explains}
@@ -24,9 +24,11 @@ AnswersText (Err fault) inputs = Explains fault inputs
 
 -- How `check` ends, by what its inputs are, and by what the writer held before and holds after:
 -- where it answers, the answer's text was written; a write fault left a front of it;
--- any other fault wrote nothing and is that of the inputs, or one of memory or of a reader.
+-- any other fault wrote nothing: a reader's may come whatever the inputs are, as want of memory, and else it is that
+-- of the inputs.
 abbrev pub EndsAs : Result CheckInputs RunFault → Option (List ℕ) → Option (List ℕ) → Result Status RunFault → Type 0
 EndsAs inputs old new (Ok status) = (status ≡ Answered) × ((text : List ℕ) × IsAnswerText inputs text × Appends old new text)
+EndsAs inputs old new (Err (Read input)) = Unit {0}
 EndsAs inputs old new (Err Write) = (text : List ℕ) × IsAnswerText inputs text × AppendsFront old new text
 EndsAs inputs old new (Err fault) = Explains fault inputs
 

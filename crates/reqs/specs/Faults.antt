@@ -44,15 +44,24 @@ of_candidates (candidates.NotText offset) = NotText Third offset
 of_candidates (candidates.Line number cause) = Candidate Third number cause
 of_candidates candidates.Memory = Memory
 
--- the fault is that of the answer, or one of memory or of a reader, which may happen whatever the inputs are;
--- before anything is written the writer has no fault
+-- the fault is that of the answer, or want of memory, which may come whatever the inputs are
 abbrev pub Explains : {A : Type 0} → RunFault → Result A RunFault → Type 0
-Explains (Read input) answer = Unit {0}
+Explains (Read input) answer = ⊥
 Explains Write answer = ⊥
 Explains Memory answer = Unit {0}
 Explains fault answer = answer ≡ Err fault
+
+-- the same where an input is read, whose reader may fail
+abbrev pub ExplainsReading : {A : Type 0} → Input → RunFault → Result A RunFault → Type 0
+ExplainsReading input (Read failed) answer = failed ≡ input
+ExplainsReading input fault answer = Explains fault answer
 
 -- what was returned, seen by `view`, is the answer
 abbrev pub Answers : {X A : Type 0} → (X → A) → Result X RunFault → Result A RunFault → Type 0
 Answers view (Ok x) answer = answer ≡ Ok (view x)
 Answers view (Err fault) answer = Explains fault answer
+
+-- the same where an input is read
+abbrev pub AnswersReading : {X A : Type 0} → Input → (X → A) → Result X RunFault → Result A RunFault → Type 0
+AnswersReading input view (Ok x) answer = answer ≡ Ok (view x)
+AnswersReading input view (Err fault) answer = ExplainsReading input fault answer

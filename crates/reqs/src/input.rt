@@ -4,7 +4,7 @@ ghost use Rattle.std.specs.Prelude.{◌≡◌, map, IfOk, IfErr, IfSome, true, f
 ghost use Rattle.std.specs.Str.{is_utf8};
 ghost use Rattle.std.specs.Str.Lossy.{utf8_valid_len};
 ghost use Rattle.serde_json.specs.Read.{read};
-ghost use Rattle.reqs.specs.Faults.{Answers};
+ghost use Rattle.reqs.specs.Faults.{Answers, AnswersReading};
 ghost use Rattle.reqs.specs.Inputs.{input_of, extras_of, environment_in, environment_from};
 
 use crate::fault::{Input, RefusedWord, RunFault};
@@ -22,7 +22,7 @@ pub struct Vars;
 
 /// Reads an input to its end.
 pub fn read_input<R: Read>(alloc: Global, input: Input, reader: &mut R) -> Result<Vec<u8>, RunFault>
-    ensures { IfSome (R.remaining reader.old) (λ all. Answers (λ bytes. bytes.items) result (input_of input all)) }
+    ensures { IfSome (R.remaining reader.old) (λ all. AnswersReading input (λ bytes. bytes.items) result (input_of input all)) }
 {
     match read_whole(alloc, reader, INPUT_LIMIT, ASK_LIMIT) {
         Ok(bytes) => Ok(bytes),
