@@ -109,6 +109,18 @@ wants "a line that doesn't apply gives no row" 0 "a 1.10$n" ""
 printf 'zope>=1.0\nabc>=1.0\nm.n>=1.0\n' >order
 run check order E empty
 wants "rows in the order of names" 0 "abc none${n}m-n none${n}zope none$n" ""
+printf 'foo==1.0\n' >local
+printf 'foo 1.0\nfoo 1.0+x\n' >locals
+run check local E locals
+wants "a local part of a candidate" 0 "foo 1.0+x$n" ""
+printf 'foo>=1.0\n' >any
+printf 'foo 1.0rc1\nfoo v1.0-ALPHA.1-5.dev\nfoo 1!0.1.dev3\n' >spellings
+run check any E spellings
+wants "candidates in every spelling" 0 "foo 1!0.1.dev3$n" ""
+environment python_full_version | sed 's/}/, "python_full_version": " v3.12.0RC1 "}/' >candidate
+printf "foo>=1.0 ; python_full_version >= '3.11'\nbar>=1.0 ; python_full_version >= '3.12'\n" >both
+run check both candidate empty
+wants "an interpreter's release candidate" 0 "foo none$n" ""
 run check R E C dev
 wants "an extra" 0 "foo-bar 1.19$n" ""
 run check R E C dev Other_Extra

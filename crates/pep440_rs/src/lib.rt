@@ -3,7 +3,16 @@
 //! The crates below hold the code; this one passes on what they offer.
 #![tactic(auto)]
 
-pub use pep440_specifier::{Operator, VersionSpecifier};
+pub mod laws;
+
+pub use pep440_specifier::{
+    Operator, OperatorParseError, VersionSpecifier, VersionSpecifierBuildError,
+    VersionSpecifierParseError,
+};
+pub use pep440_specifier_list::{
+    CountedSpecifiers, VersionSpecifiers, VersionSpecifiersParseError,
+};
 pub use pep440_version::{
-    LocalSegment, Prerelease, PrereleaseKind, Version, VersionParseError, laws,
+    FromValueError, LocalSegment, Prerelease, PrereleaseKind, Version, VersionParseError,
+    VersionPattern, VersionPatternParseError,
 };

@@ -1,15 +1,16 @@
 -- Which versions a specifier takes: one equation for each operator (PEP 440, "Version specifiers").
-use Rattle.std.specs.Prelude.{ℕ, ◌-◌, ◌==◌, ◌&&◌, ◌||◌, not, Bool, true, List, [], ◌∷◌, length, take}
+use Rattle.std.specs.Prelude.{ℕ, ◌-◌, ◌==◌, ◌&&◌, not, Bool, true, List, [], ◌∷◌, length, take}
 use Rattle.std.specs.Option.{is_some}
 use Rattle.std.specs.declared.cmp.Ordering.{Ordering}
 use Rattle.std.specs.Ordering.{is_eq, is_lt, is_le, is_gt, is_ge, nat_cmp}
 use Rattle.std.specs.Cmp.Lexicographic.{slice_cmp}
 use Rattle.std.specs.Str.{bytes_eq}
 use Rattle.pep440_version.specs.Record.{Segment, VersionRecord, without_local}
+use Rattle.pep440_version.specs.Changes.{is_prerelease}
 use Rattle.pep440_version.specs.Order.{stripped, version_cmp}
 use Rattle.pep440_version.specs.Print.{version_text}
-use Rattle.pep440_specifier.specs.declared.Operator.{Operator}
-use Rattle.pep440_specifier.specs.declared.Operator.TheVariants.{Equal, EqualStar, ExactEqual, NotEqual, NotEqualStar, TildeEqual, LessThan, LessThanEqual, GreaterThan, GreaterThanEqual}
+use Rattle.pep440_specifier.specs.declared.operator.Operator.{Operator}
+use Rattle.pep440_specifier.specs.declared.operator.Operator.TheVariants.{Equal, EqualStar, ExactEqual, NotEqual, NotEqualStar, TildeEqual, LessThan, LessThanEqual, GreaterThan, GreaterThanEqual}
 
 -- an operator and the version beside it
 pub record SpecifierRecord : Type 0 where
@@ -42,10 +43,6 @@ without_last numbers = take (length numbers - 1) numbers
 -- whether epoch and release are those of the other, up to zeros at the end
 abbrev pub same_release : VersionRecord → VersionRecord → Bool
 same_release version candidate = version.epoch == candidate.epoch && is_eq (slice_cmp nat_cmp (stripped version.release) (stripped candidate.release))
-
--- a pre-release or a developmental release (PEP 440, "Pre-releases")
-abbrev pub is_prerelease : VersionRecord → Bool
-is_prerelease version = is_some version.pre || is_some version.dev
 
 -- whether the specifier of an operator and a version takes a candidate
 abbrev pub matches : Operator → VersionRecord → VersionRecord → Bool

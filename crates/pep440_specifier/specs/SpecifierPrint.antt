@@ -1,8 +1,8 @@
 -- What operators and specifiers print (PEP 440, "Version specifiers").
 use Rattle.std.specs.Prelude.{ℕ, codes, List, [], ◌++◌}
 use Rattle.pep440_version.specs.Print.{version_text}
-use Rattle.pep440_specifier.specs.declared.Operator.{Operator}
-use Rattle.pep440_specifier.specs.declared.Operator.TheVariants.{Equal, EqualStar, ExactEqual, NotEqual, NotEqualStar, TildeEqual, LessThan, LessThanEqual, GreaterThan, GreaterThanEqual}
+use Rattle.pep440_specifier.specs.declared.operator.Operator.{Operator}
+use Rattle.pep440_specifier.specs.declared.operator.Operator.TheVariants.{Equal, EqualStar, ExactEqual, NotEqual, NotEqualStar, TildeEqual, LessThan, LessThanEqual, GreaterThan, GreaterThanEqual}
 use Rattle.pep440_specifier.specs.Matching.{SpecifierRecord}
 
 -- an operator, without the star, which follows the version

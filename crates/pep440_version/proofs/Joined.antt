@@ -3,8 +3,8 @@ use Rattle.std.proofs.Common.{◌≡◌, ℕ, List, [], ◌∷◌, ◌++◌, map
 use Rattle.std.proofs.lemmas.Grind.{common_steps}
 use Rattle.std.specs.Fmt.{decimal}
 use Rattle.std.specs.List.{join_with_byte, flat_map}
-use Rattle.pep440_version.specs.Record.{Segment}
-use Rattle.pep440_version.specs.Print.{segment_text, dotted_number, dotted_segment, release_text, local_text}
+use Rattle.pep440_text.specs.Record.{Segment}
+use Rattle.pep440_text.specs.Print.{segment_text, dotted_number, dotted_segment, release_text, local_text}
 
 nothing_more : (xs : List ℕ) → xs ++ [] ≡ xs
 nothing_more xs = grind (arith, common_steps)

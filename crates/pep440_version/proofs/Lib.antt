@@ -1,5 +1,5 @@
 pub mod Stripped
-pub mod Parts
 pub mod Joined
-pub mod Texts
 pub mod Padded
+pub mod Faults
+pub mod Cuts

@@ -1,4 +1,10 @@
-pub mod Record
+pub use Rattle.pep440_text.specs.Record
+pub use Rattle.pep440_text.specs.Text
+pub use Rattle.pep440_text.specs.Reading
+pub use Rattle.pep440_text.specs.Print
 pub mod Order
-pub mod Text
-pub mod Print
+pub mod Changes
+pub mod PatternOrder
+pub mod ParseErrors
+pub mod FaultTexts
+pub mod Values

@@ -11,10 +11,10 @@ use Rattle.std.specs.declared.cmp.Ordering.TheVariants.{Less, Equal, Greater}
 use Rattle.std.specs.Ordering.{ordering_then, nat_cmp, on, eq_by_cmp, as_partial_cmp, is_eq}
 use Rattle.std.specs.Cmp.{IsTotalOrder, IsEquivalence, IsPartialEquivalence, IsPartialOrder, partial_equiv_from_equiv, eq_by_cmp_equiv, partial_order_from_agreeing_total, on_total}
 use Rattle.std.specs.Cmp.Lexicographic.{slice_cmp, lists_total, nat_list_cmp_total}
-use Rattle.pep440_version.specs.declared.Prerelease.{Prerelease}
-use Rattle.pep440_version.specs.declared.PrereleaseKind.{PrereleaseKind}
-use Rattle.pep440_version.specs.declared.PrereleaseKind.TheVariants.{Alpha, Beta, Rc}
-use Rattle.pep440_version.specs.Record.{Segment, Text, Number, VersionRecord}
+use Rattle.pep440_text.specs.declared.Prerelease.{Prerelease}
+use Rattle.pep440_text.specs.declared.PrereleaseKind.{PrereleaseKind}
+use Rattle.pep440_text.specs.declared.PrereleaseKind.TheVariants.{Alpha, Beta, Rc}
+use Rattle.pep440_text.specs.Record.{Segment, Text, Number, VersionRecord}
 
 -- a number before a list that has lost its zeros at the end
 abbrev pub before_stripped : ℕ → List ℕ → List ℕ

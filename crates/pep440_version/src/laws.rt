@@ -3,30 +3,13 @@
 ghost use Rattle.std.specs.Prelude.{◌≡◌, ℕ, ◌<◌, ◌^◌, ◌↔◌, List, All, length, Some, IsTrue};
 ghost use Rattle.std.specs.Ordering.{nat_cmp};
 ghost use Rattle.std.specs.Cmp.Lexicographic.{slice_cmp};
-ghost use Rattle.pep440_version.specs.Record.{VersionRecord, release_record, with_end_zeros};
+ghost use Rattle.pep440_text.specs.Record.{VersionRecord, with_end_zeros};
 ghost use Rattle.pep440_version.specs.Order.{key_of, padded_cmp, stripped, version_cmp, version_eq};
-ghost use Rattle.pep440_version.specs.Print.{version_text};
-ghost use Rattle.pep440_version.specs.Text.{IsVersionText, version_of};
-
-/// A text is read as a version exactly where the grammar says that it is that version's.
-pub fn version_text_is_read()
-    ensures { (text : List ℕ) (version : VersionRecord) → (version_of text ≡ Some version) ↔ IsVersionText text version }
-{}
-
-/// A text is that of at most one version.
-pub fn text_has_one_version()
-    ensures { (text : List ℕ) (version other : VersionRecord) → IsVersionText text version → IsVersionText text other → version ≡ other }
-{}
 
 /// Versions are equal exactly where their keys are the same, and then they feed a hash alike.
 #[tactic(auto, using(crate::specs::Order::key_decides))]
 pub fn key_decides()
     ensures { (a b : VersionRecord) → IsTrue (version_eq a b) ↔ (key_of a ≡ key_of b) }
-{}
-
-/// The print of a release of numbers that 64 bits hold reads back as that release.
-pub fn print_reads_back()
-    ensures { (numbers : List ℕ) → 0 < length numbers → All (λ number. number < 2 ^ 64) numbers → version_of (version_text (release_record numbers)) ≡ Some (release_record numbers) }
 {}
 
 /// Zeros at the end of a release change neither order nor equality nor hash, as `1.0` is `1`: the keys are the same.

@@ -3,7 +3,7 @@
 ghost use Rattle.std.specs.Prelude.{◌≡◌, [], ◌∷◌, map, fold, refl};
 ghost use Rattle.std.specs.Ordering.{nat_cmp, as_partial_cmp};
 ghost use Rattle.std.specs.Cmp.Lexicographic.{slice_cmp};
-ghost use Rattle.pep440_version.specs.Record.{segment_of, without_local};
+ghost use Rattle.pep440_text.specs.Record.{segment_of, without_local};
 ghost use Rattle.pep440_version.specs.Order.{key_of, version_cmp, version_eq, version_cmp_total, version_eq_equiv, version_eq_partial, version_partial_order, segment_key, fed_numbers, fed_key, alike_versions, class_of, stripped, absent_first, absent_last, pre_key, post_key, kind_rank};
 
 use crate::{LocalSegment, Prerelease, PrereleaseKind, Version};
@@ -153,6 +153,13 @@ impl Version {
             (None, None, None) => 5,
             _ => 6,
         }
+    }
+
+    /// Compares the releases alone, in which zeros at the end do not count (PEP 440, "Final releases").
+    pub fn cmp_release(&self, other: &Version) -> Ordering
+        ensures { result ≡ slice_cmp nat_cmp (stripped self.now.release) (stripped other.now.release) }
+    {
+        compare_releases(&self.release, &other.release)
     }
 
     /// Compares all but the local parts, in one walk over both versions (PEP 440, "Local version identifiers").

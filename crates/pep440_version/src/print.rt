@@ -3,66 +3,11 @@
 ghost use Rattle.std.specs.Prelude.{Some, ◌++◌, map, codes};
 ghost use Rattle.std.specs.Fmt.{decimal};
 ghost use Rattle.std.specs.List.{flat_map};
-ghost use Rattle.pep440_version.specs.Record.{segment_of};
-ghost use Rattle.pep440_version.specs.Print.{kind_text, prerelease_text, segment_text, epoch_text, release_text, dotted_number, dotted_segment, pre_text, numbered_text, local_text, version_text};
+ghost use Rattle.pep440_text.specs.Record.{segment_of};
+ghost use Rattle.pep440_text.specs.Print.{kind_text, prerelease_text, segment_text, epoch_text, release_text, dotted_number, dotted_segment, pre_text, numbered_text, local_text, version_text};
 
-use crate::{LocalSegment, Prerelease, PrereleaseKind, Version, VersionParseError};
+use crate::{LocalSegment, Prerelease, Version};
 use std::fmt;
-
-impl fmt::Display for PrereleaseKind {
-    ghost output = { λ kind. Some (kind_text kind) };
-
-    fn fmt<W: fmt::Write>(&self, f: &mut fmt::Formatter<W>) -> fmt::Result {
-        match self {
-            PrereleaseKind::Alpha => write!(f, "a"),
-            PrereleaseKind::Beta => write!(f, "b"),
-            PrereleaseKind::Rc => write!(f, "rc"),
-        }
-    }
-}
-
-impl fmt::Display for Prerelease {
-    ghost output = { λ pre. Some (prerelease_text pre) };
-
-    fn fmt<W: fmt::Write>(&self, f: &mut fmt::Formatter<W>) -> fmt::Result {
-        let kind = self.kind;
-        let number = self.number;
-        write!(f, "{kind}{number}")
-    }
-}
-
-impl fmt::Display for LocalSegment {
-    ghost output = { λ segment. Some (segment_text (segment_of segment)) };
-
-    fn fmt<W: fmt::Write>(&self, f: &mut fmt::Formatter<W>) -> fmt::Result {
-        match self {
-            LocalSegment::String(text) => write!(f, "{text}"),
-            LocalSegment::Number(number) => write!(f, "{number}"),
-        }
-    }
-}
-
-impl fmt::Display for VersionParseError {
-    fn fmt<W: fmt::Write>(&self, f: &mut fmt::Formatter<W>) -> fmt::Result {
-        match self {
-            VersionParseError::Memory => write!(f, "out of memory"),
-            VersionParseError::NoNumber => write!(
-                f,
-                "expected a number at the start of a version and after each dot"
-            ),
-            VersionParseError::NumberTooLarge => write!(
-                f,
-                "expected number less than or equal to 18446744073709551615"
-            ),
-            VersionParseError::LeftOver => write!(
-                f,
-                "after parsing a number, found text which is not part of a valid version"
-            ),
-        }
-    }
-}
-
-impl std::error::Error for VersionParseError {}
 
 /// An epoch, as a version prints it.
 #[derive(Clone, Copy)]
@@ -219,7 +164,7 @@ impl fmt::Display for LocalText<'_> {
 impl fmt::Display for Version {
     ghost output = { λ version. Some (version_text version) };
 
-    #[tactic(auto, unfolding(crate::specs::Print::version_text))]
+    #[tactic(auto, unfolding(pep440_text::specs::Print::version_text))]
     fn fmt<W: fmt::Write>(&self, f: &mut fmt::Formatter<W>) -> fmt::Result {
         let epoch = EpochText { epoch: self.epoch };
         let release = ReleaseText {

@@ -2,7 +2,7 @@
 
 ghost use Rattle.std.specs.Prelude.{◌≡◌, ◌⊎◌, IfOk, IfErr, OnOk, None, Some, Err, IsTrue, false, true, option_and_then, option_copied, option_map};
 ghost use Rattle.serde_json.specs.View.{view};
-ghost use Rattle.pep440_rs.specs.Text.{version_of};
+ghost use Rattle.pep440_rs.specs.Reading.{version_of};
 ghost use Rattle.pep508_marker.specs.Environment.{EnvironmentRecord, member_text, member_version, member_fault, is_version, environment_of, IsFault, Reads};
 
 use crate::floats::has_float;

@@ -18,6 +18,26 @@ fn reads_an_environment(rt: HostRuntime) -> Result<(), Fail> {
     Ok(())
 }
 
+// Each text of a version is one that PEP 440 normalizes, or has white space around it.
+#[test]
+fn reads_versions_by_the_whole_grammar(rt: HostRuntime) -> Result<(), Fail> {
+    let alloc = rt.alloc();
+    for (text, want) in [
+        ("3.12.0a1", "3.12.0a1"),
+        (" 3.8 ", "3.8"),
+        ("v3.8", "3.8"),
+        ("3.11.4+Local-1", "3.11.4+local.1"),
+    ] {
+        let full = format!(in alloc; "\"python_full_version\": \"{text}\"")?;
+        let given = GOOD.replace(alloc, "\"python_full_version\": \"3.11.4\"", full.as_str())?;
+        let value = Value::from_str(alloc, given.as_str())?;
+        let environment = MarkerEnvironment::from_value(alloc, &value)?;
+        let version = environment.python_full_version().to_string(alloc)?;
+        assert_eq!(rt; version.as_str(), want, "at {text}");
+    }
+    Ok(())
+}
+
 #[test]
 fn names_the_first_fault(rt: HostRuntime) -> Result<(), Fail> {
     for (text, want) in [

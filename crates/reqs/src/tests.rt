@@ -89,6 +89,14 @@ fn takes_the_greatest_candidate(rt: HostRuntime) -> Result<(), Fail> {
         ),
         ("foo==1.0", "foo 1.0.0\nfoo 1.0", "foo 1.0.0\nstatus 0"),
         ("foo==1.0", "foo 2.0", "foo none\nstatus 0"),
+        ("foo==1.0", "foo 1.0\nfoo 1.0+x", "foo 1.0+x\nstatus 0"),
+        ("foo>=0.9", "foo v1.0-ALPHA", "foo 1.0a0\nstatus 0"),
+        (
+            "foo>=1.0",
+            "foo 1.0a1\nfoo 1.0\nfoo 1.0.post1",
+            "foo 1.0.post1\nstatus 0",
+        ),
+        ("foo>=1.0", "foo 1.0a1", "foo none\nstatus 0"),
         (
             "b==1 # pinned\r\n# via a\r\n\r\na.B==2\r\n",
             "a-b 2 # newest\nb 1\n",
@@ -113,6 +121,7 @@ fn says_that_memory_was_refused(rt: HostRuntime) -> Result<(), Fail> {
 fn names_the_line_that_is_refused(rt: HostRuntime) -> Result<(), Fail> {
     let rows = [
         ("# x\nfoo<2.0", "", "status 2, REQS: line 2: not yet read"),
+        ("foo==1.0rc1", "", "status 2, REQS: line 1: not yet read"),
         (
             "foo==1.0",
             "foo 1.0 x",
@@ -124,6 +133,25 @@ fn names_the_line_that_is_refused(rt: HostRuntime) -> Result<(), Fail> {
     for (requirements, candidates, wanted) in rows {
         let told = answer(rt.alloc(), requirements, candidates)?;
         assert_eq!(rt; told.as_str(), wanted, "{requirements:?}");
+    }
+    Ok(())
+}
+
+#[test]
+fn reads_versions_of_an_environment_by_the_whole_grammar(rt: HostRuntime) -> Result<(), Fail> {
+    let alloc = rt.alloc();
+    let old = "\"python_full_version\": \"3.11.4\"";
+    for version in [" 3.8 ", "v3.8"] {
+        let new = format!(in alloc; "\"python_full_version\": \"{version}\"")?;
+        let environment = ENVIRONMENT.replace(alloc, old, new.as_str())?;
+        let told = run(
+            alloc,
+            b"foo==1 ; python_full_version == '3.8'",
+            environment.as_bytes(),
+            b"foo 1",
+            &[],
+        )?;
+        assert_eq!(rt; told.as_str(), "foo 1\nstatus 0", "at {version}");
     }
     Ok(())
 }

@@ -40,7 +40,7 @@ pub fn judge<'a>(
     let candidates = candidates_by_package(alloc, candidates.items())?;
     let mut rows = Vec::new(alloc);
     for (package, lines) in lines.iter() {
-        let outcome = outcome(package, lines, &candidates);
+        let outcome = outcome(alloc, package, lines, &candidates)?;
         rows.push(Row {
             package: *package,
             outcome,
@@ -51,15 +51,16 @@ pub fn judge<'a>(
 
 /// What is taken of a package that these lines ask for.
 fn outcome<'a>(
+    alloc: Global,
     name: &str,
     lines: &[&RequirementLine],
     candidates: &Groups<'a, Candidate>,
-) -> Outcome<'a>
-    ensures { outcome_seen result ≡ option_map (λ c. c.version) (greatest_match (map (λ l. l.now) lines.now) (group_of candidates.now name.now)) }
+) -> Result<Outcome<'a>, AllocError>
+    ensures { IfOk result (λ outcome. outcome_seen outcome ≡ option_map (λ c. c.version) (greatest_match (map (λ l. l.now) lines.now) (group_of candidates.now name.now))) }
 {
     match candidates.get(name) {
-        Some(candidates) => greatest(lines, candidates),
-        None => Outcome::Nothing,
+        Some(candidates) => greatest(alloc, lines, candidates),
+        None => Ok(Outcome::Nothing),
     }
 }
 
@@ -99,16 +100,21 @@ fn candidates_by_package<'a>(
 }
 
 /// The greatest candidate that all lines match, the first among equals.
-fn greatest<'a>(lines: &[&RequirementLine], candidates: &[&'a Candidate]) -> Outcome<'a>
-    ensures { outcome_seen result ≡ option_map (λ c. c.version) (greatest_match (map (λ l. l.now) lines.now) (map (λ c. c.now) candidates.now)) }
+fn greatest<'a>(
+    alloc: Global,
+    lines: &[&RequirementLine],
+    candidates: &[&'a Candidate],
+) -> Result<Outcome<'a>, AllocError>
+    ensures { IfOk result (λ outcome. outcome_seen outcome ≡ option_map (λ c. c.version) (greatest_match (map (λ l. l.now) lines.now) (map (λ c. c.now) candidates.now))) }
 {
     let mut best = Outcome::Nothing;
     for candidate in candidates {
-        if all_match(lines, &candidate.version) && is_greater(candidate, best) {
+        let matched = all_match(alloc, lines, &candidate.version)?;
+        if matched && is_greater(candidate, best) {
             best = Outcome::Taken(candidate);
         }
     }
-    best
+    Ok(best)
 }
 
 /// Whether the candidate lies above what was taken so far.
@@ -122,23 +128,28 @@ fn is_greater(candidate: &Candidate, best: Outcome<'_>) -> bool
 }
 
 /// Whether every line's specifier matches the version.
-fn all_match(lines: &[&RequirementLine], version: &Version) -> bool
-    ensures { result ≡ all_match (map (λ l. l.now) lines.now) version.now }
+fn all_match(
+    alloc: Global,
+    lines: &[&RequirementLine],
+    version: &Version,
+) -> Result<bool, AllocError>
+    ensures { IfOk result (λ matched. matched ≡ all_match (map (λ l. l.now) lines.now) version.now) }
 {
     for line in lines {
-        if !takes(line, version) {
-            return false;
+        let taken = takes(alloc, line, version)?;
+        if !taken {
+            return Ok(false);
         }
     }
-    true
+    Ok(true)
 }
 
 /// Whether the line's specifier matches the version.
 #[tactic(auto, unfolding(crate::specs::Answer::takes))]
-fn takes(line: &RequirementLine, version: &Version) -> bool
-    ensures { result ≡ takes version.now line.now }
+fn takes(alloc: Global, line: &RequirementLine, version: &Version) -> Result<bool, AllocError>
+    ensures { IfOk result (λ taken. taken ≡ takes version.now line.now) }
 {
-    line.specifier.contains(version)
+    line.specifier.contains(alloc, version)
 }
 
 /// Whether the line applies in the environment.

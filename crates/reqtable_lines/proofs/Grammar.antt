@@ -1,5 +1,5 @@
 -- What is read is in the grammar, and what is in the grammar is read.
-use Rattle.std.proofs.Common.{◌≡◌, ℕ, ◌+◌, ◌<◌, ◌==◌, ◌⊎◌, ◌↔◌, ◌&&◌, Bool, true, false, nat_lt, if◌then◌else◌, List, [], ◌∷◌, ◌++◌, length, get_or, Option, Some, None, inl, inr, refl, ap, sym, subst, ◌∙◌, append_assoc, length-append, arith, codes}
+use Rattle.std.proofs.Common.{◌≡◌, ℕ, ◌+◌, ◌<◌, ◌==◌, ◌⊎◌, ◌&&◌, Bool, true, false, nat_lt, if◌then◌else◌, List, [], ◌∷◌, ◌++◌, length, get_or, Option, Some, None, inl, inr, refl, ap, sym, subst, ◌∙◌, append_assoc, length-append, arith, codes}
 use Rattle.std.proofs.lemmas.Bool.Decides.{nat_tests}
 use Rattle.std.proofs.lemmas.List.{append-nil, take-append-drop}
 use Rattle.std.proofs.lemmas.List.Sums.{split_at_first, passes_at_first}
@@ -7,7 +7,6 @@ use Rattle.std.specs.List.{prefix_len, position_or_len, before_first, after_firs
 use Rattle.std.specs.Option.{option_map, option_or}
 use Rattle.std.specs.Str.{NonePass}
 use Rattle.pep440_rs.specs.Record.{VersionRecord}
-use Rattle.pep440_rs.specs.Text.{IsVersionText, version_of}
 use Rattle.pep508_name.specs.Name.{name_of}
 use Rattle.reqtable_lines.specs.declared.requirement.ByteClass.{ByteClass}
 use Rattle.reqtable_lines.specs.declared.requirement.ByteClass.TheVariants as classes
@@ -16,13 +15,10 @@ use Rattle.reqtable_lines.specs.declared.requirement.Comparator.TheVariants.{Equ
 use Rattle.reqtable_lines.specs.declared.requirement.Comparison.{Comparison}
 use Rattle.reqtable_lines.specs.declared.requirement.RequirementLine.{RequirementLine}
 use Rattle.reqtable_lines.specs.RequirementLine.{AreBlanks, IsSpaced, comparator_text, operator_of, IsQuotedVersion, AreMarkerPieces, IsRequirementLine}
-use Rattle.reqtable_lines.specs.Reading.{◌>>=◌, is_in, after_run, after_blanks, behind, comparator_at, before_quote, quoted_by, in_quotes, comparison_by, comparison_of, marker_of, line_by, line_behind, requirement_of}
+use Rattle.reqtable_lines.specs.Reading.{◌>>=◌, is_in, after_run, after_blanks, behind, comparator_at, before_quote, quoted_by, in_quotes, comparison_by, comparison_of, marker_of, line_by, line_behind, requirement_of, release_of}
 use Rattle.reqtable_lines.proofs.Words.{first_place, before_place, after_place}
-use Rattle.reqtable_lines.proofs.Spaced.{AreIn, Stops, Begins, run_again, rest_again, blanks_again, only_blanks, blanks_found, spaced_found, stops_spaced, behind_found, behind_again, name_bytes, version_bytes, inside, inside_map}
-
--- what pep440_rs says of versions and their texts
-abbrev pub VersionLaw : Type 0
-VersionLaw = (text : List ℕ) (version : VersionRecord) → (version_of text ≡ Some version) ↔ IsVersionText text version
+use Rattle.reqtable_lines.proofs.Spaced.{AreIn, Stops, Begins, run_again, rest_again, blanks_again, only_blanks, blanks_found, spaced_found, stops_spaced, behind_found, behind_again, name_bytes, inside, inside_map}
+use Rattle.reqtable_lines.proofs.Releases.{VersionLaw, release_bytes, release_law}
 
 some_same : {A : Type 0} (x y : A) → Some x ≡ Some y → x ≡ y
 some_same x y h = cc
@@ -165,8 +161,8 @@ comparison_found law text c h =
     let a = inside (behind full_version (after_blanks text)) (λ rest. comparator_at (after_blanks rest) >>= comparison_by) c h in
     let b = inside (comparator_at (after_blanks a.0)) comparison_by c a.2 in
     let found = b.0 in
-    let d = inside (in_quotes (after_blanks found.1)) (λ inner. option_map (λ version. record { comparator = found.0; version = version }) (version_of inner)) c b.2 in
-    let v = inside_map (version_of d.0) (λ version. record { comparator = found.0; version = version }) c d.2 in
+    let d = inside (in_quotes (after_blanks found.1)) (λ inner. option_map (λ version. record { comparator = found.0; version = version }) (release_of inner)) c b.2 in
+    let v = inside_map (release_of d.0) (λ version. record { comparator = found.0; version = version }) c d.2 in
     let q = quotes_found (after_blanks found.1) d.0 d.1 in
     let quoted : List ℕ = q.quote ∷ (d.0 ++ q.quote ∷ []) in
     let split : after_blanks found.1 ≡ quoted ++ q.rest = q.split ∙ ap (λ bs. q.quote ∷ bs) (sym (append_assoc d.0 (q.quote ∷ []) q.rest)) in
@@ -175,7 +171,7 @@ comparison_found law text c h =
     let all : IsSpaced text (full_version ∷ comparator_text found.0 ∷ quoted ∷ []) =
     spaced_found text full_version a.0 (comparator_text found.0 ∷ quoted ∷ []) (behind_found full_version (after_blanks text) a.0 a.1) middle in
     let P : Comparison → Type 0 = λ c. IsSpacedComparison text c in
-    subst P v.2 (quoted, all, (q.quote, d.0, q.is_quote, refl, (law d.0 v.0).0 v.1))
+    subst P v.2 (quoted, all, (q.quote, d.0, q.is_quote, refl, (release_law law d.0 v.0).0 v.1))
 
 quote_stops : (quote : ℕ) (rest : List ℕ) → (quote ≡ 39) ⊎ (quote ≡ 34) → Stops classes.Blank (quote ∷ rest)
 quote_stops quote rest (inl q) = ap (is_in classes.Blank) q
@@ -200,11 +196,11 @@ comparison_again law text c h =
     let front : after_blanks t.1 ≡ quote ∷ (inner ++ quote ∷ u.1) =
     blanks_again t.1 u.0 (quoted ++ u.1) u.2 u.3 (subst P (sym whole) (quote_stops quote (inner ++ quote ∷ u.1) q.2)) ∙ whole in
     let text_in : in_quotes (after_blanks t.1) ≡ Some inner =
-    quotes_again quote (after_blanks t.1) inner u.1 q.2 front (no_quote quote inner q.2 (version_bytes inner c.version q.4).0) u.4 in
+    quotes_again quote (after_blanks t.1) inner u.1 q.2 front (no_quote quote inner q.2 (release_bytes inner c.version q.4).0) u.4 in
     ap (λ o. o >>= λ rest. comparator_at (after_blanks rest) >>= comparison_by) word
     ∙ ap (λ o. o >>= comparison_by) compared
-    ∙ ap (λ o. o >>= λ inner. option_map (λ version. record { comparator = c.comparator; version = version }) (version_of inner)) text_in
-    ∙ ap (option_map (λ version. record { comparator = c.comparator; version = version })) ((law inner c.version).1 q.4)
+    ∙ ap (λ o. o >>= λ inner. option_map (λ version. record { comparator = c.comparator; version = version }) (release_of inner)) text_in
+    ∙ ap (option_map (λ version. record { comparator = c.comparator; version = version })) ((release_law law inner c.version).1 q.4)
 
 -- the pieces of a marker
 abbrev IsSpacedMarker : List ℕ → Option Comparison → Type 0
@@ -283,7 +279,7 @@ line_found law number text line h =
     let b = inside (comparator_at (after_blanks (after_run classes.Name start))) (line_by number a.0) line a.2 in
     let found = b.0 in
     let later = after_blanks found.1 in
-    let v = inside (version_of (take_while (is_in classes.Version) later)) (λ version. option_map (λ marker. line_with number a.0 found.0 version marker) (marker_of (after_blanks (after_run classes.Version later)))) line b.2 in
+    let v = inside (release_of (take_while (is_in classes.Version) later)) (λ version. option_map (λ marker. line_with number a.0 found.0 version marker) (marker_of (after_blanks (after_run classes.Version later)))) line b.2 in
     let m = inside_map (marker_of (after_blanks (after_run classes.Version later))) (λ marker. line_with number a.0 found.0 v.0 marker) line v.2 in
     let k = marker_found law (after_run classes.Version later) m.0 m.1 in
     let name : List ℕ = take_while (is_in classes.Name) start in
@@ -295,7 +291,7 @@ line_found law number text line h =
     let all : IsSpaced text (name ∷ comparator_text found.0 ∷ version ∷ k.0) =
     spaced_found text name (after_run classes.Name start) (comparator_text found.0 ∷ version ∷ k.0) (sym (take-append-drop (prefix_len (is_in classes.Name) start) start)) middle in
     let P : RequirementLine → Type 0 = λ line. IsRequirementLine text line × (line.number ≡ number) in
-    subst P m.2 (record { name = name; comparator = found.0; version = version; marker = k.0; pieces = all; is_name = a.1; is_operator = refl; is_version = (law version v.0).0 v.1; is_marker = k.2 }, refl)
+    subst P m.2 (record { name = name; comparator = found.0; version = version; marker = k.0; pieces = all; is_name = a.1; is_operator = refl; is_version = (release_law law version v.0).0 v.1; is_marker = k.2 }, refl)
 
 -- what is in the grammar is read
 pub line_again : VersionLaw → (number : ℕ) (text : List ℕ) (line : RequirementLine) → IsRequirementLine text line × (line.number ≡ number) → requirement_of number text ≡ Some line
@@ -306,7 +302,7 @@ line_again law number text line h =
     let t = s.4 in
     let u = t.4 in
     let n = name_bytes r.name line.name r.is_name in
-    let v = version_bytes r.version line.specifier.version r.is_version in
+    let v = release_bytes r.version line.specifier.version r.is_version in
     let marker : IsSpacedMarker u.1 line.marker = (r.marker, u.4, r.is_marker) in
     let start : after_blanks text ≡ r.name ++ s.1 = blanks_again text s.0 (r.name ++ s.1) s.2 s.3 (name_front r.name s.1 n.1) in
     let stop : Stops classes.Name s.1 = stops_spaced classes.Name s.1 t.0 (comparator_text r.comparator ++ t.1) refl t.2 t.3 (comparator_stops classes.Name r.comparator t.1) in
@@ -316,8 +312,8 @@ line_again law number text line h =
     comparator_again r.comparator (after_blanks s.1) t.1 (blanks_again s.1 t.0 (comparator_text r.comparator ++ t.1) t.2 t.3 (comparator_stops classes.Blank r.comparator t.1)) in
     let later : after_blanks t.1 ≡ r.version ++ u.1 = blanks_again t.1 u.0 (r.version ++ u.1) u.2 u.3 (version_front r.version u.1 v.1) in
     let halt : Stops classes.Version u.1 = marker_stops u.1 line.marker marker in
-    let version : version_of (take_while (is_in classes.Version) (after_blanks t.1)) ≡ Some line.specifier.version =
-    ap version_of (run_again classes.Version (after_blanks t.1) r.version u.1 later v.0 halt) ∙ (law r.version line.specifier.version).1 r.is_version in
+    let version : release_of (take_while (is_in classes.Version) (after_blanks t.1)) ≡ Some line.specifier.version =
+    ap release_of (run_again classes.Version (after_blanks t.1) r.version u.1 later v.0 halt) ∙ (release_law law r.version line.specifier.version).1 r.is_version in
     let marked : marker_of (after_blanks (after_run classes.Version (after_blanks t.1))) ≡ Some line.marker =
     ap (λ bs. marker_of (after_blanks bs)) (rest_again classes.Version (after_blanks t.1) r.version u.1 later v.0 halt) ∙ marker_again law u.1 line.marker marker in
     ap (λ o. o >>= λ name. line_behind number name (after_blanks (after_run classes.Name (after_blanks text)))) named

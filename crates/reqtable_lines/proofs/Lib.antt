@@ -4,5 +4,6 @@ pub mod Lines
 pub mod Words
 pub mod Texts
 pub mod Spaced
+pub mod Releases
 pub mod Grammar
 pub mod Whole

@@ -1,5 +1,5 @@
 -- What stands at the front of a text, and what follows it.
-use Rattle.std.proofs.Common.{zero, suc, add-one, ◌≡◌, ℕ, ◌+◌, ◌<◌, ◌≤◌, Bool, true, false, eqb, if◌then◌else◌, List, [], length, get_or, drop, Option, Some, None, ap, sym, ◌∙◌, arith}
+use Rattle.std.proofs.Common.{zero, suc, add-one, ◌≡◌, ℕ, ◌+◌, ◌<◌, ◌≤◌, Bool, true, false, eqb, if◌then◌else◌, List, length, get_or, drop, Option, Some, None, ap, ◌∙◌, arith}
 use Rattle.std.proofs.lemmas.Bool.Decides.{nat_tests}
 use Rattle.std.proofs.lemmas.List.Sums.{prefix_len_is}
 use Rattle.std.proofs.lemmas.Str.{IsCharBoundary-start, IsCharBoundary-after_ascii}
@@ -11,10 +11,6 @@ use Rattle.std.specs.Str.{IsUtf8, IsCharBoundary}
 use Rattle.std.specs.Str.Pattern.{FindsTextPrefix, StripsPrefix}
 use Rattle.reqtable_lines.specs.declared.requirement.ByteClass.{ByteClass}
 use Rattle.reqtable_lines.specs.declared.requirement.ByteClass.TheVariants as classes
-use Rattle.std.specs.Option.{option_map}
-use Rattle.std.specs.Result.{result_ok}
-use Rattle.pep440_rs.specs.Record.{VersionRecord, release_record}
-use Rattle.pep440_rs.specs.Text.{version_of, release_of}
 use Rattle.reqtable_lines.specs.Reading.{is_in, behind}
 
 behind_by : (word text : List ℕ) (t : Bool) → t ≡ starts_with eqb text word → (if t then Some (drop (length word) text) else None) ≡ behind word text
@@ -47,12 +43,3 @@ run_cut class text (suc count) u h passed =
 pub run_len : (class : ByteClass) (text : List ℕ) (count : ℕ) → count ≤ length text → ((k : ℕ) → k < count → is_in class (get_or text k 0) ≡ true) → (count < length text → is_in class (get_or text count 0) ≡ false)
     → prefix_len (is_in class) text ≡ count
 run_len class text count h passed stops = prefix_len_is (is_in class) text count 0 h passed stops
-
-local_of : (read : Option (List ℕ)) (version : VersionRecord) → option_map release_record read ≡ Some version → version.local ≡ []
-local_of None version e = absurd (cc)
-local_of (Some numbers) version e = let k : release_record numbers ≡ version = cc in ap (λ (v : VersionRecord). v.local) (sym k)
-
--- the versions that are read have no local part
-pub read_has_no_local : (text : List ℕ) (version : VersionRecord) → version_of text ≡ Some version → version.local ≡ []
-unfolding version_of
-read_has_no_local text version e = local_of (result_ok (release_of text)) version e

@@ -1,16 +1,12 @@
 -- Texts that begin with runs and words, and what is read of them.
-use Rattle.std.proofs.Common.{suc, ◌&&◌, ◌-◌, ◌≡◌, ℕ, ◌+◌, ◌<◌, Bool, true, false, cond, eqb, if◌then◌else◌, List, [], ◌∷◌, ◌++◌, length, take, drop, Option, Some, None, refl, ap, sym, subst, ◌∙◌, arith}
+use Rattle.std.proofs.Common.{suc, ◌&&◌, ◌-◌, ◌≡◌, ℕ, ◌+◌, Bool, true, false, cond, eqb, if◌then◌else◌, List, [], ◌∷◌, ◌++◌, length, take, drop, Option, Some, None, refl, ap, sym, subst, ◌∙◌, arith}
 use Rattle.std.proofs.Math.Seq.{take-append_seam}
 use Rattle.std.proofs.lemmas.Bool.Decides.{nat_tests}
 use Rattle.std.proofs.lemmas.List.{take-append-drop, append-nil}
 use Rattle.std.proofs.lemmas.List.Prefix.{front_rest}
 use Rattle.std.proofs.lemmas.Slice.Eq.{bytes_eq-Decides}
-use Rattle.std.specs.Char.{digit_value}
-use Rattle.std.specs.List.{AllByRecursion, AllZip, prefix_len, take_while, list_all, join_with_byte, starts_with}
+use Rattle.std.specs.List.{AllByRecursion, prefix_len, take_while, list_all, starts_with}
 use Rattle.std.specs.Option.{option_map, option_and_then}
-use Rattle.std.specs.Str.Parse.{AllDigits}
-use Rattle.pep440_rs.specs.Record.{VersionRecord}
-use Rattle.pep440_rs.specs.Text.{IsNumberText, IsVersionText}
 use Rattle.pep508_name.specs.Name.{is_name_byte, is_alphanumeric_at, is_name, normal_name, name_of}
 use Rattle.reqtable_lines.specs.declared.requirement.ByteClass.{ByteClass}
 use Rattle.reqtable_lines.specs.declared.requirement.ByteClass.TheVariants as classes
@@ -25,10 +21,6 @@ AreIn class = AllByRecursion (λ b. is_in class b ≡ true)
 abbrev pub Stops : ByteClass → List ℕ → Type 0
 Stops class [] = Unit {0}
 Stops class (b ∷ bs) = is_in class b ≡ false
-
-pub all_append : {X : Type 0} (P : X → Type 0) (xs ys : List X) → AllByRecursion P xs → AllByRecursion P ys → AllByRecursion P (xs ++ ys)
-all_append P [] ys h k = k
-all_append P (x ∷ xs) ys h k = (h.0, all_append P xs ys h.1 k)
 
 -- ---- runs
 
@@ -116,14 +108,14 @@ behind_again word text rest e =
     let t : starts_with eqb text word ≡ true = (bytes_eq-Decides word (take (length word) text)).1 w in
     ap (λ b. if b then Some (drop (length word) text) else None) t ∙ ap (λ bs. Some bs) (ap (drop (length word)) e ∙ front_rest (word ++ rest) word rest refl)
 
--- ---- names and versions
+-- ---- names
 
 -- a byte of the class stands first
 abbrev pub Begins : ByteClass → List ℕ → Type 0
 Begins class [] = ⊥
 Begins class (b ∷ bs) = is_in class b ≡ true
 
-both_true : (a b : Bool) → (a && b) ≡ true → (a ≡ true) × (b ≡ true)
+pub both_true : (a b : Bool) → (a && b) ≡ true → (a ≡ true) × (b ≡ true)
 both_true true b h = (refl, h)
 both_true false b h = absurd (cc)
 
@@ -147,38 +139,6 @@ name_bytes text name h =
     let first = both_true (list_all is_name_byte text) (is_alphanumeric_at text 0) both.0 in
     let a = all_in text first.0 in
     (a, name_begins text a first.1)
-
-digit_in : (b : ℕ) → digit_value b < 10 → is_in classes.Version b ≡ true
-digit_in b h = grind (arith, nat_tests)
-
-digits_in : (text : List ℕ) → AllDigits 10 text → AreIn classes.Version text
-digits_in [] h = tt
-digits_in (b ∷ bs) h = (digit_in b h.0, digits_in bs h.1)
-
-numbers_in : (parts : List (List ℕ)) (numbers : List ℕ) → AllZip IsNumberText parts numbers → AreIn classes.Version (join_with_byte 46 parts)
-numbers_in [] numbers h = tt
-numbers_in (part ∷ parts) [] h = absurd h
-numbers_in (part ∷ []) (number ∷ numbers) h = digits_in part h.0.digits.1
-numbers_in (part ∷ next ∷ parts) (number ∷ numbers) h =
-    all_append (λ b. is_in classes.Version b ≡ true) part (46 ∷ join_with_byte 46 (next ∷ parts)) (digits_in part h.0.digits.1) (refl, numbers_in (next ∷ parts) numbers h.1)
-
-part_begins : (part rest : List ℕ) (number : ℕ) → IsNumberText part number → Begins classes.Version (part ++ rest)
-part_begins [] rest number h = absurd (omega (arith, h.digits.0))
-part_begins (b ∷ bs) rest number h = digit_in b h.digits.1.0
-
-numbers_begin : (parts : List (List ℕ)) (numbers : List ℕ) → AllZip IsNumberText parts numbers → 0 < length numbers → Begins classes.Version (join_with_byte 46 parts)
-numbers_begin [] [] h n = absurd (omega arith)
-numbers_begin [] (number ∷ numbers) h n = absurd h
-numbers_begin (part ∷ parts) [] h n = absurd h
-numbers_begin (part ∷ []) (number ∷ numbers) h n =
-    let P : List ℕ → Type 0 = λ bs. Begins classes.Version bs in subst P (append-nil part) (part_begins part [] number h.0)
-numbers_begin (part ∷ next ∷ parts) (number ∷ numbers) h n = part_begins part (46 ∷ join_with_byte 46 (next ∷ parts)) number h.0
-
-pub version_bytes : (text : List ℕ) (version : VersionRecord) → IsVersionText text version → AreIn classes.Version text × Begins classes.Version text
-version_bytes text version h =
-    let r = h.1 in
-    let P : List ℕ → Type 0 = λ bs. AreIn classes.Version bs × Begins classes.Version bs in
-    subst P (sym r.joined) (numbers_in r.parts h.0 r.are_numbers, numbers_begin r.parts h.0 r.are_numbers r.nonempty)
 
 -- ---- what was read, part by part
 

@@ -11,7 +11,8 @@ use Rattle.reqtable_lines.specs.TextLines.{text_lines, each_line}
 use Rattle.reqtable_lines.specs.RequirementLine.{IsRequirementLine, IsNumberedLine, IsFirstUnread}
 use Rattle.reqtable_lines.specs.Reading.{requirement_of}
 use Rattle.reqtable_lines.specs.Requirements.{or_not_yet, requirement_at, requirements_of}
-use Rattle.reqtable_lines.proofs.Grammar.{VersionLaw, line_found, line_again}
+use Rattle.reqtable_lines.proofs.Releases.{VersionLaw}
+use Rattle.reqtable_lines.proofs.Grammar.{line_found, line_again}
 use Rattle.reqtable_lines.proofs.Lines.{FirstFault, each_found, each_again, fault_found, fault_again, all_zip_map}
 use Rattle.reqtable_lines.proofs.Texts.{requirements_text}
 

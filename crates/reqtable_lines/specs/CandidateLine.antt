@@ -4,7 +4,7 @@ use Rattle.std.specs.List.{list_any, before_first, after_first}
 use Rattle.std.specs.Char.{is_whitespace}
 use Rattle.std.specs.Str.{chars, trim, trim_start}
 use Rattle.pep440_rs.specs.Record.{VersionRecord}
-use Rattle.pep440_rs.specs.Text.{version_of}
+use Rattle.pep440_rs.specs.Reading.{version_of}
 use Rattle.pep508_name.specs.Name.{name_of}
 use Rattle.reqtable_lines.specs.declared.candidates.Candidate.{Candidate}
 use Rattle.reqtable_lines.specs.declared.candidates.CandidateFault.{CandidateFault}

@@ -1,9 +1,9 @@
 -- What a requirement line reads as, from the front of its text on.
-use Rattle.std.specs.Prelude.{ℕ, ◌==◌, ◌||◌, ◌&&◌, nat_lt, Bool, eqb, List, [], ◌∷◌, length, drop, Option, Some, None, codes, if◌then◌else◌}
+use Rattle.std.specs.Prelude.{ℕ, ◌==◌, ◌&&◌, nat_lt, Bool, eqb, List, [], ◌∷◌, length, drop, Option, Some, None, codes, if◌then◌else◌}
 use Rattle.std.specs.Option.{option_map, option_or, option_and_then}
-use Rattle.std.specs.List.{prefix_len, take_while, before_first, after_first, position_or_len, starts_with}
-use Rattle.std.specs.Char.{is_ascii_digit}
-use Rattle.pep440_rs.specs.Text.{version_of}
+use Rattle.std.specs.List.{prefix_len, take_while, list_all, before_first, after_first, position_or_len, starts_with}
+use Rattle.pep440_rs.specs.Record.{VersionRecord}
+use Rattle.pep440_rs.specs.Reading.{version_of}
 use Rattle.pep508_name.specs.Name.{is_name_byte, name_of}
 use Rattle.reqtable_lines.specs.declared.requirement.ByteClass.{ByteClass}
 use Rattle.reqtable_lines.specs.declared.requirement.ByteClass.TheVariants as classes
@@ -11,7 +11,7 @@ use Rattle.reqtable_lines.specs.declared.requirement.Comparator.{Comparator}
 use Rattle.reqtable_lines.specs.declared.requirement.Comparator.TheVariants.{Equal, GreaterThanEqual}
 use Rattle.reqtable_lines.specs.declared.requirement.Comparison.{Comparison}
 use Rattle.reqtable_lines.specs.declared.requirement.RequirementLine.{RequirementLine}
-use Rattle.reqtable_lines.specs.RequirementLine.{operator_of}
+use Rattle.reqtable_lines.specs.RequirementLine.{operator_of, is_release_byte}
 
 infixl 10 ◌>>=◌
 -- what follows a part that was read
@@ -22,7 +22,7 @@ part >>= rest = option_and_then rest part
 abbrev pub is_in : ByteClass → ℕ → Bool
 is_in classes.Blank byte = byte == 32
 is_in classes.Name byte = is_name_byte byte
-is_in classes.Version byte = is_ascii_digit byte || byte == 46
+is_in classes.Version byte = is_release_byte byte
 
 -- what follows the longest run of a class at the front
 abbrev pub after_run : ByteClass → List ℕ → List ℕ
@@ -31,6 +31,10 @@ after_run class text = drop (prefix_len (is_in class) text) text
 -- what follows the blanks at the front
 abbrev pub after_blanks : List ℕ → List ℕ
 after_blanks = after_run classes.Blank
+
+-- the release version that a text is, if it is one: a version of digits and dots alone
+unfoldable pub release_of : List ℕ → Option VersionRecord
+release_of text = if list_all (is_in classes.Version) text then version_of text else None
 
 -- what follows a word, where it stands at the front
 unfoldable pub behind : List ℕ → List ℕ → Option (List ℕ)
@@ -59,7 +63,7 @@ in_quotes text = quoted_by (behind (codes "'") text) (behind (34 ∷ []) text)
 
 -- a comparison with a version in quotes, up to the end
 unfoldable pub comparison_by : Comparator × List ℕ → Option Comparison
-comparison_by found = in_quotes (after_blanks found.1) >>= λ inner. option_map (λ version. record { comparator = found.0; version = version }) (version_of inner)
+comparison_by found = in_quotes (after_blanks found.1) >>= λ inner. option_map (λ version. record { comparator = found.0; version = version }) (release_of inner)
 
 -- a comparison of `python_full_version`, up to the end
 unfoldable pub comparison_of : List ℕ → Option Comparison
@@ -72,7 +76,7 @@ marker_of text = if length text == 0 then Some None else (behind (codes ";") tex
 -- the line of a name and a comparison, with the text that follows the comparison
 unfoldable pub line_by : ℕ → List ℕ → Comparator × List ℕ → Option RequirementLine
 line_by number name found =
-    version_of (take_while (is_in classes.Version) (after_blanks found.1)) >>= λ version.
+    release_of (take_while (is_in classes.Version) (after_blanks found.1)) >>= λ version.
     option_map (λ marker. record { number = number; name = name; specifier = record { operator = operator_of found.0; version = version }; marker = marker })
     (marker_of (after_blanks (after_run classes.Version (after_blanks found.1))))
 

@@ -1,7 +1,8 @@
 -- A requirement line of the first path (PEP 508, "Grammar"): a name, `==` or `>=`, and a release version;
 -- perhaps followed by `;`, `python_full_version`, `==` or `>=`, and a release version in quotes.
-use Rattle.std.specs.Prelude.{◌≡◌, ℕ, ◌⊎◌, List, [], ◌∷◌, ◌++◌, Option, Some, None, codes}
+use Rattle.std.specs.Prelude.{◌≡◌, ℕ, ◌==◌, ◌||◌, ◌⊎◌, Bool, IsTrue, List, [], ◌∷◌, ◌++◌, Option, Some, None, codes}
 use Rattle.std.specs.List.{AllByRecursion, AllZip}
+use Rattle.std.specs.Char.{is_ascii_digit}
 use Rattle.pep440_rs.specs.Record.{VersionRecord}
 use Rattle.pep440_rs.specs.Text.{IsVersionText}
 use Rattle.pep440_rs.specs.declared.Operator.{Operator}
@@ -31,10 +32,19 @@ abbrev pub operator_of : Comparator → Operator
 operator_of Equal = operators.Equal
 operator_of GreaterThanEqual = operators.GreaterThanEqual
 
--- a version between two single or two double quotes, with nothing else between them
+-- ASCII digits and dots
+abbrev pub is_release_byte : ℕ → Bool
+is_release_byte byte = is_ascii_digit byte || byte == 46
+
+-- a release version: the text of a version, of digits and dots alone (PEP 440, "Final releases")
+pub record IsReleaseText (text : List ℕ) (version : VersionRecord) : Type 0 where
+  pub release_bytes : AllByRecursion (λ b. IsTrue (is_release_byte b)) text
+  pub is_version : IsVersionText text version
+
+-- a release version between two single or two double quotes, with nothing else between them
 abbrev pub IsQuotedVersion : List ℕ → VersionRecord → Type 0
 IsQuotedVersion text version =
-    (quote : ℕ) × (inner : List ℕ) × ((quote ≡ 39) ⊎ (quote ≡ 34)) × (text ≡ quote ∷ (inner ++ quote ∷ [])) × IsVersionText inner version
+    (quote : ℕ) × (inner : List ℕ) × ((quote ≡ 39) ⊎ (quote ≡ 34)) × (text ≡ quote ∷ (inner ++ quote ∷ [])) × IsReleaseText inner version
 
 -- the pieces of a marker (PEP 508, "Environment Markers"), none without one
 abbrev pub AreMarkerPieces : Option Comparison → List (List ℕ) → Type 0
@@ -51,7 +61,7 @@ pub record IsRequirementLine (text : List ℕ) (line : RequirementLine) : Type 0
   pub pieces : IsSpaced text (name ∷ comparator_text comparator ∷ version ∷ marker)
   pub is_name : name_of name ≡ Some line.name
   pub is_operator : line.specifier.operator ≡ operator_of comparator
-  pub is_version : IsVersionText version line.specifier.version
+  pub is_version : IsReleaseText version line.specifier.version
   pub is_marker : AreMarkerPieces line.marker marker
 
 -- the line is that of a numbered text

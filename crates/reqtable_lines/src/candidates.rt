@@ -27,7 +27,7 @@ pub enum CandidateFault {
     Shape,
     /// What stands before the white space is no name (PEP 508, "Names").
     Name,
-    /// What stands behind it is no version that is read.
+    /// What stands behind it is no version (PEP 440, "Version scheme").
     Version,
 }
 
@@ -86,7 +86,8 @@ impl Candidates {
     /// Reads a candidate list, which is UTF-8, by lines.
     ///
     /// Lines end, have comments and are left out as in a requirements text. Each other line is a name, white space and a
-    /// version, as `numpy 1.26.4`, with white space around them or none.
+    /// version, as `numpy 1.26.4`, with white space around them or none. The version is in any spelling that PEP 440
+    /// normalizes ("Normalization"), as `v1.0-ALPHA`.
     ///
     /// The first line of another kind ends the reading, with the first thing that is wrong of its shape, its name and its
     /// version. Time and memory grow with the length of the bytes.

@@ -1,14 +1,15 @@
 //! One requirement line, as far as lines are read today.
 
-ghost use Rattle.std.specs.Prelude.{◌≡◌, ◌<◌, IfOk};
+ghost use Rattle.std.specs.Prelude.{◌≡◌, ◌<◌, [], IfOk, IfSome};
 ghost use Rattle.std.specs.Option.{option_map, option_copied};
 ghost use Rattle.std.specs.List.{take_while};
-ghost use Rattle.pep440_rs.specs.Text.{version_of};
+ghost use Rattle.pep440_rs.specs.Reading.{version_of};
 ghost use Rattle.pep508_name.specs.Name.{name_of};
 ghost use Rattle.reqtable_lines.specs.RequirementLine.{operator_of};
-ghost use Rattle.reqtable_lines.specs.Reading.{is_in, after_run, after_blanks, behind, comparator_at, before_quote, in_quotes, comparison_of, marker_of, line_behind, requirement_of};
+ghost use Rattle.reqtable_lines.specs.Reading.{is_in, after_run, after_blanks, behind, comparator_at, before_quote, in_quotes, comparison_of, marker_of, line_behind, requirement_of, release_of};
 
-use pep440_rs::{Operator, Version, VersionParseError, VersionSpecifier};
+use pep440_rs::laws::version_text_is_read;
+use pep440_rs::{Version, VersionParseError, VersionSpecifier};
 use pep508_name::{InvalidNameError, PackageName};
 use std::alloc::{AllocError, Global};
 
@@ -114,6 +115,21 @@ fn read_version(alloc: Global, text: &str) -> Result<Option<Version>, AllocError
     }
 }
 
+/// The release version that the whole text is: a version of digits and dots alone.
+#[tactic(auto, using(crate::proofs::Releases::run_is_all), unfolding(crate::specs::Reading::release_of))]
+fn read_release(alloc: Global, text: &str) -> Result<Option<Version>, AllocError>
+    ensures version { IfOk result (λ version. version ≡ release_of text.now) }
+    ensures public { IfOk result (λ version. IfSome version (λ v. v.local ≡ [])) }
+{
+    // By this law such a version has no local part.
+    version_text_is_read();
+    let (_, rest) = split_run(ByteClass::Version, text);
+    if !rest.is_empty() {
+        return Ok(None);
+    }
+    read_version(alloc, text)
+}
+
 /// The name that the whole text is.
 fn read_name(alloc: Global, text: &str) -> Result<Option<PackageName>, AllocError>
     ensures { IfOk result (λ name. name ≡ name_of text.now) }
@@ -163,7 +179,7 @@ fn read_comparison(alloc: Global, text: &str) -> Result<Option<Comparison>, Allo
     let Some(inner) = unquote(skip_blanks(rest)) else {
         return Ok(None);
     };
-    match read_version(alloc, inner)? {
+    match read_release(alloc, inner)? {
         None => Ok(None),
         Some(version) => Ok(Some(Comparison {
             comparator,
@@ -189,17 +205,19 @@ fn read_marker(alloc: Global, text: &str) -> Result<Option<Option<Comparison>>, 
     }
 }
 
-fn operator(comparator: Comparator) -> Operator
-    ensures { result ≡ operator_of comparator }
+/// The specifier of a comparator and a version.
+fn specifier(comparator: Comparator, version: Version) -> VersionSpecifier
+    requires { version.local ≡ [] }
+    ensures { result ≡ record { operator = operator_of comparator; version = version } }
 {
     match comparator {
-        Comparator::Equal => Operator::Equal,
-        Comparator::GreaterThanEqual => Operator::GreaterThanEqual,
+        Comparator::Equal => VersionSpecifier::equals_version(version),
+        Comparator::GreaterThanEqual => VersionSpecifier::greater_than_equal_version(version),
     }
 }
 
 /// What follows the name of a line.
-#[tactic(auto, using(crate::proofs::Runs::read_has_no_local), unfolding(crate::specs::Reading::line_behind, crate::specs::Reading::line_by))]
+#[tactic(auto, unfolding(crate::specs::Reading::line_behind, crate::specs::Reading::line_by))]
 fn read_behind_name(
     alloc: Global,
     number: usize,
@@ -212,7 +230,7 @@ fn read_behind_name(
         return Ok(None);
     };
     let (version, rest) = split_run(ByteClass::Version, skip_blanks(rest));
-    let Some(version) = read_version(alloc, version)? else {
+    let Some(version) = read_release(alloc, version)? else {
         return Ok(None);
     };
     match read_marker(alloc, skip_blanks(rest))? {
@@ -220,7 +238,7 @@ fn read_behind_name(
         Some(marker) => Ok(Some(RequirementLine {
             number,
             name,
-            specifier: VersionSpecifier::from_version(operator(comparator), version),
+            specifier: specifier(comparator, version),
             marker,
         })),
     }

@@ -62,7 +62,8 @@ impl Requirements {
     /// A line ends in a line feed, and one carriage return before that belongs to the end. A `#` that stands first or
     /// after white space begins a comment. Lines of white space alone count and are left out. Each other line is one of
     /// `name==1.2`, `name>=1.2` and these with `; python_full_version >= '3.8'` or `==` behind them, with blanks (U+0020)
-    /// where they please (PEP 508, "Grammar"); names are in the normal form of PEP 503.
+    /// where they please (PEP 508, "Grammar"); names are in the normal form of PEP 503. Versions are of digits and dots
+    /// alone, also between the quotes.
     ///
     /// The first line of another kind ends the reading as `NotYet`. Time and memory grow with the length of the bytes.
     pub fn parse(alloc: Global, bytes: &[u8]) -> Result<Requirements, RequirementsError>

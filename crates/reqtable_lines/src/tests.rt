@@ -53,6 +53,11 @@ fn names_the_first_line_that_is_not_read(rt: HostRuntime) {
         "foo==1,<2",
         "foo==1 2",
         "foo==v1",
+        "foo==1.0rc1",
+        "foo>=1.0.post1",
+        "foo==1.0+local",
+        "foo==1!1.0",
+        "foo==1.0.*",
         "foo ==\t1",
         "\tfoo==1",
         "foo==1\r\r",
@@ -61,6 +66,9 @@ fn names_the_first_line_that_is_not_read(rt: HostRuntime) {
         "foo==1;",
         "foo==1 ; python_version >= '3.8'",
         "foo==1 ; python_full_version >= ' 3.8'",
+        "foo>=1 ; python_full_version >= ' 3.8 '",
+        "foo==1 ; python_full_version >= 'v3.8'",
+        "foo==1 ; python_full_version >= '3.8rc1'",
         "foo==1 ; python_full_version >= '3.8\"",
         "foo==1 ; python_full_version >= '3.8' x",
         "foo==1 ; python_full_version < '3.8'",
@@ -86,6 +94,19 @@ fn reads_candidates(rt: HostRuntime) -> Result<(), Fail> {
     for (candidate, want) in read.items().iter().zip(want) {
         let text = format!(in alloc; "{} {}", candidate.name, candidate.version)?;
         assert_eq!(rt; text.as_str(), want);
+    }
+    Ok(())
+}
+
+#[test]
+fn reads_candidates_by_the_whole_grammar(rt: HostRuntime) -> Result<(), Fail> {
+    let alloc = rt.alloc();
+    let text = "foo v1.0-ALPHA\nfoo 1.0.post1\nfoo 1!2.0-1.DEV3+Ubuntu-1\n";
+    let read = Candidates::parse(alloc, text.as_bytes()).expect(&rt, "a candidate list");
+    let want = ["1.0a0", "1.0.post1", "1!2.0.post1.dev3+ubuntu.1"];
+    assert_eq!(rt; read.items().len(), want.len());
+    for (candidate, want) in read.items().iter().zip(want) {
+        assert_eq!(rt; candidate.version.to_string(alloc)?.as_str(), want);
     }
     Ok(())
 }

@@ -1,7 +1,7 @@
 use Rattle.std.proofs.Common.{◌≡◌, length, map}
 use Rattle.std.specs.Ordering.{nat_cmp}
 use Rattle.std.specs.Cmp.Lexicographic.{slice_cmp}
-use Rattle.pep440_version.specs.Record.{segment_of}
+use Rattle.pep440_text.specs.Record.{segment_of}
 use Rattle.pep440_version.specs.Order.{segment_key}
 use Rattle.pep440_version.proofs.ordering.compare_local.Given as goal
 

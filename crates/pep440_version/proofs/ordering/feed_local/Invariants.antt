@@ -1,5 +1,5 @@
 use Rattle.std.proofs.Common.{◌≡◌, take, fold, map}
-use Rattle.pep440_version.specs.Record.{segment_of}
+use Rattle.pep440_text.specs.Record.{segment_of}
 use Rattle.pep440_version.specs.Order.{segment_key, fed_key}
 use Rattle.pep440_version.proofs.ordering.feed_local.Given as goal
 

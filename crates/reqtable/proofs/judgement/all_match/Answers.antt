@@ -6,9 +6,9 @@ use Rattle.reqtable_lines.specs.declared.requirement.RequirementLine.{Requiremen
 use Rattle.reqtable.specs.Answer.{takes}
 use Rattle.reqtable.proofs.judgement.all_match.Goals as goal
 
-pub returns-then-not-takes : goal.returns-then-not-takes
-returns-then-not-takes c =
-    let refused : takes c.args.version.now c.line-item.result.now ≡ false = sym c.takes.ensures ∙ c.if-not-takes.true in
+pub returns-then-not-taken : goal.returns-then-not-taken
+returns-then-not-taken c =
+    let refused : takes c.args.version.now c.line-item.result.now ≡ false = sym c.in_ok-taken.ensures ∙ c.if-not-taken.true in
     sym (list_all-map (takes c.args.version.now) (λ r. r.now) c.args.lines.now
     ∙ list_all_at (λ r. takes c.args.version.now r.now) c.args.lines.now c.loop-line.line-index c.line-item.result c.loop-line-test.true (rw (← c.line-item.is) refused))
 

@@ -7,7 +7,7 @@ use Rattle.reqtable.specs.Answer.{by_version, all_match, first_greatest}
 use Rattle.reqtable.specs.Rows.{taken}
 use Rattle.reqtable.proofs.Greatest.{IsBest, best_passed_over, best_kept, best_taken, first_greatest-best}
 use Rattle.reqtable.proofs.judgement.greatest.Goals as goal
-use Rattle.reqtable.proofs.judgement.greatest.Goals.{then-all_match+then-is_greater, else-all_match, else-all_match-via-then-all_match+else-is_greater, else-all_match-via-else-all_match}
+use Rattle.reqtable.proofs.judgement.greatest.Goals.{then-matched+then-is_greater, else-matched, else-matched-via-then-matched+else-is_greater, else-matched-via-else-matched}
 
 total : IsTotalOrder by_version
 total = on_total (λ c. c.version) version_cmp_total
@@ -20,15 +20,15 @@ loop-candidate-preserved c =
     let grown : map (λ r. r.now) (take (c.loop-candidate.candidate-index + 1) c.args.candidates.now) ≡ before ++ n ∷ [] =
     map_more (λ r. r.now) c.args.candidates.now c.loop-candidate.candidate-index c.candidate-item.result c.loop-candidate-test.true
     ∙ ap (λ x. before ++ x.now ∷ []) (sym c.candidate-item.is) in
-    let P : List Candidate → Type 0 = λ l. IsBest by_version (filter p l) (taken c.if-all_match.best) in
-    subst P (sym grown) (elim c.if-all_match.branch [
-      | then-all_match+then-is_greater w ↦
-          rw w.best-is (best_taken total p before n (taken c.loop-candidate.best) (sym c.all_match.ensures ∙ w.if-all_match.true) (sym w.is_greater.ensures ∙ w.if-is_greater.true) c.loop-candidate.invariant)
-      | else-all_match w ↦ rw w.best-is (elim w.else-all_match.branch [
-        | else-all_match-via-then-all_match+else-is_greater v ↦
-            best_kept total p before n (taken c.loop-candidate.best) (sym c.all_match.ensures ∙ v.if-all_match.true) (sym v.is_greater.ensures ∙ v.if-is_greater.false) c.loop-candidate.invariant
-        | else-all_match-via-else-all_match v ↦
-            best_passed_over total p before n (taken c.loop-candidate.best) (sym c.all_match.ensures ∙ v.if-all_match.false) c.loop-candidate.invariant
+    let P : List Candidate → Type 0 = λ l. IsBest by_version (filter p l) (taken c.if-matched.best) in
+    subst P (sym grown) (elim c.if-matched.branch [
+      | then-matched+then-is_greater w ↦
+          rw w.best-is (best_taken total p before n (taken c.loop-candidate.best) (sym c.in_ok-matched.ensures ∙ w.if-matched.true) (sym w.is_greater.ensures ∙ w.if-is_greater.true) c.loop-candidate.invariant)
+      | else-matched w ↦ rw w.best-is (elim w.else-matched.branch [
+        | else-matched-via-then-matched+else-is_greater v ↦
+            best_kept total p before n (taken c.loop-candidate.best) (sym c.in_ok-matched.ensures ∙ v.if-matched.true) (sym v.is_greater.ensures ∙ v.if-is_greater.false) c.loop-candidate.invariant
+        | else-matched-via-else-matched v ↦
+            best_passed_over total p before n (taken c.loop-candidate.best) (sym c.in_ok-matched.ensures ∙ v.if-matched.false) c.loop-candidate.invariant
       ])
     ])
 

@@ -25,8 +25,8 @@ loop-package-preserved c =
     sym group ∙ c.in_ok-lines.ensures.lines name ∙ ap (filter (is_asked c.args.environment.now name)) c.lines.ensures in
     let listed : group_of c.in_ok-candidates.candidates name ≡ filter (is_candidate name) c.args.candidates.now =
     c.in_ok-candidates.ensures name ∙ ap (filter (is_candidate name)) c.items.ensures in
-    let taken : outcome_seen c.outcome-outcome.result ≡ package_answer c.args.environment.now c.args.requirements.now c.args.candidates.now name =
-    c.outcome-outcome.ensures
+    let taken : outcome_seen c.in_ok-outcome.outcome ≡ package_answer c.args.environment.now c.args.requirements.now c.args.candidates.now name =
+    c.in_ok-outcome.ensures
     ∙ ap (λ l. option_map (λ x. x.version) (greatest_match (map (λ r. r.now) l) (group_of c.in_ok-candidates.candidates name))) c.deref.ensures.value
     ∙ ap (λ l. option_map (λ x. x.version) (greatest_match l (group_of c.in_ok-candidates.candidates name))) asked
     ∙ ap (λ l. option_map (λ x. x.version) (greatest_match (filter (is_asked c.args.environment.now name) c.args.requirements.now) l)) listed in

@@ -1,7 +1,7 @@
 use Rattle.std.proofs.Common.{◌++◌, take}
 use Rattle.std.specs.Fmt.{HasWritten, IsPlainFormatter, decimal}
 use Rattle.std.specs.List.{flat_map}
-use Rattle.pep440_version.specs.Print.{dotted_number}
+use Rattle.pep440_text.specs.Print.{dotted_number}
 use Rattle.pep440_version.proofs.print.DottedNumbersDisplay.fmt.Given as goal
 
 abbrev pub invariant-loop-number : goal.invariant-loop-number

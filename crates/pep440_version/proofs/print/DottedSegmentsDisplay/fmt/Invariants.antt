@@ -1,8 +1,8 @@
 use Rattle.std.proofs.Common.{◌++◌, take, map}
 use Rattle.std.specs.Fmt.{HasWritten, IsPlainFormatter}
 use Rattle.std.specs.List.{flat_map}
-use Rattle.pep440_version.specs.Record.{segment_of}
-use Rattle.pep440_version.specs.Print.{segment_text, dotted_segment}
+use Rattle.pep440_text.specs.Record.{segment_of}
+use Rattle.pep440_text.specs.Print.{segment_text, dotted_segment}
 use Rattle.pep440_version.proofs.print.DottedSegmentsDisplay.fmt.Given as goal
 
 abbrev pub invariant-loop-segment : goal.invariant-loop-segment

@@ -1,0 +1,13 @@
+//! The laws of the crates below.
+
+pub use pep440_specifier::laws::{
+    exclusion_is_the_rest, operator_text_is_read, specifier_text_is_read, text_has_one_specifier,
+};
+pub use pep440_specifier_list::laws::{
+    a_list_takes_what_each_member_takes, list_text_is_read, the_empty_list_takes_all,
+};
+pub use pep440_text::laws::{
+    pattern_text_is_read, print_reads_back, text_has_one_pattern, text_has_one_version,
+    version_text_is_read,
+};
+pub use pep440_version::laws::{end_zeros_change_nothing, key_decides, releases_compare_padded};

@@ -1,0 +1,4 @@
+pub mod Fronts
+pub mod Grammar
+pub mod Operators
+pub mod PatternTexts

@@ -1,0 +1,46 @@
+//! Why an operator and a version make no specifier.
+
+use crate::Operator;
+use pep440_version::Version;
+use std::error::Error;
+use std::fmt;
+
+/// Why an operator and a version make no specifier.
+#[derive(Debug, PartialEq, Eq, Drop)]
+pub enum VersionSpecifierBuildError {
+    /// Memory ran out. Building takes none; whoever reads the parts before may pass this on.
+    Memory,
+    /// Beside this operator a version has no local part.
+    OperatorLocalCombo {
+        operator: Operator,
+        version: Version,
+    },
+    /// A star stands behind the version of an operator other than `==` and `!=`.
+    OperatorWithStar {
+        operator: Operator,
+    },
+    /// The version beside `~=` has fewer than two release numbers.
+    CompatibleRelease,
+}
+
+impl fmt::Display for VersionSpecifierBuildError {
+    fn fmt<W: fmt::Write>(&self, f: &mut fmt::Formatter<W>) -> fmt::Result {
+        match self {
+            VersionSpecifierBuildError::Memory => write!(f, "out of memory"),
+            VersionSpecifierBuildError::OperatorLocalCombo { operator, version } => write!(
+                f,
+                "Operator {operator} is incompatible with versions containing non-empty local segments (`{version}`)"
+            ),
+            VersionSpecifierBuildError::OperatorWithStar { operator } => write!(
+                f,
+                "Operator {operator} cannot be used with a wildcard version specifier"
+            ),
+            VersionSpecifierBuildError::CompatibleRelease => write!(
+                f,
+                "The ~= operator requires at least two segments in the release version"
+            ),
+        }
+    }
+}
+
+impl Error for VersionSpecifierBuildError {}

@@ -1,0 +1,128 @@
+//! Operators.
+
+ghost use Rattle.std.specs.Prelude.{◌≡◌, false, IfOk, Some};
+ghost use Rattle.pep440_specifier.specs.Building.{is_star, negated};
+ghost use Rattle.pep440_specifier.specs.SpecifierPrint.{operator_text};
+ghost use Rattle.pep440_specifier.specs.SpecifierReading.{ReadsOperator};
+
+use std::alloc::Global;
+use std::error::Error;
+use std::fmt;
+
+/// How a specifier compares (PEP 440, "Version specifiers"). A star stands for every release that begins alike.
+///
+/// Prints as in a specifier's text, without the star, which follows the version there.
+#[derive(Clone, Copy, Debug, PartialEq, Eq, PartialOrd, Ord, Hash)]
+pub enum Operator {
+    /// `==`
+    Equal,
+    /// `==` with a version that ends in `.*`
+    EqualStar,
+    /// `===`, which compares prints
+    ExactEqual,
+    /// `!=`
+    NotEqual,
+    /// `!=` with a version that ends in `.*`
+    NotEqualStar,
+    /// `~=`, the releases compatible with a version
+    TildeEqual,
+    /// `<`
+    LessThan,
+    /// `<=`
+    LessThanEqual,
+    /// `>`
+    GreaterThan,
+    /// `>=`
+    GreaterThanEqual,
+}
+
+impl fmt::Display for Operator {
+    ghost output = { λ operator. Some (operator_text operator) };
+
+    fn fmt<W: fmt::Write>(&self, f: &mut fmt::Formatter<W>) -> fmt::Result {
+        match self {
+            Operator::Equal | Operator::EqualStar => write!(f, "=="),
+            Operator::ExactEqual => write!(f, "==="),
+            Operator::NotEqual | Operator::NotEqualStar => write!(f, "!="),
+            Operator::TildeEqual => write!(f, "~="),
+            Operator::LessThan => write!(f, "<"),
+            Operator::LessThanEqual => write!(f, "<="),
+            Operator::GreaterThan => write!(f, ">"),
+            Operator::GreaterThanEqual => write!(f, ">="),
+        }
+    }
+}
+
+impl Operator {
+    /// Reads an operator, as `>=`, with no white space around it; never one with a star, which follows the version.
+    ///
+    /// Takes memory for the error alone, which keeps the text.
+    #[tactic(auto, unfolding(crate::specs::SpecifierReading::operator_of))]
+    pub fn from_str(alloc: Global, text: &str) -> Result<Operator, OperatorParseError>
+        ensures operator { ReadsOperator text.now result }
+        ensures starless { IfOk result (λ operator. is_star operator ≡ false) }
+    {
+        match text {
+            "==" => Ok(Operator::Equal),
+            "===" => Ok(Operator::ExactEqual),
+            "!=" => Ok(Operator::NotEqual),
+            "~=" => Ok(Operator::TildeEqual),
+            "<" => Ok(Operator::LessThan),
+            "<=" => Ok(Operator::LessThanEqual),
+            ">" => Ok(Operator::GreaterThan),
+            ">=" => Ok(Operator::GreaterThanEqual),
+            _ => match String::from_str(alloc, text) {
+                Ok(text) => Err(OperatorParseError::Unknown(text)),
+                Err(_) => Err(OperatorParseError::Memory),
+            },
+        }
+    }
+
+    /// The operator that takes what this one refuses; `!=` for `===`, and none for `~=`.
+    pub fn negate(self) -> Option<Operator>
+        ensures { result ≡ negated self }
+    {
+        match self {
+            Operator::Equal => Some(Operator::NotEqual),
+            Operator::EqualStar => Some(Operator::NotEqualStar),
+            Operator::ExactEqual => Some(Operator::NotEqual),
+            Operator::NotEqual => Some(Operator::Equal),
+            Operator::NotEqualStar => Some(Operator::EqualStar),
+            Operator::TildeEqual => None,
+            Operator::LessThan => Some(Operator::GreaterThanEqual),
+            Operator::LessThanEqual => Some(Operator::GreaterThan),
+            Operator::GreaterThan => Some(Operator::LessThanEqual),
+            Operator::GreaterThanEqual => Some(Operator::LessThan),
+        }
+    }
+
+    /// Whether `.*` stands behind the version.
+    pub fn is_star(self) -> bool
+        ensures { result ≡ is_star self }
+    {
+        matches!(self, Operator::EqualStar | Operator::NotEqualStar)
+    }
+}
+
+/// Why a text is no operator.
+#[derive(Debug, PartialEq, Eq, Drop)]
+pub enum OperatorParseError {
+    /// Memory ran out.
+    Memory,
+    /// The text.
+    Unknown(String),
+}
+
+impl fmt::Display for OperatorParseError {
+    fn fmt<W: fmt::Write>(&self, f: &mut fmt::Formatter<W>) -> fmt::Result {
+        match self {
+            OperatorParseError::Memory => write!(f, "out of memory"),
+            OperatorParseError::Unknown(text) => write!(
+                f,
+                "no such comparison operator \"{text}\", must be one of ~= == != <= >= < > ==="
+            ),
+        }
+    }
+}
+
+impl Error for OperatorParseError {}

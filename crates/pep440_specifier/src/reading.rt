@@ -1,0 +1,129 @@
+//! The reading of specifiers.
+
+ghost use Rattle.std.specs.Prelude.{◌≡◌, false, Err};
+ghost use Rattle.std.specs.Char.{is_whitespace};
+ghost use Rattle.std.specs.Option.{option_map};
+ghost use Rattle.std.specs.Str.{chars, skip_leading_whitespace, IsCharBoundary};
+ghost use Rattle.pep440_specifier.specs.Building.{is_star, built_of_pattern};
+ghost use Rattle.pep440_specifier.specs.SpecifierReading.{cut_at, ends_operator, front_in, InvalidTrailing, built_before, behind_operator, read_specifier, AnswersSpecifier, RefusesSpecifier};
+
+use crate::{Operator, OperatorParseError, VersionSpecifier, VersionSpecifierParseError};
+use pep440_version::{VersionParseError, VersionPattern, VersionPatternParseError};
+use std::alloc::Global;
+
+/// Whether no operator has this character.
+fn ends_operator(c: char) -> bool
+    ensures { result ≡ ends_operator c }
+{
+    !matches!(c, '=' | '<' | '>' | '~' | '!')
+}
+
+/// What follows the white space at the front.
+fn skip_white(text: &str) -> &str
+    ensures { chars result.now ≡ skip_leading_whitespace (chars text.now) }
+{
+    text.trim_start()
+}
+
+/// The text before a place and what follows, if the place is not the start.
+fn cut_at(text: &str, end: usize) -> Option<(&str, &str)>
+    requires { IsCharBoundary text.now end }
+    ensures { option_map (λ parts. (parts.0.now, chars parts.1.now)) result ≡ cut_at text.now end }
+{
+    if end == 0 {
+        return None;
+    }
+    Some(text.split_at(end))
+}
+
+/// The characters of an operator at the front, and what follows them.
+fn split_operator(text: &str) -> Option<(&str, &str)>
+    ensures { option_map (λ parts. (parts.0.now, chars parts.1.now)) result ≡ front_in ends_operator (chars text.now) }
+{
+    match text.find(|c: char| ends_operator(c)) {
+        Some(end) => cut_at(text, end),
+        None => cut_at(text, text.len()),
+    }
+}
+
+/// The text before the first white space, and that white space with what follows it.
+fn split_word(text: &str) -> Option<(&str, &str)>
+    ensures { option_map (λ parts. (parts.0.now, chars parts.1.now)) result ≡ front_in is_whitespace (chars text.now) }
+{
+    match text.find(|c: char| c.is_whitespace()) {
+        Some(end) => cut_at(text, end),
+        None => cut_at(text, text.len()),
+    }
+}
+
+/// The error of a text that stands behind the whole.
+fn trailing(alloc: Global, text: &str) -> VersionSpecifierParseError
+    ensures { RefusesSpecifier result (Err (InvalidTrailing (chars text.now))) }
+{
+    match String::from_str(alloc, text) {
+        Ok(text) => VersionSpecifierParseError::InvalidTrailing(text),
+        Err(_) => VersionSpecifierParseError::Memory,
+    }
+}
+
+/// The specifier of an operator and a pattern, behind which white space alone may be left.
+fn build(
+    alloc: Global,
+    operator: Operator,
+    pattern: VersionPattern,
+    left: &str,
+) -> Result<VersionSpecifier, VersionSpecifierParseError>
+    requires { is_star operator ≡ false }
+    ensures { AnswersSpecifier result (built_before (chars left.now) (built_of_pattern operator pattern)) }
+{
+    let specifier = match VersionSpecifier::from_pattern(operator, pattern) {
+        Ok(specifier) => specifier,
+        Err(error) => return Err(VersionSpecifierParseError::InvalidSpecifier(error)),
+    };
+    let rest = skip_white(left);
+    if !rest.is_empty() {
+        return Err(trailing(alloc, rest));
+    }
+    Ok(specifier)
+}
+
+/// What stands behind an operator: a pattern, with white space around it.
+#[tactic(auto, unfolding(crate::specs::SpecifierReading::behind_operator))]
+fn read_behind_operator(
+    alloc: Global,
+    operator: Operator,
+    text: &str,
+) -> Result<VersionSpecifier, VersionSpecifierParseError>
+    requires { is_star operator ≡ false }
+    ensures { AnswersSpecifier result (behind_operator operator (chars text.now)) }
+{
+    let Some((piece, left)) = split_word(skip_white(text)) else {
+        return Err(VersionSpecifierParseError::MissingVersion);
+    };
+    match VersionPattern::from_str(alloc, piece) {
+        Ok(pattern) => build(alloc, operator, pattern, left),
+        Err(
+            VersionPatternParseError::Memory
+            | VersionPatternParseError::Version(VersionParseError::Memory),
+        ) => Err(VersionSpecifierParseError::Memory),
+        Err(error) => Err(VersionSpecifierParseError::InvalidVersion(error)),
+    }
+}
+
+/// The specifier that a text is, or its first fault.
+#[tactic(auto, unfolding(crate::specs::SpecifierReading::read_specifier))]
+pub(crate) fn read_specifier(
+    alloc: Global,
+    text: &str,
+) -> Result<VersionSpecifier, VersionSpecifierParseError>
+    ensures { AnswersSpecifier result (read_specifier text.now) }
+{
+    let Some((piece, left)) = split_operator(skip_white(text)) else {
+        return Err(VersionSpecifierParseError::MissingOperator);
+    };
+    match Operator::from_str(alloc, piece) {
+        Ok(operator) => read_behind_operator(alloc, operator, left),
+        Err(OperatorParseError::Memory) => Err(VersionSpecifierParseError::Memory),
+        Err(error) => Err(VersionSpecifierParseError::InvalidOperator(error)),
+    }
+}

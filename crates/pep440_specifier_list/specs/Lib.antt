@@ -1,0 +1,9 @@
+pub mod Lists
+pub mod ListText
+pub mod Separated
+pub mod ListOrder
+pub mod ListHash
+pub mod Refusals
+pub mod ListReading
+pub mod ListErrors
+pub mod Pieces

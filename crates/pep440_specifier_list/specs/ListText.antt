@@ -1,0 +1,28 @@
+-- The text of a list: specifiers with commas between them (PEP 440, "Version specifiers"), and what a list prints.
+use Rattle.std.specs.Prelude.{◌≡◌, ℕ, ◌<◌, ◌⊎◌, List, [], ◌∷◌, ◌++◌, length, map, codes}
+use Rattle.std.specs.List.{AllZip, join_with_byte}
+use Rattle.pep440_specifier.specs.Matching.{SpecifierRecord}
+use Rattle.pep440_specifier.specs.SpecifierPrint.{specifier_text}
+use Rattle.pep440_specifier.specs.SpecifierText.{IsSpecifierText}
+use Rattle.pep440_specifier_list.specs.Lists.{IsInOrder}
+
+-- one or more pieces with commas between them, each a specifier's text
+pub record AreSpecifierTexts (text : List ℕ) (members : List SpecifierRecord) : Type 0 where
+  pub pieces : List (List ℕ)
+  pub joined : text ≡ join_with_byte 44 pieces
+  pub are_specifiers : AllZip IsSpecifierText pieces members
+  pub nonempty : 0 < length pieces
+
+-- the text of a list, whose members stand by version; the empty text is the empty list
+abbrev pub IsSpecifierListText : List ℕ → List SpecifierRecord → Type 0
+IsSpecifierListText text members = ((text ≡ []) × (members ≡ [])) ⊎ ((given : List SpecifierRecord) × AreSpecifierTexts text given × IsInOrder given members)
+
+-- the members with comma and blank between them
+abbrev pub list_text : List SpecifierRecord → List ℕ
+list_text [] = []
+list_text (member ∷ []) = specifier_text member
+list_text (member ∷ next ∷ members) = specifier_text member ++ (codes ", " ++ list_text (next ∷ members))
+
+-- the members with bare commas between them, as a list stands in JSON
+abbrev pub list_value_text : List SpecifierRecord → List ℕ
+list_value_text members = join_with_byte 44 (map specifier_text members)

@@ -1,0 +1,21 @@
+//! Lists of version specifiers, as PEP 440 has them.
+//!
+//! Contracts see a `VersionSpecifiers` as the list of its members, by version.
+#![tactic(auto)]
+
+mod asking;
+mod counted;
+pub mod laws;
+mod ordering;
+mod parse_error;
+mod print;
+mod reading;
+mod specifiers;
+mod value;
+
+pub use counted::CountedSpecifiers;
+pub use parse_error::VersionSpecifiersParseError;
+pub use specifiers::VersionSpecifiers;
+
+#[cfg(test)]
+mod tests;

@@ -1,0 +1,74 @@
+//! Why a text is no list of specifiers.
+
+ghost use Rattle.std.specs.Prelude.{◌≡◌};
+ghost use Rattle.pep440_specifier_list.specs.ListErrors.{line_of};
+
+use pep440_specifier::VersionSpecifierParseError;
+use std::alloc::{AllocError, AllocFailed};
+use std::error::Error;
+use std::fmt;
+
+/// Why a text is no list of specifiers.
+#[derive(Debug, PartialEq, Eq, Drop)]
+pub enum VersionSpecifiersParseError {
+    /// Memory ran out while reading.
+    Memory,
+    /// The first piece between commas that is no specifier.
+    Specifier {
+        /// What is wrong with the piece; never want of memory.
+        error: VersionSpecifierParseError,
+        /// The whole text.
+        line: String,
+        /// Where the piece begins in the text, in bytes.
+        start: usize,
+        /// Where it ends.
+        end: usize,
+    },
+}
+
+impl VersionSpecifiersParseError {
+    /// The text that is no list; empty for want of memory.
+    pub fn line(&self) -> &str
+        ensures { result.now ≡ line_of self.now }
+    {
+        match self {
+            VersionSpecifiersParseError::Memory => "",
+            VersionSpecifiersParseError::Specifier { line, .. } => line.as_str(),
+        }
+    }
+}
+
+impl From<AllocError> for VersionSpecifiersParseError {
+    ghost use Rattle.std.specs.Prelude.{◌≡◌};
+    ghost use Rattle.pep440_specifier_list.specs.declared.parse_error.VersionSpecifiersParseError.TheVariants.{Memory};
+
+    ghost from_gives = { λ _ error. error ≡ Memory };
+
+    fn from(_: AllocError) -> VersionSpecifiersParseError {
+        VersionSpecifiersParseError::Memory
+    }
+}
+
+impl<T: Drop> From<AllocFailed<T>> for VersionSpecifiersParseError {
+    ghost use Rattle.std.specs.Prelude.{◌≡◌};
+    ghost use Rattle.pep440_specifier_list.specs.declared.parse_error.VersionSpecifiersParseError.TheVariants.{Memory};
+
+    ghost from_gives = { λ _ error. error ≡ Memory };
+
+    fn from(_: AllocFailed<T>) -> VersionSpecifiersParseError {
+        VersionSpecifiersParseError::Memory
+    }
+}
+
+impl fmt::Display for VersionSpecifiersParseError {
+    fn fmt<W: fmt::Write>(&self, f: &mut fmt::Formatter<W>) -> fmt::Result {
+        match self {
+            VersionSpecifiersParseError::Memory => write!(f, "out of memory"),
+            VersionSpecifiersParseError::Specifier { error, .. } => {
+                write!(f, "Failed to parse version: {error}")
+            }
+        }
+    }
+}
+
+impl Error for VersionSpecifiersParseError {}

@@ -1,0 +1,83 @@
+//! The prints of lists.
+
+ghost use Rattle.std.specs.Prelude.{Some, ◌++◌};
+ghost use Rattle.std.specs.List.{flat_map};
+ghost use Rattle.pep440_specifier.specs.SpecifierPrint.{specifier_text};
+ghost use Rattle.pep440_specifier_list.specs.ListText.{list_text};
+ghost use Rattle.pep440_specifier_list.specs.Separated.{separated, behind_separator};
+
+use crate::VersionSpecifiers;
+use pep440_specifier::VersionSpecifier;
+use std::fmt;
+
+/// A member, and more with a separator before each.
+#[derive(Clone, Copy)]
+struct Members<'a> {
+    first: &'a VersionSpecifier,
+    others: &'a [VersionSpecifier],
+    separator: &'a str,
+}
+
+impl fmt::Display for Members<'_> {
+    ghost output = { λ text. Some (specifier_text text.first.now ++ flat_map (behind_separator text.separator.now) text.others.now) };
+
+    fn fmt<W: fmt::Write>(&self, f: &mut fmt::Formatter<W>) -> fmt::Result {
+        let first = self.first;
+        let separator = self.separator;
+        write!(f, "{first}")?;
+        for member in self.others {
+            write!(f, "{separator}{member}")?;
+        }
+        Ok(())
+    }
+}
+
+/// Members with a separator between them.
+#[derive(Clone, Copy)]
+pub(crate) struct Separated<'a> {
+    pub(crate) members: &'a [VersionSpecifier],
+    pub(crate) separator: &'a str,
+}
+
+impl fmt::Display for Separated<'_> {
+    ghost output = { λ text. Some (separated text.separator.now text.members.now) };
+
+    #[tactic(auto, using(crate::proofs::Printing::members_separated))]
+    fn fmt<W: fmt::Write>(&self, f: &mut fmt::Formatter<W>) -> fmt::Result {
+        let separator = self.separator;
+        match self.members.split_first() {
+            None => Ok(()),
+            Some((first, others)) => write!(
+                f,
+                "{}",
+                Members {
+                    first,
+                    others,
+                    separator
+                }
+            ),
+        }
+    }
+}
+
+impl fmt::Display for VersionSpecifiers {
+    ghost output = { λ list. Some (list_text list) };
+
+    #[tactic(auto, using(crate::proofs::Printing::list_separated))]
+    fn fmt<W: fmt::Write>(&self, f: &mut fmt::Formatter<W>) -> fmt::Result {
+        write!(
+            f,
+            "{}",
+            Separated {
+                members: self.as_slice(),
+                separator: ", "
+            }
+        )
+    }
+}
+
+impl fmt::Debug for VersionSpecifiers {
+    fn fmt<W: fmt::Write>(&self, f: &mut fmt::Formatter<W>) -> fmt::Result {
+        write!(f, "\"{self}\"")
+    }
+}

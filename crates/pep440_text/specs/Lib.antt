@@ -1,0 +1,4 @@
+pub mod Record
+pub mod Print
+pub mod Text
+pub mod Reading

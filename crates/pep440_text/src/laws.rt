@@ -1,0 +1,32 @@
+//! Laws over the definitions that the contracts cite. The functions do nothing: each one's contract is its law.
+
+ghost use Rattle.std.specs.Prelude.{◌≡◌, ℕ, ◌↔◌, List, Some};
+ghost use Rattle.pep440_text.specs.Record.{VersionRecord, PatternRecord};
+ghost use Rattle.pep440_text.specs.Text.{IsVersionText, IsPatternText};
+ghost use Rattle.pep440_text.specs.Print.{version_text};
+ghost use Rattle.pep440_text.specs.Reading.{version_of, pattern_of};
+
+/// A text is read as a version exactly where the grammar says that it is that version's.
+pub fn version_text_is_read()
+    ensures { (text : List ℕ) (version : VersionRecord) → (version_of text ≡ Some version) ↔ IsVersionText text version }
+{}
+
+/// A text is read as a pattern exactly where the grammar says that it is that pattern's.
+pub fn pattern_text_is_read()
+    ensures { (text : List ℕ) (pattern : PatternRecord) → (pattern_of text ≡ Some pattern) ↔ IsPatternText text pattern }
+{}
+
+/// A text is that of at most one version.
+pub fn text_has_one_version()
+    ensures { (text : List ℕ) (version other : VersionRecord) → IsVersionText text version → IsVersionText text other → version ≡ other }
+{}
+
+/// A text is that of at most one pattern.
+pub fn text_has_one_pattern()
+    ensures { (text : List ℕ) (pattern other : PatternRecord) → IsPatternText text pattern → IsPatternText text other → pattern ≡ other }
+{}
+
+/// The print of a version that was read of some text is read as that version, whatever that text was.
+pub fn print_reads_back()
+    ensures { (text : List ℕ) (version : VersionRecord) → version_of text ≡ Some version → version_of (version_text version) ≡ Some version }
+{}

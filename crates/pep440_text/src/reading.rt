@@ -1,0 +1,150 @@
+//! Reading the text of a version, from its front on.
+
+ghost use Rattle.std.specs.Prelude.{◌≡◌, length};
+ghost use Rattle.pep440_text.specs.declared.ReadError.TheVariants as errors;
+ghost use Rattle.pep440_text.specs.Record.{PatternRecord, said};
+ghost use Rattle.pep440_text.specs.Reading.{Gives, after_white, after_v, head_at, end_at, suffixed, is_star, read_version, read_pattern};
+
+use crate::{FaultKind, ReadError, TextFault, VersionParts};
+use std::alloc::Global;
+
+mod local;
+mod number;
+mod suffix;
+
+/// An epoch and a release.
+#[derive(Drop)]
+struct Head {
+    epoch: u64,
+    release: Vec<u64>,
+}
+
+/// The error for a fault that stands where these bytes are left.
+fn fault(kind: FaultKind, bytes: &[u8]) -> ReadError
+    ensures { result ≡ errors.Fault (record { kind = kind; left = length bytes.now }) }
+{
+    ReadError::Fault(TextFault {
+        kind,
+        left: bytes.len(),
+    })
+}
+
+/// What follows the white space at the front.
+fn skip_white(bytes: &[u8]) -> &[u8]
+    ensures { result.now ≡ after_white bytes.now }
+{
+    bytes.trim_ascii_start()
+}
+
+/// What follows a `v`, where one stands at the front.
+fn skip_v(bytes: &[u8]) -> &[u8]
+    ensures { result.now ≡ after_v bytes.now }
+{
+    match bytes.split_first() {
+        None => bytes,
+        Some((byte, rest)) => {
+            if byte.to_ascii_lowercase() == b'v' {
+                rest
+            } else {
+                bytes
+            }
+        }
+    }
+}
+
+/// White space, `v`, the epoch and the release, and what follows them.
+#[tactic(auto, unfolding(crate::specs::Reading::head_at))]
+fn read_head(alloc: Global, bytes: &[u8]) -> Result<(Head, &[u8]), ReadError>
+    ensures { Gives (λ found. ((found.0.epoch, found.0.release.items), found.1.now)) result (head_at bytes.now) }
+{
+    let (epoch, behind) = number::epoch(skip_v(skip_white(bytes)))?;
+    let (release, rest) = number::release(alloc, behind)?;
+    let head = Head {
+        epoch: epoch.unwrap_or(0),
+        release,
+    };
+    Ok((head, rest))
+}
+
+/// Refuses what is left, unless it is white space.
+#[tactic(auto, unfolding(crate::specs::Reading::end_at))]
+fn end(bytes: &[u8]) -> Result<(), ReadError>
+    ensures { Gives (λ end. end) result (end_at bytes.now) }
+{
+    let rest = skip_white(bytes);
+    if rest.is_empty() {
+        return Ok(());
+    }
+    Err(fault(FaultKind::UnexpectedEnd, rest))
+}
+
+/// The version of an epoch, a release and the parts behind them.
+#[tactic(auto, unfolding(crate::specs::Reading::suffixed))]
+fn suffixed(alloc: Global, head: Head, bytes: &[u8]) -> Result<VersionParts, ReadError>
+    ensures { Gives said result (suffixed (head.epoch, head.release.items) bytes.now) }
+{
+    let (pre, behind_pre) = suffix::pre(bytes)?;
+    let (post, behind_post) = suffix::post(behind_pre)?;
+    let (dev, behind_dev) = suffix::dev(behind_post)?;
+    let (local, rest) = local::local(alloc, behind_dev)?;
+    end(rest)?;
+    Ok(VersionParts {
+        epoch: head.epoch,
+        release: head.release,
+        pre,
+        post,
+        dev,
+        local,
+    })
+}
+
+/// Whether this is `.*` and white space alone.
+#[tactic(auto, using(crate::proofs::White::is_white_alone))]
+fn is_star(bytes: &[u8]) -> bool
+    ensures { result ≡ is_star bytes.now }
+{
+    match bytes.split_first() {
+        Some((b'.', behind)) => match behind.split_first() {
+            Some((b'*', rest)) => skip_white(rest).is_empty(),
+            _ => false,
+        },
+        _ => false,
+    }
+}
+
+/// Reads a version: its parts in their order, each that can be taken, in either case and with white space around them.
+///
+/// Goes through the text a fixed number of times, and takes memory for release and local part. The error names the first fault from the left.
+#[tactic(auto, unfolding(crate::specs::Reading::read_version))]
+pub fn read_version(alloc: Global, text: &[u8]) -> Result<VersionParts, ReadError>
+    ensures { Gives said result (read_version text.now) }
+{
+    let (head, rest) = read_head(alloc, text)?;
+    if is_star(rest) {
+        return Err(fault(FaultKind::Wildcard, rest));
+    }
+    suffixed(alloc, head, rest)
+}
+
+/// Reads a version, or an epoch and a release with `.*` behind them, of which the truth is told.
+///
+/// Costs and faults are those of `read_version`.
+#[tactic(auto, unfolding(crate::specs::Reading::read_pattern))]
+pub fn read_pattern(alloc: Global, text: &[u8]) -> Result<(VersionParts, bool), ReadError>
+    ensures { Gives (λ found. record { version = said found.0; wildcard = found.1 }) result (read_pattern text.now) }
+{
+    let (head, rest) = read_head(alloc, text)?;
+    if is_star(rest) {
+        let parts = VersionParts {
+            epoch: head.epoch,
+            release: head.release,
+            pre: None,
+            post: None,
+            dev: None,
+            local: Vec::new(alloc),
+        };
+        return Ok((parts, true));
+    }
+    let parts = suffixed(alloc, head, rest)?;
+    Ok((parts, false))
+}

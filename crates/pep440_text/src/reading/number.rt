@@ -1,0 +1,128 @@
+//! Numbers, and numbers with dots between them.
+
+ghost use Rattle.std.specs.Prelude.{◌≡◌, ◌<◌, ◌^◌, nat_lt, if◌then◌else◌, [], ◌∷◌, length, Some, None};
+ghost use Rattle.std.specs.Str.Parse.{AllDigits, digits_value};
+ghost use Rattle.pep440_text.specs.Reading.{Gives, leading_digits, behind_digits, number_of, number_at, marked_number_at, epoch_at, with_front, numbers_at, release_at};
+
+use super::fault;
+use crate::{FaultKind, ReadError};
+use std::alloc::Global;
+
+/// The digits at the front, and the bytes behind them.
+pub(super) fn split_digits(bytes: &[u8]) -> (&[u8], &[u8])
+    ensures digits { result.0.now ≡ leading_digits bytes.now }
+    ensures rest { result.1.now ≡ behind_digits bytes.now }
+    ensures are_digits { AllDigits 10 result.0.now }
+{
+    let mut count = 0;
+    while count < bytes.len() && bytes[count].is_ascii_digit() {
+        count += 1;
+    }
+    bytes.split_at(count)
+}
+
+/// The value of digits, where 64 bits hold it.
+pub(super) fn value(digits: &[u8]) -> Option<u64>
+    requires { AllDigits 10 digits.now }
+    ensures { result ≡ (if nat_lt (digits_value 10 digits.now) (2 ^ 64) then Some (digits_value 10 digits.now) else None) }
+{
+    let mut total = 0u64;
+    for digit in digits {
+        total = total
+            .checked_mul(10)?
+            .checked_add(digit.saturating_sub(b'0') as u64)?;
+    }
+    Some(total)
+}
+
+/// The value of the digits that stand at the front of some bytes, where there are any.
+fn number_of(bytes: &[u8], digits: &[u8]) -> Result<Option<u64>, ReadError>
+    requires { AllDigits 10 digits.now }
+    ensures { Gives (λ number. number) result (number_of bytes.now digits.now) }
+{
+    if digits.is_empty() {
+        return Ok(None);
+    }
+    match value(digits) {
+        None => Err(fault(FaultKind::NumberTooBig, bytes)),
+        Some(number) => Ok(Some(number)),
+    }
+}
+
+/// The number at the front, where there is one.
+#[tactic(auto, unfolding(crate::specs::Reading::number_at))]
+pub(super) fn number(bytes: &[u8]) -> Result<(Option<u64>, &[u8]), ReadError>
+    ensures { Gives (λ found. (found.0, found.1.now)) result (number_at bytes.now) }
+{
+    let (digits, rest) = split_digits(bytes);
+    let number = number_of(bytes, digits)?;
+    Ok((number, rest))
+}
+
+/// A byte and a number, where there are both.
+#[tactic(auto, unfolding(crate::specs::Reading::marked_number_at))]
+pub(super) fn marked_number(mark: u8, bytes: &[u8]) -> Result<(Option<u64>, &[u8]), ReadError>
+    ensures { Gives (λ found. (found.0, found.1.now)) result (marked_number_at mark bytes.now) }
+{
+    let Some((byte, rest)) = bytes.split_first() else {
+        return Ok((None, bytes));
+    };
+    if *byte != mark {
+        return Ok((None, bytes));
+    }
+    let (found, later) = number(rest)?;
+    match found {
+        None => Ok((None, bytes)),
+        Some(number) => Ok((Some(number), later)),
+    }
+}
+
+/// The number before a `!`, where there are both.
+#[tactic(auto, unfolding(crate::specs::Reading::epoch_at))]
+pub(super) fn epoch(bytes: &[u8]) -> Result<(Option<u64>, &[u8]), ReadError>
+    ensures { Gives (λ found. (found.0, found.1.now)) result (epoch_at bytes.now) }
+{
+    let (digits, behind) = split_digits(bytes);
+    match behind.split_first() {
+        Some((b'!', rest)) => {
+            if digits.is_empty() {
+                return Ok((None, bytes));
+            }
+            let number = number_of(bytes, digits)?;
+            Ok((number, rest))
+        }
+        _ => Ok((None, bytes)),
+    }
+}
+
+/// A first number, and those behind dots as long as there are any.
+fn numbers(alloc: Global, first: u64, bytes: &[u8]) -> Result<(Vec<u64>, &[u8]), ReadError>
+    ensures { Gives (λ found. (found.0.items, found.1.now)) result (with_front (first ∷ []) (numbers_at (length bytes.now) bytes.now)) }
+{
+    let mut numbers = Vec::new(alloc);
+    numbers.push(first)?;
+    let mut rest = bytes;
+    for _ in 0..bytes.len() {
+        match marked_number(b'.', rest) {
+            Err(error) => return Err(error),
+            Ok((None, later)) => return Ok((numbers, later)),
+            Ok((Some(number), later)) => {
+                numbers.push(number)?;
+                rest = later;
+            }
+        }
+    }
+    Ok((numbers, rest))
+}
+
+/// The numbers of a release.
+#[tactic(auto, unfolding(crate::specs::Reading::release_at))]
+pub(super) fn release(alloc: Global, bytes: &[u8]) -> Result<(Vec<u64>, &[u8]), ReadError>
+    ensures { Gives (λ found. (found.0.items, found.1.now)) result (release_at bytes.now) }
+{
+    let (first, rest) = number(bytes)?;
+    match first {
+        None => Err(fault(FaultKind::NoLeadingNumber, bytes)),
+        Some(first) => numbers(alloc, first, rest),
+    }
+}

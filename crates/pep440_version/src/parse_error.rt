@@ -1,0 +1,175 @@
+//! Why a text is no version or no pattern.
+
+ghost use Rattle.std.specs.Prelude.{◌≡◌, IfOk};
+ghost use Rattle.std.specs.String.{string_bytes};
+ghost use Rattle.pep440_text.specs.Reading.{leading_digits};
+ghost use Rattle.pep440_version.specs.FaultTexts.{StandsIn, MayShow, IsErrorOf, IsReadErrorOf, IsPatternErrorOf};
+
+use pep440_text::{FaultKind, ReadError, TextFault};
+use std::alloc::{AllocError, AllocFailed, Global};
+use std::error::Error;
+use std::fmt;
+
+/// Why a text is no version.
+#[derive(Debug, PartialEq, Eq, Drop)]
+pub enum VersionParseError {
+    /// Memory ran out while reading.
+    Memory,
+    /// `.*` stands behind the release, where a version is wanted and no pattern.
+    Wildcard,
+    /// A number exceeds `u64::MAX`.
+    NumberTooBig {
+        /// Its digits, as they are written.
+        number: String,
+    },
+    /// The text, or what follows the epoch, doesn't begin with an ASCII digit.
+    NoLeadingNumber,
+    /// No ASCII letter or digit follows the `+` or a separator of the local part.
+    LocalEmpty,
+    /// Something is left that can't be part of the version.
+    UnexpectedEnd {
+        /// What was read so far.
+        version: String,
+        /// What is left.
+        remaining: String,
+    },
+}
+
+impl From<AllocError> for VersionParseError {
+    ghost use Rattle.std.specs.Prelude.{◌≡◌};
+    ghost use Rattle.pep440_version.specs.declared.parse_error.VersionParseError.TheVariants.{Memory};
+
+    ghost from_gives = { λ _ error. error ≡ Memory };
+
+    fn from(_: AllocError) -> VersionParseError {
+        VersionParseError::Memory
+    }
+}
+
+impl<T: Drop> From<AllocFailed<T>> for VersionParseError {
+    ghost use Rattle.std.specs.Prelude.{◌≡◌};
+    ghost use Rattle.pep440_version.specs.declared.parse_error.VersionParseError.TheVariants.{Memory};
+
+    ghost from_gives = { λ _ error. error ≡ Memory };
+
+    fn from(_: AllocFailed<T>) -> VersionParseError {
+        VersionParseError::Memory
+    }
+}
+
+impl fmt::Display for VersionParseError {
+    fn fmt<W: fmt::Write>(&self, f: &mut fmt::Formatter<W>) -> fmt::Result {
+        match self {
+            VersionParseError::Memory => write!(f, "out of memory"),
+            VersionParseError::Wildcard => write!(f, "wildcards are not allowed in a version"),
+            VersionParseError::NumberTooBig { number } => write!(
+                f,
+                "expected number less than or equal to 18446744073709551615, but number found in \"{number}\" exceeds it"
+            ),
+            VersionParseError::NoLeadingNumber => write!(
+                f,
+                "expected version to start with a number, but no leading ASCII digits were found"
+            ),
+            VersionParseError::LocalEmpty => write!(
+                f,
+                "expected an alphanumeric ASCII segment after `+` or a separator"
+            ),
+            VersionParseError::UnexpectedEnd { version, remaining } => write!(
+                f,
+                "after parsing `{version}`, found `{remaining}`, which is not part of a valid version"
+            ),
+        }
+    }
+}
+
+impl Error for VersionParseError {}
+
+/// The digits at the front of some bytes. Takes memory for them.
+fn digits_of(alloc: Global, bytes: &[u8]) -> Result<String, AllocError>
+    ensures { IfOk result (λ digits. string_bytes digits ≡ leading_digits bytes.now) }
+{
+    let mut digits = String::new(alloc);
+    for byte in bytes {
+        if !byte.is_ascii_digit() {
+            return Ok(digits);
+        }
+        digits.push(char::from(*byte))?;
+    }
+    Ok(digits)
+}
+
+impl VersionParseError {
+    /// The error of a fault in a text. Takes memory for the texts in it.
+    fn of_fault(
+        alloc: Global,
+        text: &str,
+        fault: TextFault,
+    ) -> Result<VersionParseError, AllocError>
+        requires { StandsIn text.now fault }
+        ensures { IfOk result (λ error. IsErrorOf text.now fault error) }
+    {
+        let (version, remaining) = text.split_at(text.len() - fault.left);
+        match fault.kind {
+            FaultKind::Wildcard => Ok(VersionParseError::Wildcard),
+            FaultKind::NumberTooBig => Ok(VersionParseError::NumberTooBig {
+                number: digits_of(alloc, remaining.as_bytes())?,
+            }),
+            FaultKind::NoLeadingNumber => Ok(VersionParseError::NoLeadingNumber),
+            FaultKind::LocalEmpty => Ok(VersionParseError::LocalEmpty),
+            FaultKind::UnexpectedEnd => Ok(VersionParseError::UnexpectedEnd {
+                version: String::from_str(alloc, version)?,
+                remaining: String::from_str(alloc, remaining)?,
+            }),
+        }
+    }
+
+    /// The error of a text that could not be read.
+    pub(crate) fn of_reading(alloc: Global, text: &str, error: ReadError) -> VersionParseError
+        requires { MayShow text.now error }
+        ensures { IsReadErrorOf text.now error result }
+    {
+        match error {
+            ReadError::Memory => VersionParseError::Memory,
+            ReadError::Fault(fault) => VersionParseError::of_fault(alloc, text, fault).unwrap_or(
+                VersionParseError::Memory,
+            ),
+        }
+    }
+}
+
+/// Why a text is no pattern.
+#[derive(Debug, PartialEq, Eq, Drop)]
+pub enum VersionPatternParseError {
+    /// Memory ran out while reading.
+    Memory,
+    /// What is wrong with the version; never want of memory.
+    Version(VersionParseError),
+}
+
+impl fmt::Display for VersionPatternParseError {
+    fn fmt<W: fmt::Write>(&self, f: &mut fmt::Formatter<W>) -> fmt::Result {
+        match self {
+            VersionPatternParseError::Memory => write!(f, "out of memory"),
+            VersionPatternParseError::Version(error) => write!(f, "{error}"),
+        }
+    }
+}
+
+impl Error for VersionPatternParseError {}
+
+impl VersionPatternParseError {
+    /// The error of a text that could not be read.
+    pub(crate) fn of_reading(
+        alloc: Global,
+        text: &str,
+        error: ReadError,
+    ) -> VersionPatternParseError
+        requires { MayShow text.now error }
+        ensures { IsPatternErrorOf text.now error result }
+    {
+        match VersionParseError::of_reading(alloc, text, error) {
+            VersionParseError::Memory => VersionPatternParseError::Memory,
+            error => VersionPatternParseError::Version(error),
+        }
+    }
+}

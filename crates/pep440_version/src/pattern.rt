@@ -1,0 +1,129 @@
+//! Versions, or all versions that begin like one.
+
+ghost use Rattle.std.specs.Prelude.{◌≡◌, ◌&&◌, true, false, IfOk, IfErr, eqb};
+ghost use Rattle.pep440_text.specs.Record.{PatternRecord, epoch_record};
+ghost use Rattle.pep440_text.specs.Reading.{pattern_of, read_pattern};
+ghost use Rattle.pep440_version.specs.ParseErrors.{ReadsPattern, RefusesPattern};
+ghost use Rattle.pep440_version.specs.FaultTexts.{ShowsPattern};
+ghost use Rattle.pep440_version.specs.PatternOrder.{pattern_eq, pattern_eq_equiv, pattern_eq_partial, fed_pattern, alike_patterns};
+
+use crate::{Version, VersionPatternParseError};
+use std::alloc::{AllocError, Global};
+use std::hash::{Hash, Hasher};
+use std::marker::Model;
+
+/// A version, or with `.*` behind it every version whose release begins alike (PEP 440, "Version matching").
+///
+/// Comparing and hashing go by the version, as those of `Version` do, and by the star.
+#[derive(Debug, Drop)]
+pub struct VersionPattern {
+    version: Version,
+    wildcard: bool,
+}
+
+impl Model for VersionPattern {
+    ghost use Rattle.std.specs.Prelude.{◌≡◌, true};
+    ghost use Rattle.pep440_text.specs.Record.{PatternRecord, epoch_record};
+
+    ghost Value = { PatternRecord };
+
+    ghost view = { λ p. record { version = p.version; wildcard = p.wildcard } };
+
+    ghost invariant = { λ p. p.wildcard ≡ true → p.version ≡ epoch_record p.version.epoch p.version.release };
+}
+
+impl VersionPattern {
+    /// The pattern of this version alone.
+    pub fn verbatim(version: Version) -> VersionPattern
+        ensures { result ≡ record { version = version; wildcard = false } }
+    {
+        VersionPattern {
+            version,
+            wildcard: false,
+        }
+    }
+
+    /// The pattern of all versions whose release begins with this one's, which has an epoch and a release alone.
+    pub fn wildcard(version: Version) -> VersionPattern
+        requires { version ≡ epoch_record version.epoch version.release }
+        ensures { result ≡ record { version = version; wildcard = true } }
+    {
+        VersionPattern {
+            version,
+            wildcard: true,
+        }
+    }
+
+    /// Reads a version, as `1.2rc1`, or an epoch and a release with `.*` behind them, as `1.2.*`; ASCII white space may stand around.
+    ///
+    /// Costs are those of `Version::from_str`. The error names the first fault from the left.
+    pub fn from_str(alloc: Global, text: &str) -> Result<VersionPattern, VersionPatternParseError>
+        ensures pattern { ReadsPattern result (pattern_of text.now) }
+        ensures fault { IfErr result (λ fault. RefusesPattern fault (read_pattern text.now)) }
+        ensures texts { IfErr result (λ fault. ShowsPattern fault text.now (read_pattern text.now)) }
+    {
+        match pep440_text::read_pattern(alloc, text.as_bytes()) {
+            Ok((parts, wildcard)) => Ok(VersionPattern {
+                version: Version::of_parts(parts),
+                wildcard,
+            }),
+            Err(error) => Err(VersionPatternParseError::of_reading(alloc, text, error)),
+        }
+    }
+
+    /// A copy, in memory of its own.
+    pub fn try_clone(&self, alloc: Global) -> Result<VersionPattern, AllocError>
+        ensures { IfOk result (λ copy. copy ≡ self.now) }
+    {
+        Ok(VersionPattern {
+            version: self.version.try_clone(alloc)?,
+            wildcard: self.wildcard,
+        })
+    }
+
+    /// The version, without the star.
+    pub fn version(&self) -> &Version
+        ensures { result.now ≡ self.now.version }
+    {
+        &self.version
+    }
+
+    /// The version, without the star.
+    pub fn into_version(self) -> Version
+        ensures { result ≡ self.version }
+    {
+        self.version
+    }
+
+    /// Whether `.*` stands behind the version.
+    pub fn is_wildcard(&self) -> bool
+        ensures { result ≡ self.now.wildcard }
+    {
+        self.wildcard
+    }
+}
+
+impl PartialEq for VersionPattern {
+    ghost eq = { pattern_eq };
+
+    ghost laws = { pattern_eq_partial };
+
+    fn eq(&self, other: &VersionPattern) -> bool {
+        self.version == other.version && self.wildcard == other.wildcard
+    }
+}
+
+impl Eq for VersionPattern {
+    ghost laws = { pattern_eq_equiv };
+}
+
+impl Hash for VersionPattern {
+    ghost hash_input = { fed_pattern };
+
+    ghost respects_eq = { alike_patterns };
+
+    fn hash<H: Hasher>(&self, state: &mut H) {
+        self.version.hash(state);
+        self.wildcard.hash(state);
+    }
+}

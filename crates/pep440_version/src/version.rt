@@ -1,0 +1,219 @@
+//! Versions.
+
+ghost use Rattle.std.specs.Prelude.{◌≡◌, ◌<◌, List, length, map, not, is_some, IfOk, IfErr};
+ghost use Rattle.pep440_text.specs.Record.{VersionRecord, release_record, said, segment_of};
+ghost use Rattle.pep440_text.specs.Reading.{read_version, version_of};
+ghost use Rattle.pep440_version.specs.ParseErrors.{Reads, Refuses};
+ghost use Rattle.pep440_version.specs.FaultTexts.{Shows};
+ghost use Rattle.pep440_version.specs.Changes.{is_prerelease, has_local, early_version};
+
+use crate::{LocalSegment, Prerelease, PrereleaseKind, VersionParseError};
+use pep440_text::VersionParts;
+use std::alloc::{AllocError, Global};
+use std::marker::Model;
+
+/// A version (PEP 440, "Version scheme").
+///
+/// Its parts are seen by `epoch`, `release`, `pre`, `post`, `dev` and `local`. Comparing and hashing go by the order
+/// of PEP 440, so that `1.0` equals `1`; they take no memory and go once through both versions.
+#[derive(Drop)]
+pub struct Version {
+    pub(crate) epoch: u64,
+    pub(crate) release: Vec<u64>,
+    pub(crate) pre: Option<Prerelease>,
+    pub(crate) post: Option<u64>,
+    pub(crate) dev: Option<u64>,
+    pub(crate) local: Vec<LocalSegment>,
+    pub(crate) least: Option<u64>,
+    pub(crate) most: Option<u64>,
+}
+
+impl Model for Version {
+    ghost use Rattle.std.specs.Prelude.{◌<◌, length, map};
+    ghost use Rattle.pep440_text.specs.Record.{VersionRecord, segment_of};
+
+    ghost Value = { VersionRecord };
+
+    ghost view = { λ v. record { epoch = v.epoch; release = v.release.items; pre = v.pre; post = v.post; dev = v.dev; local = map segment_of v.local.items; least = v.least; most = v.most } };
+}
+
+impl Version {
+    /// The version with these release numbers and no other part. Takes memory for the numbers.
+    pub fn new(alloc: Global, release: &[u64]) -> Result<Version, AllocError>
+        requires { 0 < length release.now }
+        ensures { IfOk result (λ version. version ≡ release_record release.now) }
+    {
+        Ok(Version::of_release(alloc, Vec::from_slice(alloc, release)?))
+    }
+
+    /// Reads a version, as `1!2.0rc1.post2.dev3+ubuntu.1`: letters in either case, every spelling that PEP 440 normalizes
+    /// ("Normalization"), and ASCII white space around.
+    ///
+    /// Linear in the text; takes memory for the numbers of the release and the segments of the local part. The error
+    /// names the first fault from the left.
+    pub fn from_str(alloc: Global, text: &str) -> Result<Version, VersionParseError>
+        ensures version { Reads result (version_of text.now) }
+        ensures fault { IfErr result (λ fault. Refuses fault (read_version text.now)) }
+        ensures texts { IfErr result (λ fault. Shows fault text.now (read_version text.now)) }
+    {
+        match pep440_text::read_version(alloc, text.as_bytes()) {
+            Ok(parts) => Ok(Version::of_parts(parts)),
+            Err(error) => Err(VersionParseError::of_reading(alloc, text, error)),
+        }
+    }
+
+    /// The version whose parts a text says.
+    pub(crate) fn of_parts(parts: VersionParts) -> Version
+        ensures { result ≡ said parts }
+    {
+        Version {
+            epoch: parts.epoch,
+            release: parts.release,
+            pre: parts.pre,
+            post: parts.post,
+            dev: parts.dev,
+            local: parts.local,
+            least: None,
+            most: None,
+        }
+    }
+
+    pub(crate) fn of_release(alloc: Global, release: Vec<u64>) -> Version
+        ensures { result ≡ release_record release.items }
+    {
+        Version {
+            epoch: 0,
+            release,
+            pre: None,
+            post: None,
+            dev: None,
+            local: Vec::new(alloc),
+            least: None,
+            most: None,
+        }
+    }
+
+    /// A copy, in memory of its own.
+    pub fn try_clone(&self, alloc: Global) -> Result<Version, AllocError>
+        ensures { IfOk result (λ copy. copy ≡ self.now) }
+    {
+        Ok(Version {
+            epoch: self.epoch,
+            release: Vec::from_slice(alloc, &self.release)?,
+            pre: self.pre,
+            post: self.post,
+            dev: self.dev,
+            local: copy_segments(alloc, &self.local)?,
+            least: self.least,
+            most: self.most,
+        })
+    }
+
+    /// The number before `!`, 0 where the text has none (PEP 440, "Version epochs").
+    pub fn epoch(&self) -> u64
+        ensures { result ≡ self.now.epoch }
+    {
+        self.epoch
+    }
+
+    /// The release numbers, with the zeros at their end that were given (PEP 440, "Final releases").
+    pub fn release(&self) -> &[u64]
+        ensures { result.now ≡ self.now.release }
+    {
+        &self.release
+    }
+
+    /// The pre-release, if it is one (PEP 440, "Pre-releases").
+    pub fn pre(&self) -> Option<Prerelease>
+        ensures { result ≡ self.now.pre }
+    {
+        self.pre
+    }
+
+    /// The number of the post-release, if it is one (PEP 440, "Post-releases").
+    pub fn post(&self) -> Option<u64>
+        ensures { result ≡ self.now.post }
+    {
+        self.post
+    }
+
+    /// The number of the developmental release, if it is one (PEP 440, "Developmental releases").
+    pub fn dev(&self) -> Option<u64>
+        ensures { result ≡ self.now.dev }
+    {
+        self.dev
+    }
+
+    /// The segments of the local part, none where there is no such part (PEP 440, "Local version identifiers").
+    pub fn local(&self) -> &[LocalSegment]
+        ensures { map segment_of result.now ≡ self.now.local }
+    {
+        &self.local
+    }
+
+    /// The number by which it stands below every suffix of its release, as the lower end of a range; no text says it.
+    pub fn min(&self) -> Option<u64>
+        ensures { result ≡ self.now.least }
+    {
+        self.least
+    }
+
+    /// The number by which it stands above every post-release of its release, as the upper end of a range; no text says it.
+    pub fn max(&self) -> Option<u64>
+        ensures { result ≡ self.now.most }
+    {
+        self.most
+    }
+
+    /// Whether it is a pre-release or a developmental release.
+    pub fn any_prerelease(&self) -> bool
+        ensures { result ≡ is_prerelease self.now }
+    {
+        self.is_pre() || self.is_dev()
+    }
+
+    /// Whether it is neither a pre-release nor a developmental release.
+    pub fn is_stable(&self) -> bool
+        ensures { result ≡ not (is_prerelease self.now) }
+    {
+        !self.any_prerelease()
+    }
+
+    /// Whether it is a pre-release (PEP 440, "Pre-releases").
+    pub fn is_pre(&self) -> bool
+        ensures { result ≡ is_some self.now.pre }
+    {
+        self.pre.is_some()
+    }
+
+    /// Whether it is a developmental release (PEP 440, "Developmental releases").
+    pub fn is_dev(&self) -> bool
+        ensures { result ≡ is_some self.now.dev }
+    {
+        self.dev.is_some()
+    }
+
+    /// Whether it is a post-release (PEP 440, "Post-releases").
+    pub fn is_post(&self) -> bool
+        ensures { result ≡ is_some self.now.post }
+    {
+        self.post.is_some()
+    }
+
+    /// Whether it has a local part (PEP 440, "Local version identifiers").
+    pub fn is_local(&self) -> bool
+        ensures { result ≡ has_local self.now }
+    {
+        !self.local.is_empty()
+    }
+}
+
+fn copy_segments(alloc: Global, segments: &[LocalSegment]) -> Result<Vec<LocalSegment>, AllocError>
+    ensures { IfOk result (λ copy. map segment_of copy.items ≡ map segment_of segments.now) }
+{
+    let mut copies = Vec::with_capacity(alloc, segments.len())?;
+    for segment in segments {
+        copies.push(segment.try_clone(alloc)?)?;
+    }
+    Ok(copies)
+}
