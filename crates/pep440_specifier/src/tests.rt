@@ -1,4 +1,7 @@
-use crate::{Operator, OperatorParseError, VersionSpecifier, VersionSpecifierParseError};
+use crate::{
+    Operator, OperatorParseError, VersionSpecifier, VersionSpecifierBuildError,
+    VersionSpecifierParseError,
+};
 use pep440_version::{FromValueError, Version};
 use serde_json::Value;
 use std::alloc::Global;
@@ -100,8 +103,19 @@ fn tells_faults(rt: HostRuntime) -> Result<(), Fail> {
             Err(error) => assert_eq!(rt; error.to_string(alloc)?.as_str(), fault),
         }
     }
-    let memory = VersionSpecifierParseError::Memory;
-    assert_eq!(rt; memory.to_string(alloc)?.as_str(), "out of memory");
+    Ok(())
+}
+
+#[test]
+fn tells_want_of_memory(rt: HostRuntime) -> Result<(), Fail> {
+    let alloc = rt.alloc();
+    for text in [
+        OperatorParseError::Memory.to_string(alloc)?,
+        VersionSpecifierBuildError::Memory.to_string(alloc)?,
+        VersionSpecifierParseError::Memory.to_string(alloc)?,
+    ] {
+        assert_eq!(rt; text.as_str(), "out of memory");
+    }
     Ok(())
 }
 

@@ -67,5 +67,3 @@ RefusesList (Specifier error line start end) text = (piece : List ℕ) × IsFirs
 abbrev pub ReadsList : Result (List SpecifierRecord) VersionSpecifiersParseError → List ℕ → Type 0
 ReadsList (Ok list) text = (given : List SpecifierRecord) × (specifiers_of text ≡ Some given) × IsInOrder given list
 ReadsList (Err error) text = RefusesList error text
-
--- ---- the law of the specifiers

@@ -2,7 +2,7 @@
 
 ghost use Rattle.std.specs.Prelude.{◌≡◌, length};
 ghost use Rattle.pep440_text.specs.declared.ReadError.TheVariants as errors;
-ghost use Rattle.pep440_text.specs.Record.{PatternRecord, said};
+ghost use Rattle.pep440_text.specs.Record.{PatternRecord, epoch_record, said};
 ghost use Rattle.pep440_text.specs.Reading.{Gives, after_white, after_v, head_at, end_at, suffixed, is_star, read_version, read_pattern};
 
 use crate::{FaultKind, ReadError, TextFault, VersionParts};
@@ -78,11 +78,28 @@ fn end(bytes: &[u8]) -> Result<(), ReadError>
     Err(fault(FaultKind::UnexpectedEnd, rest))
 }
 
-/// The version of an epoch, a release and the parts behind them.
-#[tactic(auto, unfolding(crate::specs::Reading::suffixed))]
+/// The version of an epoch and a release alone.
+fn plain(alloc: Global, head: Head) -> VersionParts
+    ensures { said result ≡ epoch_record head.epoch head.release.items }
+{
+    VersionParts {
+        epoch: head.epoch,
+        release: head.release,
+        pre: None,
+        post: None,
+        dev: None,
+        local: Vec::new(alloc),
+    }
+}
+
+/// The version of an epoch, a release and the parts behind them. Most versions have none, so that is looked at first.
+#[tactic(auto, using(crate::proofs::White::nothing_behind), unfolding(crate::specs::Reading::suffixed))]
 fn suffixed(alloc: Global, head: Head, bytes: &[u8]) -> Result<VersionParts, ReadError>
     ensures { Gives said result (suffixed (head.epoch, head.release.items) bytes.now) }
 {
+    if bytes.is_empty() {
+        return Ok(plain(alloc, head));
+    }
     let (pre, behind_pre) = suffix::pre(bytes)?;
     let (post, behind_post) = suffix::post(behind_pre)?;
     let (dev, behind_dev) = suffix::dev(behind_post)?;
@@ -135,15 +152,7 @@ pub fn read_pattern(alloc: Global, text: &[u8]) -> Result<(VersionParts, bool), 
 {
     let (head, rest) = read_head(alloc, text)?;
     if is_star(rest) {
-        let parts = VersionParts {
-            epoch: head.epoch,
-            release: head.release,
-            pre: None,
-            post: None,
-            dev: None,
-            local: Vec::new(alloc),
-        };
-        return Ok((parts, true));
+        return Ok((plain(alloc, head), true));
     }
     let parts = suffixed(alloc, head, rest)?;
     Ok((parts, false))

@@ -1,11 +1,11 @@
 //! Versions as JSON values.
 
-ghost use Rattle.std.specs.Prelude.{◌≡◌, IfOk, Some};
+ghost use Rattle.std.specs.Prelude.{◌≡◌, IfOk, IfErr, Some};
 ghost use Rattle.serde_json.specs.View.{view};
 ghost use Rattle.serde_json.specs.Find.{as_str};
 ghost use Rattle.pep440_text.specs.Print.{version_text};
-ghost use Rattle.pep440_text.specs.Reading.{version_of};
-ghost use Rattle.pep440_version.specs.ParseErrors.{Reads};
+ghost use Rattle.pep440_text.specs.Reading.{read_version, version_of};
+ghost use Rattle.pep440_version.specs.ParseErrors.{Reads, Refuses};
 ghost use Rattle.pep440_version.specs.Values.{ReadsText};
 
 use crate::{Version, VersionParseError};
@@ -45,7 +45,8 @@ impl Version {
         alloc: Global,
         value: &Value,
     ) -> Result<Version, FromValueError<VersionParseError>>
-        ensures { ReadsText (λ text read. Reads read (version_of text)) (as_str (view value.now)) result }
+        ensures version { ReadsText (λ text read. Reads read (version_of text)) (as_str (view value.now)) result }
+        ensures fault { ReadsText (λ text read. IfErr read (λ error. Refuses error (read_version text))) (as_str (view value.now)) result }
     {
         let Some(text) = value.as_str() else {
             return Err(FromValueError::Shape);

@@ -99,7 +99,8 @@ pub(super) fn epoch(bytes: &[u8]) -> Result<(Option<u64>, &[u8]), ReadError>
 fn numbers(alloc: Global, first: u64, bytes: &[u8]) -> Result<(Vec<u64>, &[u8]), ReadError>
     ensures { Gives (λ found. (found.0.items, found.1.now)) result (with_front (first ∷ []) (numbers_at (length bytes.now) bytes.now)) }
 {
-    let mut numbers = Vec::new(alloc);
+    let dots = bytes.iter().filter(|byte| **byte == b'.').count();
+    let mut numbers = Vec::with_capacity(alloc, dots + 1)?;
     numbers.push(first)?;
     let mut rest = bytes;
     for _ in 0..bytes.len() {
