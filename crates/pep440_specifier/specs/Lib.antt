@@ -5,3 +5,4 @@ pub mod SpecifierOrder
 pub mod SpecifierText
 pub mod SpecifierReading
 pub mod SpecifierHash
+pub mod SpecifierErrorPrints

@@ -1,24 +1,18 @@
 -- What a hash is fed of a specifier, and that equal specifiers feed it alike.
-use Rattle.std.specs.Prelude.{◌≡◌, ℕ, true, List, [], ◌∷◌, refl}
+use Rattle.std.specs.Prelude.{◌≡◌, ℕ, true, List, [], ◌∷◌}
 use Rattle.std.proofs.Common.{ap}
 use Rattle.std.proofs.lemmas.Map.Lookups.{exact_bytes}
 use Rattle.std.specs.Cmp.{Equal-is}
-use Rattle.std.specs.declared.cmp.Ordering.{Ordering}
-use Rattle.std.specs.declared.cmp.Ordering.TheVariants.{Less, Equal, Greater}
-use Rattle.std.specs.Ordering.{ordering_then, nat_cmp, is_eq}
+use Rattle.std.specs.declared.cmp.Ordering.TheVariants.{Equal}
+use Rattle.std.specs.Ordering.{nat_cmp, is_eq}
 use Rattle.std.specs.Cmp.Lexicographic.{slice_cmp}
-use Rattle.pep440_version.specs.Order.{key_of, key_cmp, fed_key, same_key}
+use Rattle.pep440_version.specs.Order.{key_of, key_cmp, fed_key, same_key, then_equal}
 use Rattle.pep440_specifier.specs.Matching.{SpecifierRecord}
 use Rattle.pep440_specifier.specs.SpecifierOrder.{operator_rank, specifier_key, specifier_cmp, specifier_eq}
 
 -- what a hash is fed of a specifier: its key
 abbrev pub fed_specifier : SpecifierRecord → List (List ℕ)
 fed_specifier specifier = fed_key (specifier_key specifier)
-
-then_equal : (o p : Ordering) → ordering_then o p ≡ Equal → (o ≡ Equal) × (p ≡ Equal)
-then_equal Less p h = absurd (cc)
-then_equal Equal p h = (refl, h)
-then_equal Greater p h = absurd (cc)
 
 -- equal specifiers have one key
 pub same_specifier_key : (a b : SpecifierRecord) → specifier_eq a b ≡ true → specifier_key a ≡ specifier_key b

@@ -8,8 +8,6 @@ use Rattle.std.specs.String.{string_bytes}
 use Rattle.pep440_version.specs.Record.{PatternRecord}
 use Rattle.pep440_version.specs.Reading.{pattern_of, read_pattern}
 use Rattle.pep440_version.specs.ParseErrors.{RefusesPattern}
-use Rattle.pep440_version.specs.declared.parse_error.VersionParseError.TheVariants as versions
-use Rattle.pep440_version.specs.declared.parse_error.VersionPatternParseError.{VersionPatternParseError}
 use Rattle.pep440_version.specs.declared.parse_error.VersionPatternParseError.TheVariants as patterns
 use Rattle.pep440_specifier.specs.declared.operator.Operator.{Operator}
 use Rattle.pep440_specifier.specs.declared.operator.Operator.TheVariants.{Equal, ExactEqual, NotEqual, TildeEqual, LessThan, LessThanEqual, GreaterThan, GreaterThanEqual}
@@ -107,11 +105,6 @@ specifier_of text = result_ok (read_specifier text)
 
 -- ---- what is answered
 
--- an error of a pattern that is no want of memory
-abbrev pub IsNoMemory : VersionPatternParseError → Type 0
-IsNoMemory patterns.Memory = ⊥
-IsNoMemory (patterns.Version error) = error ≢ versions.Memory
-
 -- an error names the fault with which reading ends; want of memory says nothing and is never inside another error
 abbrev pub RefusesSpecifier : VersionSpecifierParseError → Result SpecifierRecord SpecifierFault → Type 0
 RefusesSpecifier errors.Memory read = Unit {0}
@@ -119,7 +112,7 @@ RefusesSpecifier errors.MissingOperator read = read ≡ Err MissingOperator
 RefusesSpecifier (errors.InvalidOperator operators.Memory) read = ⊥
 RefusesSpecifier (errors.InvalidOperator (operators.Unknown text)) read = read ≡ Err (InvalidOperator (string_bytes text))
 RefusesSpecifier errors.MissingVersion read = read ≡ Err MissingVersion
-RefusesSpecifier (errors.InvalidVersion error) read = (piece : List ℕ) × (read ≡ Err (InvalidVersion piece)) × IsNoMemory error × RefusesPattern error (read_pattern piece)
+RefusesSpecifier (errors.InvalidVersion error) read = (piece : List ℕ) × (read ≡ Err (InvalidVersion piece)) × (error ≢ patterns.Memory) × RefusesPattern error (read_pattern piece)
 RefusesSpecifier (errors.InvalidSpecifier error) read = read ≡ Err (InvalidSpecifier error)
 RefusesSpecifier (errors.InvalidTrailing text) read = read ≡ Err (InvalidTrailing (chars (string_bytes text)))
 

@@ -1,5 +1,8 @@
 //! Why an operator and a version make no specifier.
 
+ghost use Rattle.std.specs.Prelude.{Some};
+ghost use Rattle.pep440_specifier.specs.SpecifierErrorPrints.{build_error_text};
+
 use crate::Operator;
 use pep440_version::Version;
 use std::error::Error;
@@ -24,6 +27,8 @@ pub enum VersionSpecifierBuildError {
 }
 
 impl fmt::Display for VersionSpecifierBuildError {
+    ghost output = { λ error. Some (build_error_text error) };
+
     fn fmt<W: fmt::Write>(&self, f: &mut fmt::Formatter<W>) -> fmt::Result {
         match self {
             VersionSpecifierBuildError::Memory => write!(f, "out of memory"),

@@ -2,6 +2,7 @@
 
 ghost use Rattle.std.specs.Prelude.{◌≡◌, false, IfOk, Some};
 ghost use Rattle.pep440_specifier.specs.Building.{is_star, negated};
+ghost use Rattle.pep440_specifier.specs.SpecifierErrorPrints.{operator_error_text};
 ghost use Rattle.pep440_specifier.specs.SpecifierPrint.{operator_text};
 ghost use Rattle.pep440_specifier.specs.SpecifierReading.{ReadsOperator};
 
@@ -114,6 +115,8 @@ pub enum OperatorParseError {
 }
 
 impl fmt::Display for OperatorParseError {
+    ghost output = { λ error. Some (operator_error_text error) };
+
     fn fmt<W: fmt::Write>(&self, f: &mut fmt::Formatter<W>) -> fmt::Result {
         match self {
             OperatorParseError::Memory => write!(f, "out of memory"),

@@ -1,5 +1,8 @@
 //! Why a text is no specifier.
 
+ghost use Rattle.std.specs.Prelude.{Some};
+ghost use Rattle.pep440_specifier.specs.SpecifierErrorPrints.{specifier_error_text};
+
 use crate::{OperatorParseError, VersionSpecifierBuildError};
 use pep440_version::VersionPatternParseError;
 use std::error::Error;
@@ -25,6 +28,8 @@ pub enum VersionSpecifierParseError {
 }
 
 impl fmt::Display for VersionSpecifierParseError {
+    ghost output = { λ error. Some (specifier_error_text error) };
+
     fn fmt<W: fmt::Write>(&self, f: &mut fmt::Formatter<W>) -> fmt::Result {
         match self {
             VersionSpecifierParseError::Memory => write!(f, "out of memory"),

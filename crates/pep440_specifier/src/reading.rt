@@ -8,7 +8,7 @@ ghost use Rattle.pep440_specifier.specs.Building.{is_star, built_of_pattern};
 ghost use Rattle.pep440_specifier.specs.SpecifierReading.{cut_at, ends_operator, front_in, InvalidTrailing, built_before, behind_operator, read_specifier, AnswersSpecifier, RefusesSpecifier};
 
 use crate::{Operator, OperatorParseError, VersionSpecifier, VersionSpecifierParseError};
-use pep440_version::{VersionParseError, VersionPattern, VersionPatternParseError};
+use pep440_version::{VersionPattern, VersionPatternParseError};
 use std::alloc::Global;
 
 /// Whether no operator has this character.
@@ -102,10 +102,7 @@ fn read_behind_operator(
     };
     match VersionPattern::from_str(alloc, piece) {
         Ok(pattern) => build(alloc, operator, pattern, left),
-        Err(
-            VersionPatternParseError::Memory
-            | VersionPatternParseError::Version(VersionParseError::Memory),
-        ) => Err(VersionSpecifierParseError::Memory),
+        Err(VersionPatternParseError::Memory) => Err(VersionSpecifierParseError::Memory),
         Err(error) => Err(VersionSpecifierParseError::InvalidVersion(error)),
     }
 }

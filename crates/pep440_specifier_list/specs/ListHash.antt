@@ -4,9 +4,9 @@ use Rattle.std.proofs.Common.{ap}
 use Rattle.std.specs.Hash as fed
 use Rattle.std.specs.List.{flat_map}
 use Rattle.std.specs.Cmp.{Equal-is}
-use Rattle.std.specs.declared.cmp.Ordering.{Ordering}
-use Rattle.std.specs.declared.cmp.Ordering.TheVariants.{Less, Equal, Greater}
-use Rattle.std.specs.Ordering.{ordering_then, is_eq}
+use Rattle.std.specs.declared.cmp.Ordering.TheVariants.{Equal}
+use Rattle.std.specs.Ordering.{is_eq}
+use Rattle.pep440_version.specs.Order.{then_equal}
 use Rattle.pep440_specifier.specs.Matching.{SpecifierRecord}
 use Rattle.pep440_specifier.specs.SpecifierOrder.{specifier_cmp}
 use Rattle.pep440_specifier.specs.SpecifierHash.{fed_specifier, alike_specifiers}
@@ -18,11 +18,6 @@ fed_member member = fed.u8 1 ++ fed_specifier member
 
 abbrev pub fed_list : List SpecifierRecord → List (List ℕ)
 fed_list members = flat_map fed_member members ++ fed.u8 0
-
-then_equal : (o p : Ordering) → ordering_then o p ≡ Equal → (o ≡ Equal) × (p ≡ Equal)
-then_equal Less p h = absurd (cc)
-then_equal Equal p h = (refl, h)
-then_equal Greater p h = absurd (cc)
 
 members_alike : (a b : List SpecifierRecord) → list_cmp a b ≡ Equal → flat_map fed_member a ≡ flat_map fed_member b
 members_alike [] [] h = refl

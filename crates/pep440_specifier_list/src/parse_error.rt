@@ -1,7 +1,7 @@
 //! Why a text is no list of specifiers.
 
-ghost use Rattle.std.specs.Prelude.{◌≡◌};
-ghost use Rattle.pep440_specifier_list.specs.ListErrors.{line_of};
+ghost use Rattle.std.specs.Prelude.{◌≡◌, Some};
+ghost use Rattle.pep440_specifier_list.specs.ListErrors.{line_of, error_text};
 
 use pep440_specifier::VersionSpecifierParseError;
 use std::alloc::{AllocError, AllocFailed};
@@ -61,6 +61,8 @@ impl<T: Drop> From<AllocFailed<T>> for VersionSpecifiersParseError {
 }
 
 impl fmt::Display for VersionSpecifiersParseError {
+    ghost output = { λ error. Some (error_text error) };
+
     fn fmt<W: fmt::Write>(&self, f: &mut fmt::Formatter<W>) -> fmt::Result {
         match self {
             VersionSpecifiersParseError::Memory => write!(f, "out of memory"),

@@ -36,7 +36,7 @@ refuses text (errors.Fault fault) error read i e = refuses_fault text fault erro
 
 pub refuses_pattern : {Y : Type 0} (text : List ℕ) (found : ReadError) (error : VersionPatternParseError) (read : Result Y TextFault) → IsPatternErrorOf text found error → Fails found read → RefusesPattern error read
 refuses_pattern text found patterns.Memory read i e = tt
-refuses_pattern text found (patterns.Version error) read i e = refuses text found error read i.1 e
+refuses_pattern text found (patterns.Version error) read i e = (i.0, refuses text found error read i.1 e)
 
 shows_fault : {Y : Type 0} (text : List ℕ) (fault : TextFault) (error : VersionParseError) (read : Result Y TextFault) → IsErrorOf text fault error → read ≡ Err fault → Shows error text read
 shows_fault text fault Memory read i e = tt
@@ -76,9 +76,9 @@ lacks_named NoLeadingNumber found n l = l
 lacks_named LocalEmpty found n l = l
 lacks_named (UnexpectedEnd version remaining) found n l = l
 
-pub lacks_pattern : {Y : Type 0} (text : List ℕ) (found : ReadError) (error : VersionPatternParseError) (read : Result Y TextFault) → IsPatternErrorOf text found error → RefusesPattern error read → LacksPattern error (result_ok read)
-lacks_pattern text found patterns.Memory read i r = tt
-lacks_pattern text found (patterns.Version error) read i r = lacks_named error (result_ok read) i.0 (lacks error read r)
+pub lacks_pattern : {Y : Type 0} (error : VersionPatternParseError) (read : Result Y TextFault) → RefusesPattern error read → LacksPattern error (result_ok read)
+lacks_pattern patterns.Memory read r = tt
+lacks_pattern (patterns.Version error) read r = lacks_named error (result_ok read) r.0 (lacks error read r.1)
 
 -- ---- a star stands behind an epoch and a release alone
 

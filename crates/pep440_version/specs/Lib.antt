@@ -8,3 +8,4 @@ pub mod PatternOrder
 pub mod ParseErrors
 pub mod FaultTexts
 pub mod Values
+pub mod ErrorPrints

@@ -133,7 +133,8 @@ fed_numbers numbers = flat_map fed.u64 numbers ++ fed.u8 255
 abbrev pub fed_key : List (List ℕ) → List (List ℕ)
 fed_key = flat_map fed_numbers
 
-then_equal : (o p : Ordering) → ordering_then o p ≡ Equal → (o ≡ Equal) × (p ≡ Equal)
+-- one that follows another ties where both do
+pub then_equal : (o p : Ordering) → ordering_then o p ≡ Equal → (o ≡ Equal) × (p ≡ Equal)
 then_equal Less p h = absurd (cc)
 then_equal Equal p h = (refl, h)
 then_equal Greater p h = absurd (cc)

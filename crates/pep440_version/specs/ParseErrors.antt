@@ -1,5 +1,5 @@
 -- Which fault of a text an error names.
-use Rattle.std.specs.Prelude.{◌≡◌, ℕ, Option, Some, None, Result, Ok, Err}
+use Rattle.std.specs.Prelude.{◌≡◌, ◌≢◌, ℕ, Option, Some, None, Result, Ok, Err}
 use Rattle.pep440_text.specs.declared.FaultKind.{FaultKind}
 use Rattle.pep440_text.specs.declared.FaultKind.TheVariants as kinds
 use Rattle.pep440_text.specs.declared.TextFault.{TextFault}
@@ -21,9 +21,10 @@ Refuses NoLeadingNumber read = IsAt kinds.NoLeadingNumber read
 Refuses LocalEmpty read = IsAt kinds.LocalEmpty read
 Refuses (UnexpectedEnd version remaining) read = IsAt kinds.UnexpectedEnd read
 
+-- the same of a pattern; want of memory is never inside another error
 abbrev pub RefusesPattern : {Y : Type 0} → VersionPatternParseError → Result Y TextFault → Type 0
 RefusesPattern patterns.Memory read = Unit {0}
-RefusesPattern (patterns.Version error) read = Refuses error read
+RefusesPattern (patterns.Version error) read = (error ≢ Memory) × Refuses error read
 
 -- an error but want of memory says that there is nothing of this kind
 abbrev pub Lacks : {A : Type 0} → VersionParseError → Option A → Type 0

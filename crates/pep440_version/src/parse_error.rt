@@ -1,8 +1,9 @@
 //! Why a text is no version or no pattern.
 
-ghost use Rattle.std.specs.Prelude.{◌≡◌, IfOk};
+ghost use Rattle.std.specs.Prelude.{◌≡◌, IfOk, Some};
 ghost use Rattle.std.specs.String.{string_bytes};
 ghost use Rattle.pep440_text.specs.Reading.{leading_digits};
+ghost use Rattle.pep440_version.specs.ErrorPrints.{version_error_text, pattern_error_text};
 ghost use Rattle.pep440_version.specs.FaultTexts.{StandsIn, MayShow, IsErrorOf, IsReadErrorOf, IsPatternErrorOf};
 
 use pep440_text::{FaultKind, ReadError, TextFault};
@@ -58,6 +59,8 @@ impl<T: Drop> From<AllocFailed<T>> for VersionParseError {
 }
 
 impl fmt::Display for VersionParseError {
+    ghost output = { λ error. Some (version_error_text error) };
+
     fn fmt<W: fmt::Write>(&self, f: &mut fmt::Formatter<W>) -> fmt::Result {
         match self {
             VersionParseError::Memory => write!(f, "out of memory"),
@@ -74,10 +77,13 @@ impl fmt::Display for VersionParseError {
                 f,
                 "expected an alphanumeric ASCII segment after `+` or a separator"
             ),
-            VersionParseError::UnexpectedEnd { version, remaining } => write!(
-                f,
-                "after parsing `{version}`, found `{remaining}`, which is not part of a valid version"
-            ),
+            VersionParseError::UnexpectedEnd { version, remaining } => {
+                write!(f, "after parsing `{version}`, ")?;
+                write!(
+                    f,
+                    "found `{remaining}`, which is not part of a valid version"
+                )
+            }
         }
     }
 }
@@ -147,6 +153,8 @@ pub enum VersionPatternParseError {
 }
 
 impl fmt::Display for VersionPatternParseError {
+    ghost output = { λ error. Some (pattern_error_text error) };
+
     fn fmt<W: fmt::Write>(&self, f: &mut fmt::Formatter<W>) -> fmt::Result {
         match self {
             VersionPatternParseError::Memory => write!(f, "out of memory"),

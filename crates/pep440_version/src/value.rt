@@ -5,6 +5,7 @@ ghost use Rattle.serde_json.specs.View.{view};
 ghost use Rattle.serde_json.specs.Find.{as_str};
 ghost use Rattle.pep440_text.specs.Print.{version_text};
 ghost use Rattle.pep440_text.specs.Reading.{read_version, version_of};
+ghost use Rattle.pep440_version.specs.ErrorPrints.{value_error_text};
 ghost use Rattle.pep440_version.specs.ParseErrors.{Reads, Refuses};
 ghost use Rattle.pep440_version.specs.Values.{ReadsText};
 
@@ -24,6 +25,8 @@ pub enum FromValueError<E: Drop> {
 }
 
 impl<E: fmt::Display + Drop> fmt::Display for FromValueError<E> {
+    ghost output = { value_error_text E.output };
+
     fn fmt<W: fmt::Write>(&self, f: &mut fmt::Formatter<W>) -> fmt::Result {
         match self {
             FromValueError::Shape => write!(f, "expected a text"),

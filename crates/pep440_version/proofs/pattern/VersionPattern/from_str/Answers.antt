@@ -19,7 +19,7 @@ pub returns-in-Err-clause-pattern : goal.returns-in-Err-clause-pattern
 unfolding pattern_of
 returns-in-Err-clause-pattern c =
     let fails : Fails c.in-Err.error (read_pattern c.args.text.now) = rw c.as_bytes.ensures.value at c.in-Err.ensures in
-    lacks_pattern _ _ _ _ c.of_reading.ensures (refuses_pattern _ _ _ _ c.of_reading.ensures fails)
+    lacks_pattern _ _ (refuses_pattern _ _ _ _ c.of_reading.ensures fails)
 
 pub returns-in-Err-clause-fault : goal.returns-in-Err-clause-fault
 returns-in-Err-clause-fault c =
