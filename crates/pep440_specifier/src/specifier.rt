@@ -190,7 +190,8 @@ impl VersionSpecifier {
 
     /// The operator and the version.
     pub fn into_parts(self) -> (Operator, Version)
-        ensures { result ≡ (self.operator, self.version) }
+        ensures parts { result ≡ (self.operator, self.version) }
+        ensures built { IsBuilt self }
     {
         (self.operator, self.version)
     }

@@ -1,6 +1,6 @@
 //! Reading the text of a version, from its front on.
 
-ghost use Rattle.std.specs.Prelude.{◌≡◌, length};
+ghost use Rattle.std.specs.Prelude.{◌≡◌, ◌<◌, length, IfOk};
 ghost use Rattle.pep440_text.specs.declared.ReadError.TheVariants as errors;
 ghost use Rattle.pep440_text.specs.Record.{PatternRecord, epoch_record, said};
 ghost use Rattle.pep440_text.specs.Reading.{Gives, after_white, after_v, head_at, end_at, suffixed, is_star, read_version, read_pattern};
@@ -55,7 +55,8 @@ fn skip_v(bytes: &[u8]) -> &[u8]
 /// White space, `v`, the epoch and the release, and what follows them.
 #[tactic(auto, unfolding(crate::specs::Reading::head_at))]
 fn read_head(alloc: Global, bytes: &[u8]) -> Result<(Head, &[u8]), ReadError>
-    ensures { Gives (λ found. ((found.0.epoch, found.0.release.items), found.1.now)) result (head_at bytes.now) }
+    ensures head { Gives (λ found. ((found.0.epoch, found.0.release.items), found.1.now)) result (head_at bytes.now) }
+    ensures numbers { IfOk result (λ found. 0 < length found.0.release.items) }
 {
     let (epoch, behind) = number::epoch(skip_v(skip_white(bytes)))?;
     let (release, rest) = number::release(alloc, behind)?;
@@ -80,7 +81,8 @@ fn end(bytes: &[u8]) -> Result<(), ReadError>
 
 /// The version of an epoch and a release alone.
 fn plain(alloc: Global, head: Head) -> VersionParts
-    ensures { said result ≡ epoch_record head.epoch head.release.items }
+    ensures parts { said result ≡ epoch_record head.epoch head.release.items }
+    ensures release { result.release.items ≡ head.release.items }
 {
     VersionParts {
         epoch: head.epoch,
@@ -95,7 +97,8 @@ fn plain(alloc: Global, head: Head) -> VersionParts
 /// The version of an epoch, a release and the parts behind them. Most versions have none, so that is looked at first.
 #[tactic(auto, using(crate::proofs::White::nothing_behind), unfolding(crate::specs::Reading::suffixed))]
 fn suffixed(alloc: Global, head: Head, bytes: &[u8]) -> Result<VersionParts, ReadError>
-    ensures { Gives said result (suffixed (head.epoch, head.release.items) bytes.now) }
+    ensures parts { Gives said result (suffixed (head.epoch, head.release.items) bytes.now) }
+    ensures release { IfOk result (λ parts. parts.release.items ≡ head.release.items) }
 {
     if bytes.is_empty() {
         return Ok(plain(alloc, head));
@@ -134,7 +137,8 @@ fn is_star(bytes: &[u8]) -> bool
 /// Goes through the text a fixed number of times, and takes memory for release and local part. The error names the first fault from the left.
 #[tactic(auto, unfolding(crate::specs::Reading::read_version))]
 pub fn read_version(alloc: Global, text: &[u8]) -> Result<VersionParts, ReadError>
-    ensures { Gives said result (read_version text.now) }
+    ensures parts { Gives said result (read_version text.now) }
+    ensures numbers { IfOk result (λ parts. 0 < length parts.release.items) }
 {
     let (head, rest) = read_head(alloc, text)?;
     if is_star(rest) {
@@ -148,7 +152,8 @@ pub fn read_version(alloc: Global, text: &[u8]) -> Result<VersionParts, ReadErro
 /// Costs and faults are those of `read_version`.
 #[tactic(auto, unfolding(crate::specs::Reading::read_pattern))]
 pub fn read_pattern(alloc: Global, text: &[u8]) -> Result<(VersionParts, bool), ReadError>
-    ensures { Gives (λ found. record { version = said found.0; wildcard = found.1 }) result (read_pattern text.now) }
+    ensures parts { Gives (λ found. record { version = said found.0; wildcard = found.1 }) result (read_pattern text.now) }
+    ensures numbers { IfOk result (λ found. 0 < length found.0.release.items) }
 {
     let (head, rest) = read_head(alloc, text)?;
     if is_star(rest) {

@@ -8,6 +8,7 @@ mod ordering;
 mod parse_error;
 mod pattern;
 mod print;
+mod range_value;
 mod setters;
 mod value;
 mod version;

@@ -35,6 +35,8 @@ impl Model for Version {
     ghost Value = { VersionRecord };
 
     ghost view = { λ v. record { epoch = v.epoch; release = v.release.items; pre = v.pre; post = v.post; dev = v.dev; local = map segment_of v.local.items; least = v.least; most = v.most } };
+
+    ghost invariant = { λ v. 0 < length v.release.items };
 }
 
 impl Version {
@@ -64,6 +66,7 @@ impl Version {
 
     /// The version whose parts a text says.
     pub(crate) fn of_parts(parts: VersionParts) -> Version
+        requires { 0 < length parts.release.items }
         ensures { result ≡ said parts }
     {
         Version {
@@ -79,6 +82,7 @@ impl Version {
     }
 
     pub(crate) fn of_release(alloc: Global, release: Vec<u64>) -> Version
+        requires { 0 < length release.items }
         ensures { result ≡ release_record release.items }
     {
         Version {
@@ -118,7 +122,8 @@ impl Version {
 
     /// The release numbers, with the zeros at their end that were given (PEP 440, "Final releases").
     pub fn release(&self) -> &[u64]
-        ensures { result.now ≡ self.now.release }
+        ensures numbers { result.now ≡ self.now.release }
+        ensures some { 0 < length self.now.release }
     {
         &self.release
     }

@@ -1,6 +1,6 @@
 //! Numbers, and numbers with dots between them.
 
-ghost use Rattle.std.specs.Prelude.{◌≡◌, ◌<◌, ◌^◌, nat_lt, if◌then◌else◌, [], ◌∷◌, length, Some, None};
+ghost use Rattle.std.specs.Prelude.{◌≡◌, ◌<◌, ◌^◌, nat_lt, if◌then◌else◌, [], ◌∷◌, length, Some, None, IfOk};
 ghost use Rattle.std.specs.Str.Parse.{AllDigits, digits_value};
 ghost use Rattle.pep440_text.specs.Reading.{Gives, leading_digits, behind_digits, number_of, number_at, marked_number_at, epoch_at, with_front, numbers_at, release_at};
 
@@ -119,7 +119,8 @@ fn numbers(alloc: Global, first: u64, bytes: &[u8]) -> Result<(Vec<u64>, &[u8]),
 /// The numbers of a release.
 #[tactic(auto, unfolding(crate::specs::Reading::release_at))]
 pub(super) fn release(alloc: Global, bytes: &[u8]) -> Result<(Vec<u64>, &[u8]), ReadError>
-    ensures { Gives (λ found. (found.0.items, found.1.now)) result (release_at bytes.now) }
+    ensures release { Gives (λ found. (found.0.items, found.1.now)) result (release_at bytes.now) }
+    ensures numbers { IfOk result (λ found. 0 < length found.0.items) }
 {
     let (first, rest) = number(bytes)?;
     match first {

@@ -1,0 +1,4 @@
+pub mod Numbers
+pub mod Ranges
+pub mod ErrorPrint
+pub mod Agreement

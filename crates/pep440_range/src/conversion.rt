@@ -1,0 +1,123 @@
+//! The ranges of PEP 440.
+
+ghost use Rattle.std.specs.Prelude.{◌≡◌, ◌<◌, ◌≤◌, length, map, IfOk};
+ghost use Rattle.pep440_range.specs.Ranges.{Gives, GivesAll, range_of, range_by, first_of, star_range, compatible_range, greater_range, end_of_less};
+
+use crate::numbers::{last_raised, raised};
+use crate::{RangeError, sets};
+use pep440_specifier::{Operator, VersionSpecifier};
+use pep440_specifier_list::VersionSpecifiers;
+use pep440_version::Version;
+use std::alloc::{AllocError, Global};
+use version_ranges::Ranges;
+
+/// The range of a specifier (PEP 440, "Version specifiers"), with the bounds that `range_of` names; `NumberAtEnd` where
+/// a number of a bound would have to be greater than `u64::MAX`.
+///
+/// Goes a fixed number of times through the version. Takes memory for the bounds.
+pub fn specifier_to_range(
+    alloc: Global,
+    specifier: VersionSpecifier,
+) -> Result<Ranges<Version>, RangeError>
+    ensures { Gives result (range_of specifier) }
+{
+    let (operator, version) = specifier.into_parts();
+    range_by(alloc, operator, version)
+}
+
+/// The range of an operator and a version.
+fn range_by(
+    alloc: Global,
+    operator: Operator,
+    version: Version,
+) -> Result<Ranges<Version>, RangeError>
+    requires { operator ≡ Operator.TildeEqual → 2 ≤ length version.release }
+    ensures { Gives result (range_by operator version) }
+{
+    match operator {
+        Operator::Equal | Operator::ExactEqual => sets::point(alloc, version),
+        Operator::EqualStar => star_range(alloc, &version),
+        Operator::NotEqual => sets::all_but(alloc, sets::point(alloc, version)),
+        Operator::NotEqualStar => sets::all_but(alloc, star_range(alloc, &version)),
+        Operator::TildeEqual => compatible_range(alloc, version),
+        Operator::LessThan => sets::below(alloc, end_of_less(version)),
+        Operator::LessThanEqual => sets::to(alloc, version),
+        Operator::GreaterThan => greater_range(alloc, version),
+        Operator::GreaterThanEqual => sets::from(alloc, version),
+    }
+}
+
+/// What is in the ranges of all members.
+///
+/// Each member's range is cut with what the members before it left, in one pass over both.
+pub fn specifiers_to_range(
+    alloc: Global,
+    specifiers: VersionSpecifiers,
+) -> Result<Ranges<Version>, RangeError>
+    ensures { GivesAll result (map range_of specifiers) }
+{
+    let mut range = Ranges::full(alloc)?;
+    for specifier in specifiers.into_iter() {
+        range = range.intersection(alloc, &specifier_to_range(alloc, specifier)?)?;
+    }
+    Ok(range)
+}
+
+/// The first developmental release of an epoch and release numbers.
+fn first_of(alloc: Global, epoch: u64, numbers: &[u64]) -> Result<Version, AllocError>
+    requires { 0 < length numbers.now }
+    ensures { IfOk result (λ version. version ≡ first_of epoch numbers.now) }
+{
+    Ok(
+        Version::new(alloc, numbers)?
+            .with_epoch(epoch)
+            .with_dev(Some(0)),
+    )
+}
+
+/// What begins with a version's epoch and release.
+fn star_range(alloc: Global, version: &Version) -> Result<Ranges<Version>, RangeError>
+    ensures { Gives result (star_range version.now) }
+{
+    let end = last_raised(alloc, version.release())?;
+    let end = first_of(alloc, version.epoch(), &end)?;
+    let first = first_of(alloc, version.epoch(), version.release())?;
+    sets::up_to(alloc, first, end)
+}
+
+/// The version and what comes behind it, as far as its release numbers but the last are kept.
+fn compatible_range(alloc: Global, version: Version) -> Result<Ranges<Version>, RangeError>
+    requires { 2 ≤ length version.release }
+    ensures { Gives result (compatible_range version) }
+{
+    let release = version.release();
+    let end = last_raised(alloc, &release[..release.len() - 1])?;
+    let end = first_of(alloc, version.epoch(), &end)?;
+    sets::up_to(alloc, version, end)
+}
+
+/// The version before which everything lies that is less than this one.
+fn end_of_less(version: Version) -> Version
+    ensures { result ≡ end_of_less version }
+{
+    if version.any_prerelease() {
+        version
+    } else {
+        version.with_min(Some(0))
+    }
+}
+
+/// What is greater than a version.
+fn greater_range(alloc: Global, version: Version) -> Result<Ranges<Version>, RangeError>
+    ensures { Gives result (greater_range version version.dev version.post) }
+{
+    if let Some(dev) = version.dev() {
+        let next = version.with_dev(Some(raised(dev)?));
+        return sets::from(alloc, next);
+    }
+    if let Some(post) = version.post() {
+        let next = version.with_post(Some(raised(post)?));
+        return sets::from(alloc, next);
+    }
+    sets::above(alloc, version.with_max(Some(0)))
+}

@@ -1,0 +1,33 @@
+//! Release numbers that are raised by one.
+
+ghost use Rattle.std.specs.Prelude.{◌<◌, length, IfOk};
+ghost use Rattle.pep440_range.specs.Numbers.{Raises, raised, last_raised};
+
+use crate::RangeError;
+use std::alloc::Global;
+
+/// One more, where 64 bits hold it.
+pub(crate) fn raised(number: u64) -> Result<u64, RangeError>
+    ensures { Raises (λ next. next) result (raised number) }
+{
+    number.checked_add(1).ok_or(RangeError::NumberAtEnd)
+}
+
+/// The numbers, the last of them raised. Takes memory for them.
+pub(crate) fn last_raised(alloc: Global, numbers: &[u64]) -> Result<Vec<u64>, RangeError>
+    requires { 0 < length numbers.now }
+    ensures numbers { Raises (λ numbers. numbers.items) result (last_raised numbers.now) }
+    ensures some { IfOk result (λ raised. 0 < length raised.items) }
+{
+    let mut copy = Vec::with_capacity(alloc, numbers.len())?;
+    let Some((last, front)) = numbers.split_last() else {
+        return Ok(copy);
+    };
+    let next = match raised(*last) {
+        Ok(next) => next,
+        Err(error) => return Err(error),
+    };
+    copy.extend_from_slice(front)?;
+    copy.push(next)?;
+    Ok(copy)
+}

@@ -1,0 +1,88 @@
+//! The ranges among releases alone: epochs, suffixes and local parts are dropped.
+
+ghost use Rattle.std.specs.Prelude.{◌≡◌, ◌<◌, ◌≤◌, length, map, IfOk};
+ghost use Rattle.pep440_version.specs.Record.{release_record};
+ghost use Rattle.pep440_range.specs.Ranges.{Gives, GivesAll, release_range_of, release_range_by, star_releases, compatible_releases};
+
+use crate::numbers::last_raised;
+use crate::{RangeError, sets};
+use pep440_specifier::{Operator, VersionSpecifier};
+use pep440_specifier_list::VersionSpecifiers;
+use pep440_version::Version;
+use std::alloc::Global;
+use version_ranges::Ranges;
+
+/// The range of a specifier among releases, as markers compare the versions of an interpreter: of its version the
+/// release alone counts, and the bounds are plain.
+///
+/// Goes a fixed number of times through the version. Takes memory for the bounds.
+pub fn release_specifier_to_range(
+    alloc: Global,
+    specifier: VersionSpecifier,
+) -> Result<Ranges<Version>, RangeError>
+    ensures { Gives result (release_range_of specifier) }
+{
+    let (operator, version) = specifier.into_parts();
+    release_range_by(alloc, operator, version.only_release(alloc)?)
+}
+
+/// The range of an operator and a release.
+fn release_range_by(
+    alloc: Global,
+    operator: Operator,
+    release: Version,
+) -> Result<Ranges<Version>, RangeError>
+    requires plain { release ≡ release_record release.release }
+    requires numbers { operator ≡ Operator.TildeEqual → 2 ≤ length release.release }
+    ensures { Gives result (release_range_by operator release.release) }
+{
+    match operator {
+        Operator::Equal | Operator::ExactEqual => sets::point(alloc, release),
+        Operator::EqualStar => star_releases(alloc, release),
+        Operator::NotEqual => sets::all_but(alloc, sets::point(alloc, release)),
+        Operator::NotEqualStar => sets::all_but(alloc, star_releases(alloc, release)),
+        Operator::TildeEqual => compatible_releases(alloc, release),
+        Operator::LessThan => sets::below(alloc, release),
+        Operator::LessThanEqual => sets::to(alloc, release),
+        Operator::GreaterThan => sets::above(alloc, release),
+        Operator::GreaterThanEqual => sets::from(alloc, release),
+    }
+}
+
+/// What is in the ranges among releases of all members.
+///
+/// Each member's range is cut with what the members before it left, in one pass over both.
+pub fn release_specifiers_to_ranges(
+    alloc: Global,
+    specifiers: VersionSpecifiers,
+) -> Result<Ranges<Version>, RangeError>
+    ensures { GivesAll result (map release_range_of specifiers) }
+{
+    let mut range = Ranges::full(alloc)?;
+    for specifier in specifiers.into_iter() {
+        range = range.intersection(alloc, &release_specifier_to_range(alloc, specifier)?)?;
+    }
+    Ok(range)
+}
+
+/// The releases that begin with this one.
+fn star_releases(alloc: Global, release: Version) -> Result<Ranges<Version>, RangeError>
+    requires { release ≡ release_record release.release }
+    ensures { Gives result (star_releases release.release) }
+{
+    let end = last_raised(alloc, release.release())?;
+    let end = Version::new(alloc, &end)?;
+    sets::up_to(alloc, release, end)
+}
+
+/// The release and those behind it, as far as its numbers but the last are kept.
+fn compatible_releases(alloc: Global, release: Version) -> Result<Ranges<Version>, RangeError>
+    requires plain { release ≡ release_record release.release }
+    requires numbers { 2 ≤ length release.release }
+    ensures { Gives result (compatible_releases release.release) }
+{
+    let numbers = release.release();
+    let end = last_raised(alloc, &numbers[..numbers.len() - 1])?;
+    let end = Version::new(alloc, &end)?;
+    sets::up_to(alloc, release, end)
+}

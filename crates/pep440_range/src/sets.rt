@@ -1,0 +1,72 @@
+//! The sets that ranges are made of, with the error of ranges.
+
+ghost use Rattle.std.specs.Prelude.{Option, Some, Ok};
+ghost use Rattle.std.specs.Option.{option_map};
+ghost use Rattle.std.specs.declared.ops.Bound.TheVariants.{Included, Excluded};
+ghost use Rattle.pep440_range.specs.Ranges.{PointTest, Gives, all_but, at_version, from_bound, to_bound, up_to};
+
+use crate::RangeError;
+use pep440_version::Version;
+use std::alloc::Global;
+use std::ops::Bound;
+use version_ranges::Ranges;
+
+/// The point at a version.
+pub(crate) fn point(alloc: Global, version: Version) -> Result<Ranges<Version>, RangeError>
+    ensures { Gives result (Some (at_version version)) }
+{
+    Ok(Ranges::singleton(alloc, version)?)
+}
+
+/// The version and what comes behind it.
+pub(crate) fn from(alloc: Global, version: Version) -> Result<Ranges<Version>, RangeError>
+    ensures { Gives result (Some (from_bound (Included version))) }
+{
+    Ok(Ranges::higher_than(alloc, version)?)
+}
+
+/// What comes behind a version.
+pub(crate) fn above(alloc: Global, version: Version) -> Result<Ranges<Version>, RangeError>
+    ensures { Gives result (Some (from_bound (Excluded version))) }
+{
+    Ok(Ranges::strictly_higher_than(alloc, version)?)
+}
+
+/// The version and what comes before it.
+pub(crate) fn to(alloc: Global, version: Version) -> Result<Ranges<Version>, RangeError>
+    ensures { Gives result (Some (to_bound (Included version))) }
+{
+    Ok(Ranges::lower_than(alloc, version)?)
+}
+
+/// What comes before a version.
+pub(crate) fn below(alloc: Global, version: Version) -> Result<Ranges<Version>, RangeError>
+    ensures { Gives result (Some (to_bound (Excluded version))) }
+{
+    Ok(Ranges::strictly_lower_than(alloc, version)?)
+}
+
+/// A version and what comes behind it, as far as another version.
+pub(crate) fn up_to(
+    alloc: Global,
+    first: Version,
+    end: Version,
+) -> Result<Ranges<Version>, RangeError>
+    ensures { Gives result (Some (up_to first end)) }
+{
+    let bounds = (Bound::Included(first), Bound::Excluded(end));
+    Ok(Ranges::from_range_bounds(alloc, bounds)?)
+}
+
+/// What a range does not hold.
+pub(crate) fn all_but(
+    alloc: Global,
+    range: Result<Ranges<Version>, RangeError>,
+) -> Result<Ranges<Version>, RangeError>
+    ensures { (wanted : Option PointTest) → Gives range wanted → Gives result (option_map all_but wanted) }
+{
+    match range {
+        Ok(range) => Ok(range.complement(alloc)?),
+        Err(error) => Err(error),
+    }
+}
