@@ -1,5 +1,5 @@
 -- The rest of a set of points.
-use Rattle.std.proofs.Common.{◌≡◌, ◌∙◌, true, not, List, Option, Some, None, Ok, refl, ap}
+use Rattle.std.proofs.Common.{◌≡◌, ◌∙◌, not, List, Option, Some, None, Ok, refl, ap}
 use Rattle.std.specs.Option.{option_map}
 use Rattle.version_ranges.specs.Point.{Point}
 use Rattle.version_ranges.specs.Held.{holds_at}

@@ -1,5 +1,5 @@
 -- A set that is cut with one range after another.
-use Rattle.std.proofs.Common.{◌≡◌, ◌∙◌, Bool, true, false, ◌&&◌, List, [], ◌∷◌, map, Option, Ok, refl, ap, sym}
+use Rattle.std.proofs.Common.{◌≡◌, ◌∙◌, Bool, true, false, ◌&&◌, List, ◌∷◌, map, Option, Ok, refl, ap, sym}
 use Rattle.std.specs.Option.{is_some}
 use Rattle.std.specs.List.{list_all}
 use Rattle.version_ranges.specs.Point.{Point}

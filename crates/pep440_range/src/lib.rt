@@ -13,3 +13,6 @@ mod sets;
 pub use conversion::{specifier_to_range, specifiers_to_range};
 pub use range_error::RangeError;
 pub use releases::{release_specifier_to_range, release_specifiers_to_ranges};
+
+#[cfg(test)]
+mod tests;

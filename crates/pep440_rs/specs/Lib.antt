@@ -24,3 +24,9 @@ pub use Rattle.pep440_specifier_list.specs.Refusals
 pub use Rattle.pep440_specifier_list.specs.ListReading
 pub use Rattle.pep440_specifier_list.specs.ListErrors
 pub use Rattle.pep440_specifier_list.specs.Pieces
+pub use Rattle.pep440_range.specs.Numbers
+pub use Rattle.pep440_range.specs.Ranges
+pub use Rattle.pep440_range.specs.Agreement
+pub use Rattle.pep440_range.specs.ErrorPrint
+pub use Rattle.pep440_specifier.specs.Bounds
+pub use Rattle.pep440_specifier_list.specs.ListBounds

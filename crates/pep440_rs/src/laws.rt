@@ -1,5 +1,6 @@
 //! The laws of the crates below.
 
+pub use pep440_range::laws::ranges_agree_with_matching;
 pub use pep440_specifier::laws::{
     exclusion_is_the_rest, operator_text_is_read, specifier_text_is_read, text_has_one_specifier,
 };

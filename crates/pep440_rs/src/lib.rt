@@ -5,8 +5,12 @@
 
 pub mod laws;
 
+pub use pep440_range::{
+    RangeError, release_specifier_to_range, release_specifiers_to_ranges, specifier_to_range,
+    specifiers_to_range,
+};
 pub use pep440_specifier::{
-    Operator, OperatorParseError, VersionSpecifier, VersionSpecifierBuildError,
+    BoundError, Operator, OperatorParseError, VersionSpecifier, VersionSpecifierBuildError,
     VersionSpecifierParseError,
 };
 pub use pep440_specifier_list::{

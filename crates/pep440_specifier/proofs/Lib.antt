@@ -2,3 +2,4 @@ pub mod Fronts
 pub mod Grammar
 pub mod Operators
 pub mod PatternTexts
+pub mod NextMinor

@@ -6,3 +6,4 @@ pub mod SpecifierText
 pub mod SpecifierReading
 pub mod SpecifierHash
 pub mod SpecifierErrorPrints
+pub mod Bounds

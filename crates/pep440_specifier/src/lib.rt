@@ -3,6 +3,7 @@
 //! Contracts see a `VersionSpecifier` as a `SpecifierRecord`.
 #![tactic(auto)]
 
+mod bounds;
 mod build_error;
 pub mod laws;
 mod matching;
@@ -13,10 +14,13 @@ mod reading;
 mod specifier;
 mod value;
 
+pub use bounds::{BoundError, is_next_minor};
 pub use build_error::VersionSpecifierBuildError;
 pub use operator::{Operator, OperatorParseError};
 pub use parse_error::VersionSpecifierParseError;
 pub use specifier::VersionSpecifier;
 
+#[cfg(test)]
+mod bounds_tests;
 #[cfg(test)]
 mod tests;

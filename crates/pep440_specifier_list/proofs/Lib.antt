@@ -4,3 +4,4 @@ pub mod Pieces
 pub mod Whole
 pub mod Commas
 pub mod Grammar
+pub mod ListBounds

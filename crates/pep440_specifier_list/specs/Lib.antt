@@ -5,5 +5,6 @@ pub mod ListOrder
 pub mod ListHash
 pub mod Refusals
 pub mod ListReading
+pub mod ListBounds
 pub mod ListErrors
 pub mod Pieces

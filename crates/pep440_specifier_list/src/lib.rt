@@ -4,6 +4,7 @@
 #![tactic(auto)]
 
 mod asking;
+mod bounds;
 mod counted;
 pub mod laws;
 mod ordering;
@@ -17,5 +18,7 @@ pub use counted::CountedSpecifiers;
 pub use parse_error::VersionSpecifiersParseError;
 pub use specifiers::VersionSpecifiers;
 
+#[cfg(test)]
+mod bounds_tests;
 #[cfg(test)]
 mod tests;
