@@ -1,0 +1,1 @@
+//! Specifiers to sets of versions and back.

@@ -1,0 +1,1 @@
+//! Interval sets, on texts and on a type whose equality leaves a field out.

@@ -1,0 +1,1 @@
+//! Specifiers and their operators.

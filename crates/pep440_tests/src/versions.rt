@@ -1,0 +1,1 @@
+//! Versions, patterns and their errors.

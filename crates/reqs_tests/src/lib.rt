@@ -1,0 +1,9 @@
+//! Tests of the public calls of requirement and candidate lists, the judge and the commands: what no contract says of them.
+#![tactic(auto)]
+
+#[cfg(test)]
+mod checks;
+#[cfg(test)]
+mod ends;
+#[cfg(test)]
+mod lists;

@@ -1,0 +1,1 @@
+//! Requirement and candidate lists.
