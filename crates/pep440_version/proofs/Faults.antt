@@ -1,9 +1,7 @@
 -- What an error tells of the outcome of reading.
-use Rattle.std.proofs.Common.{◌≡◌, ◌≢◌, ℕ, List, Option, Some, None, Result, Ok, Err, ap, sym, ◌∙◌}
+use Rattle.std.proofs.Common.{◌≡◌, ◌≢◌, ℕ, List, Option, Some, None, Result, Ok, Err, refl, ap, sym, ◌∙◌}
 use Rattle.std.specs.Prelude.{IfSome}
 use Rattle.std.specs.Option.{option_map}
-use Rattle.std.specs.Result.{result_ok}
-use Rattle.std.specs.Str.{IsUtf8}
 use Rattle.read_outcome.specs.Outcome.{Tells}
 use Rattle.pep440_text.specs.declared.FaultKind.{FaultKind}
 use Rattle.pep440_text.specs.declared.FaultKind.TheVariants as kinds
@@ -38,20 +36,21 @@ only_this kinds.NoLeadingNumber before rest e = cc
 only_this kinds.LocalEmpty before rest e = absurd (cc)
 only_this kinds.UnexpectedEnd before rest e = absurd (cc)
 
+abbrev refused : (Y : Type 0) → FaultKind → ℕ → Result Y TextFault
+refused Y kind left = Err (record { kind = kind; left = left })
+
+has_kind : (Y : Type 0) (fault : TextFault) → HasNumber (refused Y fault.kind fault.left) → fault.kind ≢ kinds.NoLeadingNumber
+has_kind Y fault h = λ k. h fault.left (ap (λ (kind : FaultKind). refused Y kind fault.left) k)
+
 -- want of memory comes where a number was read
 pub grows : {Y : Type 0} (text : List ℕ) (error : ReadError) (read : Result Y TextFault) → (error ≡ errors.Memory → HasNumber read)
     → Tells (told_read error) read → IfSome (told_read error) (λ fault. fault.kind ≢ kinds.NoLeadingNumber)
     → with_texts text read ≢ Err NoLeadingNumber
 grows text error (Ok x) h e k = λ f. cc
-grows text errors.Memory (Err fault) h e k = λ f.
-    let kind : fault.kind ≡ kinds.NoLeadingNumber = only_this fault.kind _ _ (cc) in
-    h cc fault.left (ap (λ (x : FaultKind). Err (record { kind = x; left = fault.left })) kind)
+grows {Y} text errors.Memory (Err fault) h e k = λ f.
+    let named : fault_in text fault ≡ NoLeadingNumber = cc in
+    has_kind Y fault (h refl) (only_this fault.kind _ _ named)
 grows text (errors.Fault other) (Err fault) h e k = λ f.
     let same : fault ≡ other = cc in
-    k (ap (λ (x : TextFault). x.kind) (sym same) ∙ only_this fault.kind _ _ (cc))
-
--- ---- the same as a version, if there is one
-
-pub same_value : {Y : Type 0} (text : List ℕ) (read : Result Y TextFault) → result_ok (with_texts text read) ≡ result_ok read
-same_value text (Ok x) = cc
-same_value text (Err fault) = cc
+    let named : fault_in text fault ≡ NoLeadingNumber = cc in
+    k (ap (λ (x : TextFault). x.kind) (sym same) ∙ only_this fault.kind _ _ named)

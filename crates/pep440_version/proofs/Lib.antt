@@ -3,3 +3,4 @@ pub mod Joined
 pub mod Padded
 pub mod Faults
 pub mod Stars
+pub mod Found

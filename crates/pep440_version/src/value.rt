@@ -6,8 +6,7 @@ ghost use Rattle.serde_json.specs.Find.{as_str};
 ghost use Rattle.pep440_text.specs.Print.{version_text};
 ghost use Rattle.read_outcome.specs.Outcome.{Answers, ReadsText};
 ghost use Rattle.pep440_version.specs.declared.parse_error.VersionParseError.TheVariants as errors;
-ghost use Rattle.pep440_version.specs.VersionReading.{version_reading, told_version};
-ghost use Rattle.pep440_version.specs.VersionReading.VersionFault as faults;
+ghost use Rattle.pep440_version.specs.VersionReading.{NoLeadingNumber, version_reading, told_version};
 
 use crate::{FromValueError, Version, VersionParseError};
 use serde_json::Value;
@@ -26,14 +25,17 @@ impl Version {
         alloc: Global,
         value: &Value,
     ) -> Result<Version, FromValueError<VersionParseError>>
-        ensures read { ReadsText (λ text read. Answers (λ version. version) told_version read (version_reading text))
+        ensures answered { ReadsText (λ text read. Answers (λ version. version) told_version read (version_reading text))
             (as_str (view value.now)) result }
-        ensures grown { ReadsText (λ text read. read ≡ Err errors.Memory → version_reading text ≢ Err faults.NoLeadingNumber)
+        ensures grown { ReadsText (λ text read. read ≡ Err errors.Memory → version_reading text ≢ Err NoLeadingNumber)
             (as_str (view value.now)) result }
     {
         let Some(text) = value.as_str() else {
             return Err(FromValueError::Shape);
         };
-        Version::from_str(alloc, text).map_err(FromValueError::Text)
+        match Version::from_str(alloc, text) {
+            Ok(version) => Ok(version),
+            Err(error) => Err(FromValueError::Text(error)),
+        }
     }
 }

@@ -4,8 +4,7 @@ ghost use Rattle.std.specs.Prelude.{◌≡◌, ◌≢◌, ◌<◌, length, map, 
 ghost use Rattle.pep440_text.specs.Record.{VersionRecord, release_record, said, segment_of};
 ghost use Rattle.read_outcome.specs.Outcome.{Answers};
 ghost use Rattle.pep440_version.specs.declared.parse_error.VersionParseError.TheVariants as errors;
-ghost use Rattle.pep440_version.specs.VersionReading.{version_reading, told_version};
-ghost use Rattle.pep440_version.specs.VersionReading.VersionFault as faults;
+ghost use Rattle.pep440_version.specs.VersionReading.{NoLeadingNumber, version_reading, told_version};
 ghost use Rattle.pep440_version.specs.Changes.{is_prerelease, has_local, early_version};
 
 use crate::{LocalSegment, Prerelease, PrereleaseKind, VersionParseError};
@@ -56,8 +55,8 @@ impl Version {
     /// texts in the error. The error names the first fault from the left; where no number begins the release, nothing
     /// was allocated before it.
     pub fn from_str(alloc: Global, text: &str) -> Result<Version, VersionParseError>
-        ensures read { Answers (λ version. version) told_version result (version_reading text.now) }
-        ensures grown { result ≡ Err errors.Memory → version_reading text.now ≢ Err faults.NoLeadingNumber }
+        ensures answered { Answers (λ version. version) told_version result (version_reading text.now) }
+        ensures grown { result ≡ Err errors.Memory → version_reading text.now ≢ Err NoLeadingNumber }
     {
         match pep440_text::read_version(alloc, text.as_bytes()) {
             Ok(parts) => Ok(Version::of_parts(parts)),
