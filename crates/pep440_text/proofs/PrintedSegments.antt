@@ -1,14 +1,16 @@
 -- The print of a segment that was read is read as that segment, and so with the whole local part.
-use Rattle.std.proofs.Common.{◌≡◌, ℕ, ◌<◌, ◌^◌, ◌&&◌, Bool, true, false, cond, nat_lt, length, map, List, [], ◌∷◌, refl, ap, sym, subst, ◌∙◌, arith}
+use Rattle.std.proofs.Common.{◌≡◌, ℕ, ◌<◌, ◌≤◌, ◌^◌, ◌&&◌, Bool, true, false, cond, nat_lt, length, map, List, [], ◌∷◌, refl, ap, sym, subst, ◌∙◌, arith}
+use Rattle.std.proofs.lemmas.Bool.{false≢true}
 use Rattle.std.proofs.lemmas.Bool.Decides.{nat_tests}
 use Rattle.std.proofs.lemmas.Fmt.{decimal_is_IsNumeral}
 use Rattle.std.specs.Char.{is_ascii_digit, is_ascii_alphanumeric, to_ascii_lowercase}
 use Rattle.std.specs.Fmt.{decimal}
-use Rattle.std.specs.List.{join_with_byte}
+use Rattle.std.specs.List.{AllByRecursion, join_with_byte}
 use Rattle.std.specs.Str.{all_ascii_digits}
 use Rattle.std.specs.Str.Parse.{AllDigits, digits_value}
 use Rattle.pep440_text.specs.Record.{Segment, Text, Number}
 use Rattle.pep440_text.specs.Text.{segment_said, IsSegment, AreSegments, IsLocalOrNone}
+use Rattle.pep440_text.specs.Printable.{IsPrintableText, IsPrintableSegment}
 use Rattle.pep440_text.specs.Print.{segment_text, local_text}
 use Rattle.pep440_text.proofs.FrontDigits.{digit_test}
 use Rattle.pep440_text.proofs.WordTables.{and_both}
@@ -81,36 +83,83 @@ number_printed n h =
       says = sym (said_is (decimal n) true true a.0 (ap (λ m. nat_lt m (2 ^ 64)) i.1 ∙ small) ∙ ap Number i.1);
     }
 
-lowered : (text : List ℕ) → 0 < length text → Passes is_ascii_alphanumeric text → Text (lower text) ≡ segment_said (lower text) → IsSegment (lower text) (Text (lower text))
-lowered text h a e = record { nonempty = omega (arith, lower_length text); letters = lower_letters text a; says = e }
-
 small_value : (n : ℕ) → nat_lt n (2 ^ 64) ≡ true → n < 2 ^ 64
 small_value n e = grind (arith, nat_tests)
 
-printed_by : (text : List ℕ) (digits small : Bool) → all_ascii_digits text ≡ digits → nat_lt (digits_value 10 text) (2 ^ 64) ≡ small → 0 < length text → Passes is_ascii_alphanumeric text
-    → IsSegment (segment_text (said text digits small)) (said text digits small)
-printed_by text true true e f h a = number_printed (digits_value 10 text) (small_value (digits_value 10 text) f)
-printed_by text true false e f h a =
-    let same = digits_lower text e in
-    lowered text h a
-    (ap Text (sym (lower_again text)) ∙ sym (said_is (lower text) true false (lower_digits text ∙ e) (ap (λ t. nat_lt (digits_value 10 t) (2 ^ 64)) same ∙ f)))
-printed_by text false small e f h a =
-    lowered text h a
-    (ap Text (sym (lower_again text)) ∙ sym (said_is (lower text) false (nat_lt (digits_value 10 (lower text)) (2 ^ 64)) (lower_digits text ∙ e) refl))
+large_value : (n : ℕ) → nat_lt n (2 ^ 64) ≡ false → 2 ^ 64 ≤ n
+large_value n e = grind (arith, nat_tests)
 
-segment_printed : (text : List ℕ) (segment : Segment) → IsSegment text segment → IsSegment (segment_text segment) segment
-segment_printed text segment i =
-    let p = printed_by text (all_ascii_digits text) (nat_lt (digits_value 10 text) (2 ^ 64)) refl refl i.nonempty i.letters in
-    subst (λ s. IsSegment (segment_text s) s) (sym i.says) p
+-- ---- what a text says is printable
 
--- ---- the local part
+lowered : (text : List ℕ) → 0 < length text → Passes is_ascii_alphanumeric text
+    → (all_ascii_digits (lower text) ≡ true → 2 ^ 64 ≤ digits_value 10 (lower text)) → IsPrintableText (lower text)
+lowered text h a no_number = record {
+  nonempty = omega (arith, lower_length text);
+  letters = lower_letters text a;
+  lower = lower_again text;
+  no_number = no_number;
+}
 
-segments_printed : (text : List ℕ) (segments : List Segment) → AreSegments text segments → AreSegments (join_with_byte 46 (map segment_text segments)) segments
-segments_printed text [] a = absurd a
-segments_printed text (segment ∷ []) a = segment_printed text segment a
-segments_printed text (segment ∷ next ∷ segments) a =
-    (segment_text segment, 46, join_with_byte 46 (map segment_text (next ∷ segments)), refl, refl, segment_printed a.0 segment a.5, segments_printed a.2 (next ∷ segments) a.6)
+said_printable : (text : List ℕ) (digits small : Bool) → all_ascii_digits text ≡ digits
+    → nat_lt (digits_value 10 text) (2 ^ 64) ≡ small → 0 < length text → Passes is_ascii_alphanumeric text
+    → IsPrintableSegment (said text digits small)
+said_printable text true true e f h a = small_value (digits_value 10 text) f
+said_printable text true false e f h a =
+    lowered text h a (λ d. subst (λ t. 2 ^ 64 ≤ digits_value 10 t) (sym (digits_lower text e)) (large_value (digits_value 10 text) f))
+said_printable text false small e f h a =
+    lowered text h a (λ d. absurd (false≢true (sym e ∙ sym (lower_digits text) ∙ d)))
 
-pub local_printed : (local : List ℕ) (segments : List Segment) → IsLocalOrNone local segments → IsLocalOrNone (local_text segments) segments
-local_printed local [] i = refl
-local_printed local (segment ∷ segments) i = (join_with_byte 46 (map segment_text (segment ∷ segments)), refl, segments_printed i.0 (segment ∷ segments) i.2)
+segment_printable : (text : List ℕ) (segment : Segment) → IsSegment text segment → IsPrintableSegment segment
+segment_printable text segment i =
+    let p = said_printable text (all_ascii_digits text) (nat_lt (digits_value 10 text) (2 ^ 64)) refl refl i.nonempty i.letters in
+    subst IsPrintableSegment (sym i.says) p
+
+segments_printable : (text : List ℕ) (segments : List Segment) → AreSegments text segments
+    → AllByRecursion IsPrintableSegment segments
+segments_printable text [] a = absurd a
+segments_printable text (segment ∷ []) a = (segment_printable text segment a, tt)
+segments_printable text (segment ∷ next ∷ segments) a =
+    (segment_printable a.0 segment a.5, segments_printable a.2 (next ∷ segments) a.6)
+
+pub local_printable : (local : List ℕ) (segments : List Segment) → IsLocalOrNone local segments
+    → AllByRecursion IsPrintableSegment segments
+local_printable local [] i = tt
+local_printable local (segment ∷ segments) i = segments_printable i.0 (segment ∷ segments) i.2
+
+-- ---- what is printable is read as it is
+
+text_said : (bytes : List ℕ) (digits small : Bool) → all_ascii_digits bytes ≡ digits
+    → nat_lt (digits_value 10 bytes) (2 ^ 64) ≡ small → IsPrintableText bytes → Text bytes ≡ said bytes digits small
+text_said bytes true true e f p =
+    let large : 2 ^ 64 ≤ digits_value 10 bytes = p.no_number e in
+    let less : digits_value 10 bytes < 2 ^ 64 = small_value (digits_value 10 bytes) f in
+    absurd (omega arith)
+text_said bytes true false e f p = ap Text (sym p.lower)
+text_said bytes false small e f p = ap Text (sym p.lower)
+
+segment_printed : (segment : Segment) → IsPrintableSegment segment → IsSegment (segment_text segment) segment
+segment_printed (Text bytes) p = record {
+  nonempty = p.nonempty;
+  letters = p.letters;
+  says = text_said bytes (all_ascii_digits bytes) (nat_lt (digits_value 10 bytes) (2 ^ 64)) refl refl p;
+}
+segment_printed (Number number) p = number_printed number p
+
+segments_printed : (segment : Segment) (segments : List Segment) → AllByRecursion IsPrintableSegment (segment ∷ segments)
+    → AreSegments (join_with_byte 46 (map segment_text (segment ∷ segments))) (segment ∷ segments)
+segments_printed segment [] a = segment_printed segment a.0
+segments_printed segment (next ∷ segments) a = (
+  segment_text segment,
+  46,
+  join_with_byte 46 (map segment_text (next ∷ segments)),
+  refl,
+  refl,
+  segment_printed segment a.0,
+  segments_printed next segments a.1,
+)
+
+pub local_printed : (segments : List Segment) → AllByRecursion IsPrintableSegment segments
+    → IsLocalOrNone (local_text segments) segments
+local_printed [] a = refl
+local_printed (segment ∷ segments) a =
+    (join_with_byte 46 (map segment_text (segment ∷ segments)), refl, segments_printed segment segments a)

@@ -3,3 +3,4 @@ pub mod Print
 pub mod Text
 pub mod Reading
 pub mod Faults
+pub mod Printable

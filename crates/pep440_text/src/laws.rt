@@ -6,6 +6,7 @@ ghost use Rattle.pep440_text.specs.declared.TextFault.{TextFault};
 ghost use Rattle.pep440_text.specs.Faults.{StandsIn};
 ghost use Rattle.pep440_text.specs.Record.{VersionRecord, PatternRecord};
 ghost use Rattle.pep440_text.specs.Text.{IsVersionText, IsPatternText};
+ghost use Rattle.pep440_text.specs.Printable.{IsPrintable};
 ghost use Rattle.pep440_text.specs.Print.{version_text};
 ghost use Rattle.pep440_text.specs.Reading.{read_version, read_pattern, version_of, pattern_of};
 
@@ -29,9 +30,15 @@ pub fn text_has_one_pattern()
     ensures { (text : List ℕ) (pattern other : PatternRecord) → IsPatternText text pattern → IsPatternText text other → pattern ≡ other }
 {}
 
-/// The print of a version that was read of some text is read as that version, whatever that text was.
+/// The print of each printable version is read as that version: also of one that was made from others, as by dropping
+/// its local part or by raising a number.
 pub fn print_reads_back()
-    ensures { (text : List ℕ) (version : VersionRecord) → version_of text ≡ Some version → version_of (version_text version) ≡ Some version }
+    ensures { (version : VersionRecord) → IsPrintable version → version_of (version_text version) ≡ Some version }
+{}
+
+/// A version that was read of some text is printable.
+pub fn read_is_printable()
+    ensures { (text : List ℕ) (version : VersionRecord) → version_of text ≡ Some version → IsPrintable version }
 {}
 
 /// The fault of a text stands between two of its characters, or at its end: the text may be cut there.

@@ -1,5 +1,5 @@
-use Rattle.pep440_text.proofs.Prints.{print_read}
+use Rattle.pep440_text.proofs.Prints.{printable_read}
 use Rattle.pep440_text.proofs.laws.print_reads_back.Goals as goal
 
 pub returns : goal.returns
-returns c = print_read
+returns c = printable_read
