@@ -4,3 +4,6 @@ pub mod Padded
 pub mod Faults
 pub mod Stars
 pub mod Found
+pub mod Fronts
+pub mod Releases
+pub mod ZerosPrinted

@@ -1,6 +1,6 @@
 -- The order of versions: component by component of their keys, and the first that differs decides
 -- (PEP 440, "Summary of permitted suffixes and relative ordering").
-use Rattle.std.specs.Prelude.{◌≡◌, ℕ, ◌+◌, Bool, true, cond, IsTrue, ◌↔◌, ◌==◌, ◌++◌, List, [], ◌∷◌, Option, Some, None, map, refl}
+use Rattle.std.specs.Prelude.{◌≡◌, ℕ, ◌+◌, Bool, true, if◌then◌else◌, IsTrue, ◌↔◌, ◌==◌, ◌++◌, List, [], ◌∷◌, Option, Some, None, map, refl}
 use Rattle.std.specs.List.{flat_map}
 use Rattle.std.specs.Hash as fed
 use Rattle.std.proofs.Common.{ap, sym, ◌∙◌}
@@ -18,7 +18,7 @@ use Rattle.pep440_text.specs.Record.{Segment, Text, Number, VersionRecord}
 
 -- a number before a list that has lost its zeros at the end
 abbrev pub before_stripped : ℕ → List ℕ → List ℕ
-before_stripped number [] = cond (number == 0) [] (number ∷ [])
+before_stripped number [] = if number == 0 then [] else number ∷ []
 before_stripped number (next ∷ numbers) = number ∷ next ∷ numbers
 
 -- a release without the zeros at its end, so that `1` and `1.0` are one (PEP 440, "Final releases")
@@ -92,11 +92,15 @@ abbrev pub segment_key : Segment → List ℕ
 segment_key (Text bytes) = 0 ∷ bytes
 segment_key (Number number) = 1 ∷ number ∷ []
 
+-- the segments of a local part, the first in front
+abbrev pub local_key : List Segment → List (List ℕ)
+local_key = map segment_key
+
 -- the components of a version, the one that decides first in front
 unfoldable pub key_of : VersionRecord → List (List ℕ)
 key_of version =
-    (version.epoch ∷ []) ∷ stripped version.release ∷ (class_of version ∷ []) ∷ pre_key version.pre ∷ post_key version.post version.most
-    ∷ absent_first version.least ∷ absent_last version.dev ∷ map segment_key version.local
+    (version.epoch ∷ []) ∷ stripped version.release ∷ (class_of version ∷ []) ∷ pre_key version.pre
+    ∷ post_key version.post version.most ∷ absent_first version.least ∷ absent_last version.dev ∷ local_key version.local
 
 -- the order of keys: the first component that differs decides, and within it the first number that does
 abbrev pub key_cmp : List (List ℕ) → List (List ℕ) → Ordering

@@ -1,10 +1,11 @@
 //! Laws over the definitions that the contracts cite. The functions do nothing: each one's contract is its law.
 
-ghost use Rattle.std.specs.Prelude.{◌≡◌, ℕ, ◌<◌, ◌^◌, ◌↔◌, List, All, length, Some, IsTrue};
+ghost use Rattle.std.specs.Prelude.{◌≡◌, ◌≢◌, ℕ, ◌↔◌, List, IsTrue};
 ghost use Rattle.std.specs.Result.{result_ok};
 ghost use Rattle.std.specs.Ordering.{nat_cmp};
 ghost use Rattle.std.specs.Cmp.Lexicographic.{slice_cmp};
 ghost use Rattle.pep440_text.specs.Record.{VersionRecord, with_end_zeros};
+ghost use Rattle.pep440_text.specs.Print.{version_text};
 ghost use Rattle.pep440_text.specs.Reading.{version_of, pattern_of};
 ghost use Rattle.pep440_version.specs.VersionReading.{version_reading, pattern_reading};
 ghost use Rattle.pep440_version.specs.Order.{key_of, padded_cmp, stripped, version_cmp, version_eq};
@@ -16,10 +17,15 @@ pub fn key_decides()
 {}
 
 /// Zeros at the end of a release change neither order nor equality nor hash, as `1.0` is `1`: the keys are the same.
+/// They do change the print.
 pub fn end_zeros_change_nothing()
     ensures key { (version : VersionRecord) (count : ℕ) → key_of (with_end_zeros count version) ≡ key_of version }
-    ensures order { (version other : VersionRecord) (count : ℕ) → version_cmp (with_end_zeros count version) other ≡ version_cmp version other }
-    ensures equality { (version : VersionRecord) (count : ℕ) → IsTrue (version_eq (with_end_zeros count version) version) }
+    ensures order { (version other : VersionRecord) (count : ℕ)
+        → version_cmp (with_end_zeros count version) other ≡ version_cmp version other }
+    ensures equality { (version : VersionRecord) (count : ℕ)
+        → IsTrue (version_eq (with_end_zeros count version) version) }
+    ensures print { (version : VersionRecord) (count other : ℕ) → count ≢ other
+        → version_text (with_end_zeros count version) ≢ version_text (with_end_zeros other version) }
 {}
 
 /// Releases compare number by number, with zeros where one has ended.

@@ -4,7 +4,7 @@ ghost use Rattle.std.specs.Prelude.{◌≡◌, [], ◌∷◌, map, fold, refl};
 ghost use Rattle.std.specs.Ordering.{nat_cmp, as_partial_cmp};
 ghost use Rattle.std.specs.Cmp.Lexicographic.{slice_cmp};
 ghost use Rattle.pep440_text.specs.Record.{segment_of, without_local};
-ghost use Rattle.pep440_version.specs.Order.{key_of, version_cmp, version_eq, version_cmp_total, version_eq_equiv, version_eq_partial, version_partial_order, segment_key, fed_numbers, fed_key, alike_versions, class_of, stripped, absent_first, absent_last, pre_key, post_key, kind_rank};
+ghost use Rattle.pep440_version.specs.Order.{key_of, key_cmp, version_cmp, version_eq, version_cmp_total, version_eq_equiv, version_eq_partial, version_partial_order, segment_key, local_key, fed_numbers, fed_key, alike_versions, class_of, stripped, absent_first, absent_last, pre_key, post_key, kind_rank};
 
 use crate::{LocalSegment, Prerelease, PrereleaseKind, Version};
 use std::cmp::Ordering;
@@ -12,7 +12,7 @@ use std::hash::{Hash, Hasher};
 
 /// The numbers without the zeros at their end.
 #[tactic(auto, using(crate::proofs::Stripped::stripped_rules))]
-fn without_end_zeros(numbers: &[u64]) -> &[u64]
+pub(crate) fn without_end_zeros(numbers: &[u64]) -> &[u64]
     ensures { result.now ≡ stripped numbers.now }
 {
     let mut front = numbers;
@@ -104,7 +104,8 @@ fn compare_post(
 }
 
 fn compare_segments(a: &LocalSegment, b: &LocalSegment) -> Ordering
-    ensures { result ≡ slice_cmp nat_cmp (segment_key (segment_of a.now)) (segment_key (segment_of b.now)) }
+    ensures { result
+        ≡ slice_cmp nat_cmp (segment_key (segment_of a.now)) (segment_key (segment_of b.now)) }
 {
     match (a, b) {
         (LocalSegment::String(x), LocalSegment::String(y)) => x.as_bytes().cmp(y.as_bytes()),
@@ -115,7 +116,7 @@ fn compare_segments(a: &LocalSegment, b: &LocalSegment) -> Ordering
 }
 
 fn compare_local(a: &[LocalSegment], b: &[LocalSegment]) -> Ordering
-    ensures { result ≡ slice_cmp (slice_cmp nat_cmp) (map segment_key (map segment_of a.now)) (map segment_key (map segment_of b.now)) }
+    ensures { result ≡ key_cmp (local_key (map segment_of a.now)) (local_key (map segment_of b.now)) }
 {
     let mut left = a;
     let mut right = b;
@@ -202,18 +203,10 @@ impl Ord for Version {
 
     ghost matches_eq = { λ x y. refl };
 
-    #[tactic(auto, unfolding(crate::specs::Order::key_of))]
+    #[tactic(auto, using(crate::proofs::Fronts::local_last))]
     fn cmp(&self, other: &Version) -> Ordering {
-        let release = compare_releases(&self.release, &other.release);
-        let class = compare_numbers(self.class(), other.class());
-        let pre = compare_pre(self.pre, other.pre);
-        let post = compare_post(self.post, self.most, other.post, other.most);
-        let least = compare_absent_first(self.least, other.least);
-        let dev = compare_absent_last(self.dev, other.dev);
-        let local = compare_local(&self.local, &other.local);
-        compare_numbers(self.epoch, other.epoch).then(release.then(class.then(pre.then(post.then(
-            least.then(dev.then(local)),
-        )))))
+        self.cmp_public(other)
+            .then_with(|| compare_local(&self.local, &other.local))
     }
 }
 
@@ -318,7 +311,7 @@ fn feed_segment<H: Hasher>(segment: &LocalSegment, state: &mut H)
 }
 
 fn feed_local<H: Hasher>(segments: &[LocalSegment], state: &mut H)
-    ensures { state.new ≡ fold H.write state.old (fed_key (map segment_key (map segment_of segments.now))) }
+    ensures { state.new ≡ fold H.write state.old (fed_key (local_key (map segment_of segments.now))) }
 {
     for segment in segments {
         feed_segment(segment, state);

@@ -1,9 +1,11 @@
 //! Versions that differ from another one in one part.
 
-ghost use Rattle.std.specs.Prelude.{◌≡◌, ◌<◌, length, map, Some, None, IfOk};
+ghost use Rattle.std.specs.Prelude.{◌≡◌, ◌↔◌, ◌<◌, length, map, Some, None, IfOk, IsTrue};
+ghost use Rattle.std.specs.Option.{option_map};
 ghost use Rattle.pep440_text.specs.Record.{release_record, segment_of, without_local};
-ghost use Rattle.pep440_version.specs.Changes.{early_version};
+ghost use Rattle.pep440_version.specs.Changes.{early_version, without_end_zeros, last_raised};
 
+use crate::ordering::without_end_zeros;
 use crate::{LocalSegment, Prerelease, PrereleaseKind, Version};
 use std::alloc::{AllocError, Global};
 
@@ -98,6 +100,43 @@ impl Version {
     {
         self.most = max;
         self
+    }
+
+    /// Whether it is release numbers alone: epoch 0, no suffix, no local part, and at no end of a range (PEP 440, "Final
+    /// releases"). Takes no memory; its cost is constant.
+    #[tactic(auto, using(crate::proofs::Releases::only_release_is))]
+    pub fn is_only_release(&self) -> bool
+        ensures { IsTrue result ↔ (self.now ≡ release_record self.now.release) }
+    {
+        let suffixed = self.is_pre() || self.is_post() || self.is_dev() || self.is_local();
+        let at_end = self.least.is_some() || self.most.is_some();
+        self.epoch == 0 && !suffixed && !at_end
+    }
+
+    /// The version without the zeros at its release's end, down to one number, as `1.2` of `1.2.0.0` and `0` of `0.0`: the
+    /// shortest of those that are equal to it but for the local part. Takes no memory; goes once over the zeros.
+    #[tactic(auto, using(crate::proofs::Releases::kept_numbers))]
+    pub fn without_end_zeros(mut self) -> Version
+        ensures { result ≡ without_end_zeros self }
+    {
+        let count = without_end_zeros(&self.release).len();
+        self.release.truncate(count.max(1));
+        self
+    }
+
+    /// The version with the last of its release numbers raised by one, as `1.3` of `1.2`; `None` where that number is
+    /// `u64::MAX`. Takes no memory; its cost is constant.
+    pub fn with_last_raised(mut self) -> Option<Version>
+        ensures { result ≡ option_map (λ numbers. record self { release = numbers }) (last_raised self.release) }
+    {
+        let last = self.release.pop()?;
+        match last.checked_add(1) {
+            None => None,
+            Some(next) => match self.release.push(next) {
+                Ok(()) => Some(self),
+                Err(_) => unreachable!(),
+            },
+        }
     }
 
     /// The version of its release numbers alone, without epoch and suffixes. Takes memory for them.
