@@ -3,7 +3,7 @@ use Rattle.std.proofs.Common.{◌≡◌, ℕ, ◌+◌, ◌==◌, Bool, true, fal
 use Rattle.std.proofs.lemmas.List.{append-nil, map-append}
 use Rattle.std.proofs.lemmas.List.Elements.{filter-append}
 use Rattle.std.specs.Borrow.{Bor}
-use Rattle.std.specs.List.{AllZip, filter, slice_split, enumerate_from}
+use Rattle.std.specs.List.{AllByRecursion, AllZip, filter, slice_split, enumerate_from}
 use Rattle.std.specs.Str.Lines.{strip_carriage_return}
 use Rattle.reqtable_lines.specs.TextLines.{without_comment, is_blank, text_lines, with_first, each_line}
 
@@ -120,3 +120,18 @@ all_zip_map R S f [] [] h = tt
 all_zip_map R S f [] (y ∷ ys) h = absurd h
 all_zip_map R S f (x ∷ xs) [] h = absurd h
 all_zip_map R S f (x ∷ xs) (y ∷ ys) h = (f x y h.0, all_zip_map R S f xs ys h.1)
+
+-- the same, where each of the first list is good
+pub all_zip_along : {A B : Type 0} (Good : A → Type 0) (R S : A → B → Type 0)
+    → ((x : A) (y : B) → Good x → R x y → S x y) → (xs : List A) (ys : List B)
+    → AllByRecursion Good xs → AllZip R xs ys → AllZip S xs ys
+all_zip_along Good R S f [] [] g h = tt
+all_zip_along Good R S f [] (y ∷ ys) g h = absurd h
+all_zip_along Good R S f (x ∷ xs) [] g h = absurd h
+all_zip_along Good R S f (x ∷ xs) (y ∷ ys) g h = (f x y g.0 h.0, all_zip_along Good R S f xs ys g.1 h.1)
+
+-- what is good of each is good of a part
+pub all_in_front : {A : Type 0} (Good : A → Type 0) (xs : List A) (y : A) (ys : List A)
+    → AllByRecursion Good (xs ++ y ∷ ys) → AllByRecursion Good xs × Good y
+all_in_front Good [] y ys h = (tt, h.0)
+all_in_front Good (x ∷ xs) y ys h = let more = all_in_front Good xs y ys h.1 in ((h.0, more.0), more.1)
