@@ -63,14 +63,6 @@ member_fault value member =
     if not (is_some (member_text value member)) then Some (Member member)
     else (if is_version member && not (is_some (member_version value member)) then Some (Version member) else None)
 
--- an error but want of memory is what is wrong with a member
-abbrev pub IsFault : EnvironmentError → Option EnvironmentError → Type 0
-IsFault Float fault = fault ≡ Some Float
-IsFault Shape fault = fault ≡ Some Shape
-IsFault (Member member) fault = fault ≡ Some (Member member)
-IsFault (Version member) fault = fault ≡ Some (Version member)
-IsFault Memory fault = Unit {0}
-
 -- what is wrong with the members, in their order
 abbrev pub faults : Data → List EnvironmentError
 faults value = filter_map (member_fault value) members
@@ -87,18 +79,13 @@ environment_of value =
     if has_float value then Err Float
     else (if not (is_some (as_object value)) then Err Shape else first_fault_or (faults value) (member_version value PythonFullVersion))
 
--- an error but want of memory is what is wrong with the value
-abbrev pub Refuses : EnvironmentError → Result EnvironmentRecord EnvironmentError → Type 0
-Refuses Float read = read ≡ Err Float
-Refuses Shape read = read ≡ Err Shape
-Refuses (Member member) read = read ≡ Err (Member member)
-Refuses (Version member) read = read ≡ Err (Version member)
-Refuses Memory read = Unit {0}
-
--- an answer is what the value is; only want of memory leaves it open
-abbrev pub Reads : Result EnvironmentRecord EnvironmentError → Result EnvironmentRecord EnvironmentError → Type 0
-Reads (Ok environment) read = read ≡ Ok environment
-Reads (Err fault) read = Refuses fault read
+-- what an error says of a value, if it is not want of memory
+abbrev pub told_environment : EnvironmentError → Option EnvironmentError
+told_environment Float = Some Float
+told_environment Shape = Some Shape
+told_environment (Member member) = Some (Member member)
+told_environment (Version member) = Some (Version member)
+told_environment Memory = None
 
 -- the print of an error
 abbrev pub error_text : EnvironmentError → List ℕ

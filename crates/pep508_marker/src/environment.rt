@@ -1,9 +1,10 @@
 //! Environments.
 
-ghost use Rattle.std.specs.Prelude.{◌≡◌, ◌⊎◌, IfOk, IfErr, OnOk, None, Some, Err, IsTrue, false, true, option_and_then, option_copied, option_map};
+ghost use Rattle.std.specs.Prelude.{◌≡◌, ◌⊎◌, IfOk, IfErr, IfSome, OnOk, None, Some, Err, IsTrue, false, true, option_and_then, option_copied, option_map};
 ghost use Rattle.serde_json.specs.View.{view};
 ghost use Rattle.pep440_rs.specs.Reading.{version_of};
-ghost use Rattle.pep508_marker.specs.Environment.{EnvironmentRecord, member_text, member_version, member_fault, is_version, environment_of, IsFault, Reads};
+ghost use Rattle.read_outcome.specs.Outcome.{Answers};
+ghost use Rattle.pep508_marker.specs.Environment.{EnvironmentRecord, member_text, member_version, member_fault, is_version, environment_of, told_environment};
 
 use crate::floats::has_float;
 use crate::{EnvironmentError, EnvironmentMember};
@@ -35,7 +36,8 @@ fn version(
     requires { is_version member ≡ true }
     ensures ok { IfOk result (λ version. member_version (view value.now) member ≡ Some version) }
     ensures fine { OnOk result (member_fault (view value.now) member ≡ None) }
-    ensures fault { IfErr result (λ fault. IsFault fault (member_fault (view value.now) member)) }
+    ensures fault { IfErr result (λ error.
+        IfSome (told_environment error) (λ fault. member_fault (view value.now) member ≡ Some fault)) }
 {
     match Version::from_str(alloc, text(value, member)?) {
         Ok(version) => Ok(version),
@@ -66,7 +68,7 @@ impl MarkerEnvironment {
     /// is wrong. Goes once through the value, as deep as it nests.
     #[tactic(auto, unfolding(crate::specs::Environment::environment_of))]
     pub fn from_value(alloc: Global, value: &Value) -> Result<MarkerEnvironment, EnvironmentError>
-        ensures { Reads result (environment_of (view value.now)) }
+        ensures { Answers (λ environment. environment) told_environment result (environment_of (view value.now)) }
     {
         if has_float(value) {
             return Err(EnvironmentError::Float);

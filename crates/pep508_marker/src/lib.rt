@@ -12,8 +12,6 @@ use std::fmt;
 
 mod environment;
 mod floats;
-#[cfg(test)]
-mod tests;
 
 pub use environment::MarkerEnvironment;
 

@@ -1,4 +1,4 @@
 pub mod Walk
 pub mod Parts
 pub mod Steps
-pub mod Normal
+pub mod Again

@@ -1,5 +1,5 @@
 -- What is read byte by byte is what the definition says.
-use Rattle.std.proofs.Common.{◌≡◌, ℕ, suc, ◌-◌, ◌&&◌, ◌||◌, inl, inr, Bool, true, false, not, cond, List, [], ◌∷◌, ◌++◌, length, map, filter, Option, Some, None, option_map, refl, ap, sym, ◌∙◌, arith}
+use Rattle.std.proofs.Common.{◌≡◌, ℕ, suc, ◌-◌, ◌&&◌, ◌||◌, inl, inr, Bool, true, false, not, cond, if◌then◌else◌, List, [], ◌∷◌, ◌++◌, length, map, filter, Option, Some, None, option_map, refl, ap, sym, ◌∙◌, arith}
 use Rattle.std.proofs.lemmas.Grind.{common_steps}
 use Rattle.std.specs.Char.{to_ascii_lowercase}
 use Rattle.std.specs.Option.{option_map_or}
@@ -158,3 +158,8 @@ name_of-begun b bs h =
     ∙ ap (λ name. cond (list_all is_name_byte bs && is_alphanumeric (last_from b bs)) (Some name) None) (begun_normal b bs h)
     ∙ sym (ap (written (to_ascii_lowercase b ∷ [])) (behind_is false b bs h)
     ∙ written_name b (list_all is_name_byte bs && is_alphanumeric (last_from b bs)) (more_text false (slice_split is_separator bs)))
+
+-- the normal form of a name
+pub named : (text : List ℕ) → is_name text ≡ true → name_of text ≡ Some (normal_name text)
+unfolding name_of
+named text h = ap (λ t. if t then Some (normal_name text) else None) h

@@ -1,7 +1,7 @@
 -- Names of packages and extras: which texts are names (PEP 508, "Names"), and the normal form of each (PEP 503,
 -- "Normalized Names").
-use Rattle.std.specs.Prelude.{◌≡◌, ℕ, ◌-◌, ◌==◌, ◌&&◌, ◌||◌, Bool, true, false, if◌then◌else◌, List, [], ◌∷◌, ◌++◌, length, map, filter, codes, Option, Some, None, Result, Ok, Err}
-use Rattle.std.specs.Option.{option_map_or}
+use Rattle.std.specs.Prelude.{◌≡◌, ℕ, ◌-◌, ◌==◌, ◌&&◌, ◌||◌, Bool, true, false, if◌then◌else◌, List, [], ◌∷◌, ◌++◌, length, map, filter, codes, Option, Some, None, unwrap_or, Result}
+use Rattle.std.specs.Option.{option_map_or, ok_or}
 use Rattle.std.specs.List.{slice_get, slice_split, join_with_byte, list_all}
 use Rattle.std.specs.Char.{is_ascii_alphanumeric, to_ascii_lowercase}
 use Rattle.std.specs.String.{string_bytes}
@@ -52,30 +52,18 @@ normal_name text = map to_ascii_lowercase (join_with_byte 45 (name_parts text))
 unfoldable pub name_of : List ℕ → Option (List ℕ)
 name_of text = if is_name text then Some (normal_name text) else None
 
--- an error but want of memory says that a text is no name
-abbrev pub LacksName : InvalidNameError → Option (List ℕ) → Type 0
-LacksName Memory read = Unit {0}
-LacksName (InvalidName text) read = read ≡ None
+-- the normal name that a text stands for, or the text itself where it is no name
+abbrev pub name_reading : List ℕ → Result (List ℕ) (List ℕ)
+name_reading text = ok_or (name_of text) text
 
--- an answer, seen by `view`, is the name that a text stands for; only want of memory leaves open whether there is one
-abbrev pub ReadsBy : {X : Type 0} → (X → List ℕ) → Result X InvalidNameError → Option (List ℕ) → Type 0
-ReadsBy view (Ok name) read = read ≡ Some (view name)
-ReadsBy view (Err fault) read = LacksName fault read
+-- the text that an error refuses, if it is not want of memory
+abbrev pub told_name : InvalidNameError → Option (List ℕ)
+told_name Memory = None
+told_name (InvalidName text) = Some (string_bytes text)
 
--- an answer is the name that a text stands for
-abbrev pub Reads : Result (List ℕ) InvalidNameError → Option (List ℕ) → Type 0
-Reads (Ok name) read = read ≡ Some name
-Reads (Err fault) read = LacksName fault read
-
--- an error but want of memory holds the text that was given
-abbrev pub HoldsText : List ℕ → InvalidNameError → Type 0
-HoldsText text Memory = Unit {0}
-HoldsText text (InvalidName given) = string_bytes given ≡ text
-
--- the text that an error holds
+-- the text that an error refuses, empty for want of memory
 abbrev pub refused_text : InvalidNameError → List ℕ
-refused_text Memory = []
-refused_text (InvalidName text) = string_bytes text
+refused_text error = unwrap_or (told_name error) []
 
 -- the print of an error
 abbrev pub error_text : InvalidNameError → List ℕ

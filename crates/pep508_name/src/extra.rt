@@ -1,51 +1,42 @@
 //! Names of extras.
 
-ghost use Rattle.std.specs.Prelude.{◌≡◌, IfOk, IfErr, Some, refl};
-ghost use Rattle.std.specs.Cmp.{partial_equiv_from_equiv};
-ghost use Rattle.std.specs.Cmp.Lexicographic.{nat_list_eq_equiv, nat_list_cmp_total, texts_ties, texts_po};
-ghost use Rattle.std.specs.Ordering.{as_partial_cmp};
-ghost use Rattle.pep508_name.specs.Name.{name_of, Reads, HoldsText, name_eq, name_cmp, fed_name, alike_names};
+ghost use Rattle.std.specs.Prelude.{◌≡◌, ◌<◌, IfOk, Some, Err, codes, length};
+ghost use Rattle.std.specs.Fmt.{◌++?◌, debug_str};
+ghost use Rattle.read_outcome.specs.Outcome.{Answers};
+ghost use Rattle.pep508_name.specs.Name.{name_of, name_reading, told_name};
 
-use crate::{InvalidNameError, normalized};
+use crate::InvalidNameError;
+use crate::normal::NormalName;
 use std::alloc::{AllocError, Global};
-use std::cmp::Ordering;
 use std::fmt;
-use std::hash::{Hash, Hasher};
 use std::marker::Model;
 
 /// The name of an extra of a package, in normal form (PEP 503, "Normalized Names").
 ///
 /// Names compare and hash by the bytes of the normal form, and print as it.
-#[derive(Drop)]
-pub struct ExtraName {
-    name: String,
-}
+#[derive(PartialEq, Eq, PartialOrd, Ord, Hash, Drop)]
+pub struct ExtraName(NormalName);
 
 impl Model for ExtraName {
-    ghost use Rattle.std.specs.Prelude.{◌≡◌, List, ℕ, Some};
-    ghost use Rattle.std.specs.String.{string_bytes};
-    ghost use Rattle.pep508_name.specs.Name.{name_of};
+    ghost use Rattle.std.specs.Prelude.{List, ℕ};
 
     ghost Value = { List ℕ };
 
-    ghost view = { λ n. string_bytes n.name };
+    ghost view = { λ n. n.0 };
 
-    ghost invariant = { λ n. name_of (string_bytes n.name) ≡ Some (string_bytes n.name) };
+    ghost inverse = { λ name. record { 0 = name } };
 }
 
 impl ExtraName {
     /// The name that a text stands for (PEP 508, "Names"), with no white space around it.
     ///
-    /// One pass over the text and one allocation of its length.
-    #[tactic(auto, using(crate::proofs::Normal::normal_again))]
+    /// Two passes over the text and one allocation of its length. A text that is no name is
+    /// refused with a copy of it.
     pub fn from_str(alloc: Global, text: &str) -> Result<Self, InvalidNameError>
-        ensures reads { Reads result (name_of text.now) }
-        ensures given { IfErr result (HoldsText text.now) }
+        ensures answered { Answers (λ name. name) told_name result (name_reading text.now) }
+        ensures grown { result ≡ Err InvalidNameError.Memory → 0 < length text.now }
     {
-        match normalized(alloc, text) {
-            Ok(name) => Ok(ExtraName { name }),
-            Err(error) => Err(error),
-        }
+        Ok(ExtraName(NormalName::from_str(alloc, text)?))
     }
 
     /// The normal form.
@@ -53,16 +44,14 @@ impl ExtraName {
         ensures text { result.now ≡ self.now }
         ensures normal { name_of self.now ≡ Some self.now }
     {
-        &self.name
+        self.0.as_str()
     }
 
     /// A copy, in memory of its own.
     pub fn try_clone(&self, alloc: Global) -> Result<Self, AllocError>
         ensures { IfOk result (λ copy. copy ≡ self.now) }
     {
-        Ok(ExtraName {
-            name: String::from_str(alloc, self.name.as_str())?,
-        })
+        Ok(ExtraName(self.0.try_clone(alloc)?))
     }
 }
 
@@ -70,60 +59,14 @@ impl fmt::Display for ExtraName {
     ghost output = { λ name. Some name };
 
     fn fmt<W: fmt::Write>(&self, f: &mut fmt::Formatter<W>) -> fmt::Result {
-        write!(f, "{}", self.name)
+        write!(f, "{}", self.0)
     }
 }
 
 impl fmt::Debug for ExtraName {
+    ghost debug_output = { λ name. Some (codes "ExtraName(") ++? debug_str name ++? Some (codes ")") };
+
     fn fmt<W: fmt::Write>(&self, f: &mut fmt::Formatter<W>) -> fmt::Result {
-        write!(f, "ExtraName({:?})", self.name)
-    }
-}
-
-impl PartialEq for ExtraName {
-    ghost eq = { name_eq };
-
-    ghost laws = { partial_equiv_from_equiv nat_list_eq_equiv };
-
-    fn eq(&self, other: &ExtraName) -> bool {
-        self.name.as_str() == other.name.as_str()
-    }
-}
-
-impl Eq for ExtraName {
-    ghost laws = { nat_list_eq_equiv };
-}
-
-impl Ord for ExtraName {
-    ghost cmp = { name_cmp };
-
-    ghost total = { nat_list_cmp_total };
-
-    ghost matches_partial_cmp = { λ x y. refl };
-
-    ghost matches_eq = { texts_ties };
-
-    fn cmp(&self, other: &ExtraName) -> Ordering {
-        self.name.as_str().cmp(other.name.as_str())
-    }
-}
-
-impl PartialOrd for ExtraName {
-    ghost partial_cmp = { as_partial_cmp name_cmp };
-
-    ghost laws = { texts_po };
-
-    fn partial_cmp(&self, other: &ExtraName) -> Option<Ordering> {
-        Some(self.cmp(other))
-    }
-}
-
-impl Hash for ExtraName {
-    ghost hash_input = { fed_name };
-
-    ghost respects_eq = { alike_names };
-
-    fn hash<H: Hasher>(&self, state: &mut H) {
-        self.name.as_str().hash(state);
+        write!(f, "ExtraName({:?})", self.0)
     }
 }

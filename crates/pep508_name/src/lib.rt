@@ -4,21 +4,20 @@
 //! `FrIeNdLy-._.-bArD` and `friendly-bard` are one name.
 #![tactic(auto)]
 
-ghost use Rattle.std.specs.Prelude.{◌≡◌, IfErr, Some};
-ghost use Rattle.std.specs.String.{string_bytes};
-ghost use Rattle.pep508_name.specs.Name.{name_of, ReadsBy, HoldsText, LacksName, refused_text, error_text, is_separator};
+ghost use Rattle.std.specs.Prelude.{◌≡◌, Some};
+ghost use Rattle.pep508_name.specs.Name.{refused_text, error_text};
 
-use std::alloc::{AllocError, Global};
+use std::alloc::AllocError;
 use std::error::Error;
 use std::fmt;
 
 mod extra;
 pub mod laws;
+mod normal;
 mod package;
-#[cfg(test)]
-mod tests;
 
 pub use extra::ExtraName;
+pub use normal::is_name;
 pub use package::PackageName;
 
 /// Why a text is not taken for a name.
@@ -69,53 +68,3 @@ impl fmt::Display for InvalidNameError {
 }
 
 impl Error for InvalidNameError {}
-
-/// The error for a text that is no name.
-fn invalid(alloc: Global, text: &str) -> InvalidNameError
-    ensures { HoldsText text.now result }
-{
-    match String::from_str(alloc, text) {
-        Ok(text) => InvalidNameError::InvalidName(text),
-        Err(_) => InvalidNameError::Memory,
-    }
-}
-
-/// Whether a byte is `-`, `_` or `.`.
-fn is_separator(byte: u8) -> bool
-    ensures { result ≡ is_separator byte }
-{
-    byte == b'-' || byte == b'_' || byte == b'.'
-}
-
-/// The normal form of a name.
-fn normalized(alloc: Global, text: &str) -> Result<String, InvalidNameError>
-    ensures reads { ReadsBy (λ name. string_bytes name) result (name_of text.now) }
-    ensures given { IfErr result (HoldsText text.now) }
-{
-    let Some((first, rest)) = text.as_bytes().split_first() else {
-        return Err(invalid(alloc, text));
-    };
-    if !first.is_ascii_alphanumeric() {
-        return Err(invalid(alloc, text));
-    }
-    let mut name = String::with_capacity(alloc, text.len())?;
-    name.push(char::from(first.to_ascii_lowercase()))?;
-    let mut separated = false;
-    for byte in rest {
-        if is_separator(*byte) {
-            separated = true;
-        } else if byte.is_ascii_alphanumeric() {
-            if separated {
-                name.push('-')?;
-            }
-            name.push(char::from(byte.to_ascii_lowercase()))?;
-            separated = false;
-        } else {
-            return Err(invalid(alloc, text));
-        }
-    }
-    if separated {
-        return Err(invalid(alloc, text));
-    }
-    Ok(name)
-}

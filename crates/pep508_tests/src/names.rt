@@ -1,1 +1,89 @@
-//! Names of packages and extras.
+use pep508_name::{ExtraName, InvalidNameError, PackageName, is_name};
+use std::hash::{DefaultHasher, Hash, Hasher};
+use std::test::Fail;
+
+const NAMES: [(&str, &str); 5] = [
+    ("FrIeNdLy-._.-bArD", "friendly-bard"),
+    ("friendly--bard", "friendly-bard"),
+    ("1okay", "1okay"),
+    ("A", "a"),
+    ("a_.-b.C--d", "a-b-c-d"),
+];
+
+#[test]
+fn reads_names_of_packages(rt: HostRuntime) -> Result<(), Fail> {
+    for (text, want) in NAMES {
+        let name = PackageName::from_str(rt.alloc(), text)?;
+        assert_eq!(rt; name.as_str(), want);
+        assert_eq!(rt; name.to_string(rt.alloc())?.as_str(), want);
+        assert!(rt; name.try_clone(rt.alloc())? == name);
+        assert!(rt; is_name(text));
+    }
+    Ok(())
+}
+
+#[test]
+fn reads_names_of_extras(rt: HostRuntime) -> Result<(), Fail> {
+    for (text, want) in NAMES {
+        let name = ExtraName::from_str(rt.alloc(), text)?;
+        assert_eq!(rt; name.as_str(), want);
+        assert_eq!(rt; name.to_string(rt.alloc())?.as_str(), want);
+        assert!(rt; name.try_clone(rt.alloc())? == name);
+    }
+    Ok(())
+}
+
+#[test]
+fn refuses_other_texts(rt: HostRuntime) -> Result<(), Fail> {
+    for text in [" a", "-a", "a-", "a!", "alpha-α", ""] {
+        match PackageName::from_str(rt.alloc(), text) {
+            Ok(_) => assert!(rt; false, "taken: {text}"),
+            Err(error) => assert_eq!(rt; error.as_str(), text),
+        }
+        assert!(rt; ExtraName::from_str(rt.alloc(), text).is_err());
+        assert!(rt; !is_name(text), "a name: {text}");
+    }
+    Ok(())
+}
+
+#[test]
+fn prints_names_for_programmers(rt: HostRuntime) -> Result<(), Fail> {
+    let alloc = rt.alloc();
+    let package = format!(in alloc; "{:?}", PackageName::from_str(alloc, "A.b")?)?;
+    assert_eq!(rt; package.as_str(), "PackageName(\"a-b\")");
+    let extra = format!(in alloc; "{:?}", ExtraName::from_str(alloc, "A.b")?)?;
+    assert_eq!(rt; extra.as_str(), "ExtraName(\"a-b\")");
+    Ok(())
+}
+
+#[test]
+fn prints_errors(rt: HostRuntime) -> Result<(), Fail> {
+    let error = InvalidNameError::InvalidName(String::from_str(rt.alloc(), "a!")?);
+    let text =
+        "Not a valid package or extra name: \"a!\". Names must start and end with a letter or digit and may only contain -, _, ., and alphanumeric characters.";
+    assert_eq!(rt; error.to_string(rt.alloc())?.as_str(), text);
+    let memory = InvalidNameError::Memory;
+    assert_eq!(rt; memory.to_string(rt.alloc())?.as_str(), "out of memory");
+    assert_eq!(rt; memory.as_str(), "");
+    Ok(())
+}
+
+fn in_order<T: Ord + Hash>(first: &T, second: &T) -> bool {
+    let mut hasher = DefaultHasher::new();
+    first.hash(&mut hasher);
+    let mut other = DefaultHasher::new();
+    second.hash(&mut other);
+    first < second && hasher.finish() != other.finish()
+}
+
+#[test]
+fn compares_names(rt: HostRuntime) -> Result<(), Fail> {
+    let alloc = rt.alloc();
+    let first = PackageName::from_str(alloc, "a-b")?;
+    let second = PackageName::from_str(alloc, "A.c")?;
+    assert!(rt; in_order(&first, &second));
+    let first = ExtraName::from_str(alloc, "a-b")?;
+    let second = ExtraName::from_str(alloc, "A.c")?;
+    assert!(rt; in_order(&first, &second));
+    Ok(())
+}

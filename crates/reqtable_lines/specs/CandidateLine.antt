@@ -1,11 +1,12 @@
 -- A candidate line: between optional white space a name, white space, and a version.
-use Rattle.std.specs.Prelude.{ℕ, List, Option, Some, None, Result, Ok, Err, if◌then◌else◌, encode_utf8_all}
+use Rattle.std.specs.Prelude.{ℕ, Bool, false, List, Option, Some, None, Result, Ok, Err, if◌then◌else◌, encode_utf8_all}
+use Rattle.std.specs.Option.{option_map_or}
 use Rattle.std.specs.List.{list_any, before_first, after_first}
 use Rattle.std.specs.Char.{is_whitespace}
 use Rattle.std.specs.Str.{chars, trim, trim_start}
 use Rattle.pep440_rs.specs.Record.{VersionRecord}
 use Rattle.pep440_rs.specs.Reading.{version_of}
-use Rattle.pep508_name.specs.Name.{name_of}
+use Rattle.pep508_name.specs.Name.{is_name, name_of}
 use Rattle.reqtable_lines.specs.declared.candidates.Candidate.{Candidate}
 use Rattle.reqtable_lines.specs.declared.candidates.CandidateFault.{CandidateFault}
 use Rattle.reqtable_lines.specs.declared.candidates.CandidateFault.TheVariants as faults
@@ -20,6 +21,10 @@ version_text_of body = trim_start (encode_utf8_all (after_first is_whitespace (c
 -- both, where there is white space
 abbrev pub parts_in : List ℕ → Option (List ℕ × List ℕ)
 parts_in body = if list_any is_whitespace (chars body) then Some (name_text body, version_text_of body) else None
+
+-- whether a name stands before the white space
+abbrev pub has_name : List ℕ → Bool
+has_name body = option_map_or (λ parts. is_name parts.0) (parts_in body) false
 
 -- a candidate of a name and a version, or which of them can't be read, the name first
 abbrev pub candidate_by : Option (List ℕ) → Option VersionRecord → Result Candidate CandidateFault

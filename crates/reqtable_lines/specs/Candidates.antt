@@ -1,5 +1,5 @@
 -- A candidate list: UTF-8, with a candidate line on each line that is not blank.
-use Rattle.std.specs.Prelude.{◌≡◌, ℕ, List, Result, Ok, Err, if◌then◌else◌}
+use Rattle.std.specs.Prelude.{ℕ, List, Option, Some, None, Result, Ok, Err, if◌then◌else◌}
 use Rattle.std.specs.Str.{is_utf8}
 use Rattle.std.specs.Str.Lossy.{utf8_valid_len}
 use Rattle.reqtable_lines.specs.declared.candidates.Candidate.{Candidate}
@@ -20,18 +20,8 @@ candidate_at number text = at_line number (candidate_of text)
 unfoldable pub candidates_of : List ℕ → Result (List Candidate) CandidatesError
 candidates_of bytes = if is_utf8 bytes then each_line candidate_at (text_lines bytes) else Err (NotText (utf8_valid_len bytes))
 
--- an error but want of memory is that of the text
-abbrev pub Refuses : {Y : Type 0} → CandidatesError → Result Y CandidatesError → Type 0
-Refuses Memory read = Unit {0}
-Refuses (NotText offset) read = read ≡ Err (NotText offset)
-Refuses (Line number cause) read = read ≡ Err (Line number cause)
-
--- an answer, seen by `view`, is what the text reads as; only want of memory says nothing of it
-abbrev pub ReadsBy : {X Y : Type 0} → (X → Y) → Result X CandidatesError → Result Y CandidatesError → Type 0
-ReadsBy view (Ok x) read = read ≡ Ok (view x)
-ReadsBy view (Err fault) read = Refuses fault read
-
--- an answer is what the text reads as
-abbrev pub Reads : Result (List Candidate) CandidatesError → Result (List Candidate) CandidatesError → Type 0
-Reads (Ok candidates) read = read ≡ Ok candidates
-Reads (Err fault) read = Refuses fault read
+-- what an error says of a text, if it is not want of memory
+abbrev pub told_candidates : CandidatesError → Option CandidatesError
+told_candidates (NotText offset) = Some (NotText offset)
+told_candidates (Line number cause) = Some (Line number cause)
+told_candidates Memory = None

@@ -1,5 +1,5 @@
 -- A requirements text: UTF-8, with a requirement line on each line that is not blank.
-use Rattle.std.specs.Prelude.{◌≡◌, ℕ, List, Option, Some, None, Result, Ok, Err, if◌then◌else◌}
+use Rattle.std.specs.Prelude.{ℕ, List, Option, Some, None, Result, Ok, Err, if◌then◌else◌}
 use Rattle.std.specs.Str.{is_utf8}
 use Rattle.std.specs.Str.Lossy.{utf8_valid_len}
 use Rattle.reqtable_lines.specs.declared.requirement.RequirementLine.{RequirementLine}
@@ -20,18 +20,8 @@ requirement_at number text = or_not_yet number (requirement_of number text)
 unfoldable pub requirements_of : List ℕ → Result (List RequirementLine) RequirementsError
 requirements_of bytes = if is_utf8 bytes then each_line requirement_at (text_lines bytes) else Err (NotText (utf8_valid_len bytes))
 
--- an error but want of memory is that of the text
-abbrev pub Refuses : {Y : Type 0} → RequirementsError → Result Y RequirementsError → Type 0
-Refuses Memory read = Unit {0}
-Refuses (NotText offset) read = read ≡ Err (NotText offset)
-Refuses (NotYet number) read = read ≡ Err (NotYet number)
-
--- an answer, seen by `view`, is what the text reads as; only want of memory says nothing of it
-abbrev pub ReadsBy : {X Y : Type 0} → (X → Y) → Result X RequirementsError → Result Y RequirementsError → Type 0
-ReadsBy view (Ok x) read = read ≡ Ok (view x)
-ReadsBy view (Err fault) read = Refuses fault read
-
--- an answer is what the text reads as
-abbrev pub Reads : Result (List RequirementLine) RequirementsError → Result (List RequirementLine) RequirementsError → Type 0
-Reads (Ok lines) read = read ≡ Ok lines
-Reads (Err fault) read = Refuses fault read
+-- what an error says of a text, if it is not want of memory
+abbrev pub told_requirements : RequirementsError → Option RequirementsError
+told_requirements (NotText offset) = Some (NotText offset)
+told_requirements (NotYet number) = Some (NotYet number)
+told_requirements Memory = None

@@ -1,14 +1,16 @@
 //! A candidate list: one candidate after another.
 
-ghost use Rattle.std.specs.Prelude.{◌≡◌, map};
+ghost use Rattle.std.specs.Prelude.{◌≡◌, IsTrue, Err, map};
+ghost use Rattle.read_outcome.specs.Outcome.{Answers};
 ghost use Rattle.reqtable_lines.specs.TextLines.{each_line};
 ghost use Rattle.std.specs.Option.{option_map};
-ghost use Rattle.reqtable_lines.specs.CandidateLine.{parts_in};
-ghost use Rattle.reqtable_lines.specs.Candidates.{Reads, ReadsBy, candidate_at, candidates_of};
+ghost use Rattle.std.specs.Str.{trim};
+ghost use Rattle.reqtable_lines.specs.CandidateLine.{parts_in, has_name};
+ghost use Rattle.reqtable_lines.specs.Candidates.{candidate_at, candidates_of, told_candidates};
 
 use crate::text_lines::{TextLine, text_lines};
 use pep440_rs::{Version, VersionParseError};
-use pep508_name::{InvalidNameError, PackageName};
+use pep508_name::{PackageName, is_name};
 use std::alloc::{AllocError, AllocFailed, Global};
 use std::marker::Model;
 use std::str;
@@ -92,7 +94,7 @@ impl Candidates {
     /// The first line of another kind ends the reading, with the first thing that is wrong of its shape, its name and its
     /// version. Time and memory grow with the length of the bytes.
     pub fn parse(alloc: Global, bytes: &[u8]) -> Result<Candidates, CandidatesError>
-        ensures { Reads result (candidates_of bytes.now) }
+        ensures { Answers (λ candidates. candidates) told_candidates result (candidates_of bytes.now) }
     {
         let text = match str::from_utf8(bytes) {
             Ok(text) => text,
@@ -122,17 +124,19 @@ fn split_at_white(text: &str) -> Option<(&str, &str)>
     Some((name, rest.trim_start()))
 }
 
-#[tactic(auto, unfolding(crate::specs::CandidateLine::candidate_of))]
+#[tactic(auto, unfolding(crate::specs::CandidateLine::candidate_of, pep508_name::specs::Name::name_of))]
 fn read_candidate(alloc: Global, number: usize, text: &str) -> Result<Candidate, CandidatesError>
-    ensures { ReadsBy (λ candidate. candidate) result (candidate_at number text.now) }
+    ensures answered { Answers (λ candidate. candidate) told_candidates result (candidate_at number text.now) }
+    ensures grown { result ≡ Err CandidatesError.Memory → IsTrue (has_name (trim text.now)) }
 {
     let Some((name, version)) = split_at_white(text.trim()) else {
         return Err(fault(number, CandidateFault::Shape));
     };
-    let name = match PackageName::from_str(alloc, name) {
-        Ok(name) => name,
-        Err(InvalidNameError::Memory) => return Err(CandidatesError::Memory),
-        Err(InvalidNameError::InvalidName(_)) => return Err(fault(number, CandidateFault::Name)),
+    if !is_name(name) {
+        return Err(fault(number, CandidateFault::Name));
+    }
+    let Ok(name) = PackageName::from_str(alloc, name) else {
+        return Err(CandidatesError::Memory);
     };
     match Version::from_str(alloc, version) {
         Ok(version) => Ok(Candidate { name, version }),
@@ -148,7 +152,8 @@ fn fault(number: usize, cause: CandidateFault) -> CandidatesError
 }
 
 fn read_candidates(alloc: Global, lines: &[TextLine<'_>]) -> Result<Vec<Candidate>, CandidatesError>
-    ensures { ReadsBy (λ read. read.items) result (each_line candidate_at (map (λ l. (l.number, l.text.now)) lines.now)) }
+    ensures { Answers (λ read. read.items) told_candidates result
+        (each_line candidate_at (map (λ l. (l.number, l.text.now)) lines.now)) }
 {
     let mut read = Vec::new(alloc);
     for line in lines {

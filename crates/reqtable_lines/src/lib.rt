@@ -5,8 +5,6 @@ pub mod candidates;
 pub mod laws;
 pub mod requirement;
 pub mod requirements;
-#[cfg(test)]
-mod tests;
 mod text_lines;
 
 pub use candidates::{Candidate, CandidateFault, Candidates, CandidatesError};

@@ -1,8 +1,9 @@
 //! A requirements text: one requirement line after another.
 
 ghost use Rattle.std.specs.Prelude.{◌≡◌, map};
+ghost use Rattle.read_outcome.specs.Outcome.{Answers};
 ghost use Rattle.reqtable_lines.specs.TextLines.{each_line};
-ghost use Rattle.reqtable_lines.specs.Requirements.{Reads, ReadsBy, requirement_at, requirements_of};
+ghost use Rattle.reqtable_lines.specs.Requirements.{requirement_at, requirements_of, told_requirements};
 
 use crate::requirement::RequirementLine;
 use crate::text_lines::{TextLine, text_lines};
@@ -67,7 +68,7 @@ impl Requirements {
     ///
     /// The first line of another kind ends the reading as `NotYet`. Time and memory grow with the length of the bytes.
     pub fn parse(alloc: Global, bytes: &[u8]) -> Result<Requirements, RequirementsError>
-        ensures { Reads result (requirements_of bytes.now) }
+        ensures { Answers (λ lines. lines) told_requirements result (requirements_of bytes.now) }
     {
         let text = match str::from_utf8(bytes) {
             Ok(text) => text,
@@ -90,7 +91,7 @@ impl Requirements {
 }
 
 fn read_line(alloc: Global, number: usize, text: &str) -> Result<RequirementLine, RequirementsError>
-    ensures { ReadsBy (λ line. line) result (requirement_at number text.now) }
+    ensures { Answers (λ line. line) told_requirements result (requirement_at number text.now) }
 {
     match RequirementLine::read(alloc, number, text)? {
         None => Err(RequirementsError::NotYet { number }),
@@ -102,7 +103,8 @@ fn read_lines(
     alloc: Global,
     lines: &[TextLine<'_>],
 ) -> Result<Vec<RequirementLine>, RequirementsError>
-    ensures { ReadsBy (λ read. read.items) result (each_line requirement_at (map (λ l. (l.number, l.text.now)) lines.now)) }
+    ensures { Answers (λ read. read.items) told_requirements result
+        (each_line requirement_at (map (λ l. (l.number, l.text.now)) lines.now)) }
 {
     let mut read = Vec::new(alloc);
     for line in lines {

@@ -4,9 +4,9 @@ use Rattle.std.proofs.lemmas.Bool.Decides.{nat_tests}
 use Rattle.std.proofs.lemmas.Slice.Eq.{bytes_eq-Decides}
 use Rattle.std.proofs.lemmas.Str.Ascii.{lowercase-lowercase}
 use Rattle.std.specs.Char.{to_ascii_lowercase}
-use Rattle.pep508_name.specs.Name.{is_alphanumeric, is_separator, name_of, name_eq}
+use Rattle.pep508_name.specs.Name.{is_alphanumeric, is_separator, is_name, normal_name, name_of, name_eq}
 use Rattle.pep508_name.proofs.Walk.{with_byte, behind, written, two, behind_separator, behind_letter, behind_none}
-use Rattle.pep508_name.proofs.Parts.{name_of-empty, name_of-refused, name_of-begun}
+use Rattle.pep508_name.proofs.Parts.{name_of-empty, name_of-refused, name_of-begun, named}
 
 lowercase_letter : (b : ℕ) → is_alphanumeric b ≡ true → is_alphanumeric (to_ascii_lowercase b) ≡ true
 lowercase_letter b h = grind (arith, nat_tests)
@@ -57,6 +57,9 @@ normal_again (b ∷ bs) name h = elim (two (is_alphanumeric b)) [
   | inl letter ↦ from_begun b (behind false bs) name letter (behind_again false bs) (sym (name_of-begun b bs letter) ∙ h)
   | inr letter ↦ absurd (cc (sym (name_of-refused b bs letter) ∙ h))
 ]
+
+pub normal_form_again : (text name : List ℕ) → is_name text ≡ true → name ≡ normal_name text → name_of name ≡ Some name
+normal_form_again text name h e = ap name_of e ∙ normal_again text (normal_name text) (named text h) ∙ ap Some (sym e)
 
 pub equal_is_same : (a b : List ℕ) → IsTrue (name_eq a b) ↔ (a ≡ b)
 equal_is_same a b = bytes_eq-Decides a b

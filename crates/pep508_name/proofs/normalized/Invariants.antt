@@ -1,8 +1,0 @@
-use Rattle.std.proofs.Common.{◌≡◌, drop}
-use Rattle.std.specs.String.{string_bytes}
-use Rattle.pep508_name.specs.Name.{name_of}
-use Rattle.pep508_name.proofs.Walk.{behind, written}
-use Rattle.pep508_name.proofs.normalized.Given as goal
-
-abbrev pub invariant-loop-byte : goal.invariant-loop-byte
-invariant-loop-byte l = written (string_bytes l.name) (behind l.separated (drop l.byte-index l.rest)) ≡ name_of l.text
