@@ -1,3 +1,5 @@
 pub mod Texts
 pub mod Extras
+pub mod Reading
+pub mod Causes
 pub mod Steps

@@ -1,5 +1,7 @@
--- Steps of a command: a fault of a step is that of the whole, and what is said of readers whose bytes are told.
-use Rattle.std.proofs.Common.{◌≡◌, ℕ, List, Option, Some, None, Result, Ok, Err, IfSome, ap, refl, subst, sym}
+-- Steps of a command: a fault of a step is that of the whole, and how the command ends at each of its exits.
+use Rattle.std.proofs.Common.{◌≡◌, ℕ, List, Option, Some, None, Result, Ok, Err, ap, refl, sym, subst}
+use Rattle.read_outcome.specs.Outcome.{Tells}
+use Rattle.reqs_io.specs.Front.{AreAsTold, WritesWhole, AppendsFront}
 use Rattle.reqtable_lines.specs.declared.requirements.RequirementsError.{RequirementsError}
 use Rattle.reqtable_lines.specs.declared.requirements.RequirementsError.TheVariants as requirements
 use Rattle.reqtable_lines.specs.declared.candidates.CandidatesError.{CandidatesError}
@@ -7,98 +9,143 @@ use Rattle.reqtable_lines.specs.declared.candidates.CandidatesError.TheVariants 
 use Rattle.reqtable_lines.specs.Requirements as lists
 use Rattle.reqtable_lines.specs.Candidates as choices
 use Rattle.reqs.specs.declared.fault.RunFault.{RunFault}
-use Rattle.reqs.specs.declared.fault.RunFault.TheVariants.{Read, Write, Memory}
-use Rattle.reqs.specs.declared.fault.Status.{Status}
-use Rattle.reqs.specs.Faults.{Explains, ExplainsReading, of_requirements, of_candidates}
+use Rattle.reqs.specs.declared.fault.RunFault.TheVariants.{Read, Write}
 use Rattle.reqs.specs.declared.fault.Input.{Input}
 use Rattle.reqs.specs.declared.fault.Input.TheVariants.{First, Second, Third}
-use Rattle.reqs.specs.Inputs.{CheckInputs, ◌>>=◌, with_fault, input_of, texts_of, check_inputs}
-use Rattle.reqs.specs.Check.{EndsAs, RunsCheck, IsAnswerText}
-use Rattle.std.specs.Io.KnownBytes.{Appends}
-use Rattle.reqs_io.specs.Front.{AppendsFront}
+use Rattle.reqs.specs.declared.fault.Status.{Status}
 use Rattle.reqs.specs.declared.fault.Status.TheVariants.{Answered}
+use Rattle.reqs.specs.Faults.{told_run, AnswersReading, of_requirements, of_candidates}
+use Rattle.reqs.specs.Inputs.{CheckInputs, ◌>>=◌, with_fault, input_of, ReadsInput, AreWithinBefore, texts_of, check_inputs}
+use Rattle.reqs.specs.Check.{EndsAs, RunsCheck, IsAnswerText}
+use Rattle.reqs.proofs.Reading.{some_bytes, as_told, within}
+use Rattle.reqs.proofs.Causes.{inputs_causes}
 
 -- a step's fault is that of all that follows
-pub explains_rest : {A B : Type 0} (fault : RunFault) (step : Result A RunFault) (rest : A → Result B RunFault) → Explains fault step → Explains fault (step >>= rest)
-explains_rest (Read input) step rest h = h
-explains_rest Write step rest h = h
-explains_rest Memory step rest h = tt
-explains_rest fault step rest h = ap (λ r. r >>= rest) h
+pub tells_rest : {A B : Type 0} (told : Option RunFault) (step : Result A RunFault) (rest : A → Result B RunFault)
+    → Tells told step → Tells told (step >>= rest)
+tells_rest None step rest h = tt
+tells_rest (Some fault) step rest h = ap (λ r. r >>= rest) h
 
-pub reading_explains_rest : {A B : Type 0} (input : Input) (fault : RunFault) (step : Result A RunFault) (rest : A → Result B RunFault) → ExplainsReading input fault step → ExplainsReading input fault (step >>= rest)
-reading_explains_rest input (Read failed) step rest h = h
-reading_explains_rest input fault step rest h = explains_rest fault step rest h
+pub requirements_tell : {A : Type 0} (fault : RequirementsError) (read : Result A RequirementsError)
+    → lists.Refuses fault read → Tells (told_run (of_requirements fault)) (with_fault of_requirements read)
+requirements_tell (requirements.NotText offset) read h = ap (with_fault of_requirements) h
+requirements_tell (requirements.NotYet number) read h = ap (with_fault of_requirements) h
+requirements_tell requirements.Memory read h = tt
 
-pub requirements_explain : {A : Type 0} (fault : RequirementsError) (read : Result A RequirementsError) → lists.Refuses fault read → Explains (of_requirements fault) (with_fault of_requirements read)
-requirements_explain (requirements.NotText offset) read h = ap (with_fault of_requirements) h
-requirements_explain (requirements.NotYet number) read h = ap (with_fault of_requirements) h
-requirements_explain requirements.Memory read h = tt
-
-pub candidates_explain : {A : Type 0} (fault : CandidatesError) (read : Result A CandidatesError) → choices.Refuses fault read → Explains (of_candidates fault) (with_fault of_candidates read)
-candidates_explain (candidates.NotText offset) read h = ap (with_fault of_candidates) h
-candidates_explain (candidates.Line number cause) read h = ap (with_fault of_candidates) h
-candidates_explain candidates.Memory read h = tt
-
--- a fault that is explained ends the command so
-pub ends_so : (fault : RunFault) (inputs : Result CheckInputs RunFault) (old new : Option (List ℕ)) → Explains fault inputs → EndsAs inputs old new (Err fault)
-ends_so (Read input) inputs old new h = absurd h
-ends_so Write inputs old new h = absurd h
-ends_so fault inputs old new h = h
-
-pub reading_ends_so : (input : Input) (fault : RunFault) (inputs : Result CheckInputs RunFault) (old new : Option (List ℕ)) → ExplainsReading input fault inputs → EndsAs inputs old new (Err fault)
-reading_ends_so input (Read failed) inputs old new h = tt
-reading_ends_so input fault inputs old new h = ends_so fault inputs old new h
+pub candidates_tell : {A : Type 0} (fault : CandidatesError) (read : Result A CandidatesError)
+    → choices.Refuses fault read → Tells (told_run (of_candidates fault)) (with_fault of_candidates read)
+candidates_tell (candidates.NotText offset) read h = ap (with_fault of_candidates) h
+candidates_tell (candidates.Line number cause) read h = ap (with_fault of_candidates) h
+candidates_tell candidates.Memory read h = tt
 
 -- inputs that are read whole are what their texts are
-inputs_are : (extras : List (List ℕ)) (x y z first second third : List ℕ) → input_of First x ≡ Ok first → input_of Second y ≡ Ok second → input_of Third z ≡ Ok third
+inputs_are : (extras : List (List ℕ)) (x y z first second third : List ℕ) → input_of First x ≡ Ok first
+    → input_of Second y ≡ Ok second → input_of Third z ≡ Ok third
     → check_inputs extras x y z ≡ texts_of extras first second third
 unfolding check_inputs
 inputs_are extras x y z first second third h i j = rw (h, i, j) refl
 
--- how the command ends at each of its exits, over readers whose bytes are told
-module _ (extras : List (List ℕ)) where
-  pub first_unread : (a b c old new : Option (List ℕ)) (fault : RunFault) → IfSome a (λ all. ExplainsReading First fault (input_of First all)) → RunsCheck extras a b c old new (Err fault)
-  unfolding check_inputs
-  first_unread None b c old new fault h = tt
-  first_unread (Some x) None c old new fault h = tt
-  first_unread (Some x) (Some y) None old new fault h = tt
-  first_unread (Some x) (Some y) (Some z) old new fault h = reading_ends_so First fault _ old new (reading_explains_rest First fault (input_of First x) _ h)
+module _ {W : Type 0} (extras : List (List ℕ)) (contents : W → Option (List ℕ)) (old new : W) where
+  -- a fault of the inputs ends the command so
+  tells_ends : (x y z : List ℕ) (fault : RunFault) → Tells (told_run fault) (check_inputs extras x y z)
+      → EndsAs extras x y z contents old new (Err fault)
+  tells_ends x y z (Read input) h = absurd (inputs_causes extras x y z (Read input) h)
+  tells_ends x y z Write h = absurd (inputs_causes extras x y z Write h)
+  tells_ends x y z fault h = h
 
-  pub second_unread : (a b c old new : Option (List ℕ)) (first : List ℕ) (fault : RunFault) → IfSome a (λ all. input_of First all ≡ Ok first) → IfSome b (λ all. ExplainsReading Second fault (input_of Second all))
-      → RunsCheck extras a b c old new (Err fault)
-  unfolding check_inputs
-  second_unread None b c old new first fault h i = tt
-  second_unread (Some x) None c old new first fault h i = tt
-  second_unread (Some x) (Some y) None old new first fault h i = tt
-  second_unread (Some x) (Some y) (Some z) old new first fault h i = reading_ends_so Second fault _ old new (rw h (reading_explains_rest Second fault (input_of Second y) _ i))
+  -- and so does one of an input that is read
+  reading_ends : {X : Type 0} (view : X → List ℕ) (step : Result (List ℕ) RunFault) (x y z : List ℕ) (input : Input)
+      (fault : RunFault) → AnswersReading input view (Err fault) step → AreWithinBefore input x y
+      → (Tells (told_run fault) step → Tells (told_run fault) (check_inputs extras x y z))
+      → EndsAs extras x y z contents old new (Err fault)
+  reading_ends view step x y z input (Read failed) h before whole =
+      let P : Input → Type 0 = λ i. AreWithinBefore i x y in
+      subst P (sym h) before
+  reading_ends view step x y z input fault h before whole = tells_ends x y z fault (whole h)
 
-  pub third_unread : (a b c old new : Option (List ℕ)) (first second : List ℕ) (fault : RunFault) → IfSome a (λ all. input_of First all ≡ Ok first) → IfSome b (λ all. input_of Second all ≡ Ok second)
-      → IfSome c (λ all. ExplainsReading Third fault (input_of Third all)) → RunsCheck extras a b c old new (Err fault)
-  unfolding check_inputs
-  third_unread None b c old new first second fault h i j = tt
-  third_unread (Some x) None c old new first second fault h i j = tt
-  third_unread (Some x) (Some y) None old new first second fault h i j = tt
-  third_unread (Some x) (Some y) (Some z) old new first second fault h i j = reading_ends_so Third fault _ old new (rw (h, i) (reading_explains_rest Third fault (input_of Third z) _ j))
+  -- how the command ends at each of its exits
+  module _ (a b c : Option (List ℕ)) where
+    pub first_unread : {X : Type 0} (view : X → List ℕ) (fault : RunFault) → ReadsInput First view a (Err fault)
+        → RunsCheck extras a b c contents old new (Err fault)
+    unfolding check_inputs
+    first_unread view fault (x, told, h) = record {
+      first = x;
+      second = some_bytes b;
+      third = some_bytes c;
+      first_told = told;
+      second_told = as_told b;
+      third_told = as_told c;
+      ends = reading_ends view (input_of First x) x _ _ First fault h tt (tells_rest (told_run fault) (input_of First x) _);
+    }
 
-  module _ (first second third : List ℕ) where
-    -- inputs that were read whole end the command as their texts do
-    pub ends_by_texts : (a b c old new : Option (List ℕ)) (result : Result Status RunFault) → IfSome a (λ all. input_of First all ≡ Ok first) → IfSome b (λ all. input_of Second all ≡ Ok second)
-        → IfSome c (λ all. input_of Third all ≡ Ok third) → EndsAs (texts_of extras first second third) old new result → RunsCheck extras a b c old new result
-    ends_by_texts None b c old new result h i j e = tt
-    ends_by_texts (Some x) None c old new result h i j e = tt
-    ends_by_texts (Some x) (Some y) None old new result h i j e = tt
-    ends_by_texts (Some x) (Some y) (Some z) old new result h i j e =
-        let P : Result CheckInputs RunFault → Type 0 = λ inputs. EndsAs inputs old new result in
-        subst P (sym (inputs_are extras x y z first second third h i j)) e
+    -- the first input was read whole, as these bytes
+    module _ (first : List ℕ) (read_first : (x : List ℕ) × AreAsTold a x × (input_of First x ≡ Ok first)) where
+      pub second_unread : {X : Type 0} (view : X → List ℕ) (fault : RunFault) → ReadsInput Second view b (Err fault)
+          → RunsCheck extras a b c contents old new (Err fault)
+      unfolding check_inputs
+      second_unread view fault (y, told, h) = record {
+        first = read_first.0;
+        second = y;
+        third = some_bytes c;
+        first_told = read_first.1;
+        second_told = told;
+        third_told = as_told c;
+        ends = reading_ends view (input_of Second y) read_first.0 y _ Second fault h
+            (within First read_first.0 first read_first.2)
+            (λ t. rw read_first.2 (tells_rest (told_run fault) (input_of Second y) _ t));
+      }
 
-    pub refused : (a b c old new : Option (List ℕ)) (fault : RunFault) → IfSome a (λ all. input_of First all ≡ Ok first) → IfSome b (λ all. input_of Second all ≡ Ok second)
-        → IfSome c (λ all. input_of Third all ≡ Ok third) → Explains fault (texts_of extras first second third) → RunsCheck extras a b c old new (Err fault)
-    refused a b c old new fault h i j e = ends_by_texts a b c old new (Err fault) h i j (ends_so fault (texts_of extras first second third) old new e)
+      -- and the second
+      module _ (second : List ℕ) (read_second : (y : List ℕ) × AreAsTold b y × (input_of Second y ≡ Ok second)) where
+        pub third_unread : {X : Type 0} (view : X → List ℕ) (fault : RunFault) → ReadsInput Third view c (Err fault)
+            → RunsCheck extras a b c contents old new (Err fault)
+        unfolding check_inputs
+        third_unread view fault (z, told, h) = record {
+          first = read_first.0;
+          second = read_second.0;
+          third = z;
+          first_told = read_first.1;
+          second_told = read_second.1;
+          third_told = told;
+          ends = reading_ends view (input_of Third z) read_first.0 read_second.0 z Third fault h
+              (within First read_first.0 first read_first.2, within Second read_second.0 second read_second.2)
+              (λ t. rw (read_first.2, read_second.2) (tells_rest (told_run fault) (input_of Third z) _ t));
+        }
 
-    pub answered : (a b c old new : Option (List ℕ)) (text : List ℕ) → IfSome a (λ all. input_of First all ≡ Ok first) → IfSome b (λ all. input_of Second all ≡ Ok second)
-        → IfSome c (λ all. input_of Third all ≡ Ok third) → IsAnswerText (texts_of extras first second third) text → Appends old new text → RunsCheck extras a b c old new (Ok Answered)
-    answered a b c old new text h i j e w = ends_by_texts a b c old new (Ok Answered) h i j (refl, (text, e, w))
+        -- and the third: the command ends as the texts do
+        module _ (third : List ℕ) (read_third : (z : List ℕ) × AreAsTold c z × (input_of Third z ≡ Ok third)) where
+          inputs : check_inputs extras read_first.0 read_second.0 read_third.0 ≡ texts_of extras first second third
+          inputs = inputs_are extras read_first.0 read_second.0 read_third.0 first second third read_first.2 read_second.2
+              read_third.2
 
-    pub cut_short : (a b c old new : Option (List ℕ)) (text : List ℕ) → IfSome a (λ all. input_of First all ≡ Ok first) → IfSome b (λ all. input_of Second all ≡ Ok second)
-        → IfSome c (λ all. input_of Third all ≡ Ok third) → IsAnswerText (texts_of extras first second third) text → AppendsFront old new text → RunsCheck extras a b c old new (Err Write)
-    cut_short a b c old new text h i j e w = ends_by_texts a b c old new (Err Write) h i j (text, e, w)
+          ends_by : (result : Result Status RunFault)
+              → EndsAs extras read_first.0 read_second.0 read_third.0 contents old new result
+              → RunsCheck extras a b c contents old new result
+          ends_by result h = record {
+            first = read_first.0;
+            second = read_second.0;
+            third = read_third.0;
+            first_told = read_first.1;
+            second_told = read_second.1;
+            third_told = read_third.1;
+            ends = h;
+          }
+
+          pub refused : (fault : RunFault) → Tells (told_run fault) (texts_of extras first second third)
+              → RunsCheck extras a b c contents old new (Err fault)
+          refused fault h = ends_by (Err fault)
+              (tells_ends read_first.0 read_second.0 read_third.0 fault
+              (let P : Result CheckInputs RunFault → Type 0 = λ read. Tells (told_run fault) read in subst P (sym inputs) h))
+
+          answer_of : (text : List ℕ) → IsAnswerText (texts_of extras first second third) text
+              → IsAnswerText (check_inputs extras read_first.0 read_second.0 read_third.0) text
+          answer_of text h =
+              let P : Result CheckInputs RunFault → Type 0 = λ read. IsAnswerText read text in subst P (sym inputs) h
+
+          pub answered : (text : List ℕ) → IsAnswerText (texts_of extras first second third) text
+              → WritesWhole contents old new text → RunsCheck extras a b c contents old new (Ok Answered)
+          answered text h w = ends_by (Ok Answered) (refl, (text, answer_of text h, w))
+
+          pub cut_short : (text : List ℕ) → IsAnswerText (texts_of extras first second third) text
+              → AppendsFront (contents old) (contents new) text → RunsCheck extras a b c contents old new (Err Write)
+          cut_short text h w = ends_by (Err Write) (text, answer_of text h, w)

@@ -1,5 +1,5 @@
 -- Bytes that are text, and bytes that are none.
-use Rattle.std.proofs.Common.{◌≡◌, ℕ, Bool, true, false, List, refl}
+use Rattle.std.proofs.Common.{◌≡◌, ◌∙◌, ℕ, Bool, true, false, List, Result, Ok, Err, IfOk, String, string_bytes, refl}
 use Rattle.std.proofs.lemmas.Str.{IsUtf8-from_is_utf8}
 use Rattle.std.specs.Str.{is_utf8, IsUtf8}
 
@@ -9,3 +9,9 @@ by_test bytes false e h = refl
 
 pub is_utf8-false : (bytes : List ℕ) → (IsUtf8 bytes → ⊥) → is_utf8 bytes ≡ false
 is_utf8-false bytes h = by_test bytes (is_utf8 bytes) refl h
+
+-- a text that was made is the one that is wanted
+pub made : {Y E : Type 0} (made : Result (String Y) E) (given wanted : List ℕ)
+    → IfOk made (λ text. string_bytes text ≡ given) → given ≡ wanted → IfOk made (λ text. string_bytes text ≡ wanted)
+made (Ok text) given wanted h e = h ∙ e
+made (Err error) given wanted h e = tt

@@ -1,5 +1,6 @@
 -- Faults: which of them the inputs decide, and which may happen at any time.
-use Rattle.std.specs.Prelude.{◌≡◌, ℕ, Result, Ok, Err}
+use Rattle.std.specs.Prelude.{◌≡◌, ℕ, Option, Some, None, Result, Ok, Err}
+use Rattle.read_outcome.specs.Outcome.{Tells}
 use Rattle.pep508_marker.specs.declared.EnvironmentError.{EnvironmentError}
 use Rattle.pep508_marker.specs.declared.EnvironmentError.TheVariants as environments
 use Rattle.reqs_io.specs.declared.ReadFault.{ReadFault}
@@ -11,7 +12,8 @@ use Rattle.reqtable_lines.specs.declared.candidates.CandidatesError.TheVariants 
 use Rattle.reqs.specs.declared.fault.Input.{Input}
 use Rattle.reqs.specs.declared.fault.Input.TheVariants.{First, Second, Third}
 use Rattle.reqs.specs.declared.fault.RunFault.{RunFault}
-use Rattle.reqs.specs.declared.fault.RunFault.TheVariants.{Read, Write, Memory, TooLong, NotText, NotYet, Float, Shape, Member, Version, Candidate}
+use Rattle.reqs.specs.declared.fault.RunFault.TheVariants.{Read, Write, Memory, TooLong, NotText, NotYet}
+use Rattle.reqs.specs.declared.fault.RunFault.TheVariants.{Float, Shape, Member, Version, Candidate}
 
 -- 3 for a reader, the writer and memory; 2 where an input or the command line is refused
 abbrev pub status_of : RunFault → ℕ
@@ -44,24 +46,13 @@ of_candidates (candidates.NotText offset) = NotText Third offset
 of_candidates (candidates.Line number cause) = Candidate Third number cause
 of_candidates candidates.Memory = Memory
 
--- the fault is that of the answer, or want of memory, which may come whatever the inputs are
-abbrev pub Explains : {A : Type 0} → RunFault → Result A RunFault → Type 0
-Explains (Read input) answer = ⊥
-Explains Write answer = ⊥
-Explains Memory answer = Unit {0}
-Explains fault answer = answer ≡ Err fault
+-- the fault of the inputs that an error of a run tells; one of memory may come whatever they are
+abbrev pub told_run : RunFault → Option RunFault
+told_run Memory = None
+told_run fault = Some fault
 
--- the same where an input is read, whose reader may fail
-abbrev pub ExplainsReading : {A : Type 0} → Input → RunFault → Result A RunFault → Type 0
-ExplainsReading input (Read failed) answer = failed ≡ input
-ExplainsReading input fault answer = Explains fault answer
-
--- what was returned, seen by `view`, is the answer
-abbrev pub Answers : {X A : Type 0} → (X → A) → Result X RunFault → Result A RunFault → Type 0
-Answers view (Ok x) answer = answer ≡ Ok (view x)
-Answers view (Err fault) answer = Explains fault answer
-
--- the same where an input is read
+-- the same where an input is read, whose own reader may fail
 abbrev pub AnswersReading : {X A : Type 0} → Input → (X → A) → Result X RunFault → Result A RunFault → Type 0
-AnswersReading input view (Ok x) answer = answer ≡ Ok (view x)
-AnswersReading input view (Err fault) answer = ExplainsReading input fault answer
+AnswersReading input view (Ok x) reading = reading ≡ Ok (view x)
+AnswersReading input view (Err (Read failed)) reading = failed ≡ input
+AnswersReading input view (Err fault) reading = Tells (told_run fault) reading

@@ -1,5 +1,6 @@
 -- What the bytes of a command's inputs are, or the fault that they are refused for.
-use Rattle.std.specs.Prelude.{ℕ, not, is_some, List, find, Option, Some, None, Result, Ok, Err, if◌then◌else◌, nat_le, length}
+use Rattle.std.specs.Prelude.{ℕ, not, is_some, List, find, Option, Some, None, Result, Ok, Err, if◌then◌else◌}
+use Rattle.std.specs.Prelude.{◌≤◌, nat_le, length}
 use Rattle.std.specs.Str.{is_utf8}
 use Rattle.std.specs.Str.Lossy.{utf8_valid_len}
 use Rattle.serde_json.specs.Data.{Data}
@@ -14,7 +15,9 @@ use Rattle.reqs.specs.declared.fault.Input.{Input}
 use Rattle.reqs.specs.declared.fault.Input.TheVariants.{First, Second, Third}
 use Rattle.reqs.specs.declared.fault.RunFault.{RunFault}
 use Rattle.reqs.specs.declared.fault.RunFault.TheVariants.{TooLong, NotText, Extra, Json}
-use Rattle.reqs.specs.Faults.{of_requirements, of_environment, of_candidates}
+use Rattle.reqs.specs.Faults.{of_requirements, of_environment, of_candidates, AnswersReading}
+use Rattle.reqs_io.specs.declared.TheConstants.{INPUT_LIMIT}
+use Rattle.reqs_io.specs.Front.{AreAsTold}
 
 infixl 10 ◌>>=◌
 abbrev pub ◌>>=◌ : {A B : Type 0} → Result A RunFault → (A → Result B RunFault) → Result B RunFault
@@ -28,7 +31,18 @@ with_fault fault_of (Err fault) = Err (fault_of fault)
 
 -- an input of at most 16,777,216 bytes
 abbrev pub input_of : Input → List ℕ → Result (List ℕ) RunFault
-input_of input bytes = if nat_le (length bytes) 16777216 then Ok bytes else Err (TooLong input)
+input_of input bytes = if nat_le (length bytes) INPUT_LIMIT then Ok bytes else Err (TooLong input)
+
+-- an input is read from some bytes, those of its reader where that tells them
+abbrev pub ReadsInput : {X : Type 0} → Input → (X → List ℕ) → Option (List ℕ) → Result X RunFault → Type 0
+ReadsInput input view told result =
+    (bytes : List ℕ) × AreAsTold told bytes × AnswersReading input view result (input_of input bytes)
+
+-- the inputs that are read before this one are within their limit
+abbrev pub AreWithinBefore : Input → List ℕ → List ℕ → Type 0
+AreWithinBefore First first second = Unit {0}
+AreWithinBefore Second first second = length first ≤ INPUT_LIMIT
+AreWithinBefore Third first second = (length first ≤ INPUT_LIMIT) × (length second ≤ INPUT_LIMIT)
 
 abbrev pub unless_refused : List (List ℕ) → Option (List ℕ) → Result (List (List ℕ)) RunFault
 unless_refused extras None = Ok extras
@@ -44,7 +58,8 @@ environment_in (Some value) = with_fault of_environment (environment_of value)
 
 -- an environment's text: JSON in UTF-8
 unfoldable pub environment_from : List ℕ → Result EnvironmentRecord RunFault
-environment_from bytes = if is_utf8 bytes then environment_in (read bytes) else Err (NotText Second (utf8_valid_len bytes))
+environment_from bytes =
+    if is_utf8 bytes then environment_in (read bytes) else Err (NotText Second (utf8_valid_len bytes))
 
 -- the three inputs of `check`, as what they are
 pub record CheckInputs : Type 0 where

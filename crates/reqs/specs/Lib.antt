@@ -1,3 +1,4 @@
 pub mod Faults
+pub mod FaultText
 pub mod Inputs
 pub mod Check

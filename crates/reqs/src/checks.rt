@@ -28,7 +28,9 @@ pub fn check<L: Read, E: Read, C: Read, W: Write>(
     _vars: &Vars,
     output: &mut W,
 ) -> Result<Status, RunFault>
-    ensures runs { RunsCheck (map (λ e. e.now) extras.now) (L.remaining requirements.old) (E.remaining environment.old) (C.remaining candidates.old) (W.contents output.old) (W.contents output.new) result }
+    ensures runs { RunsCheck (map (λ e. e.now) extras.now)
+        (L.remaining requirements.old) (E.remaining environment.old) (C.remaining candidates.old)
+        W.contents output.old output.new result }
     // A refused command has written nothing.
     ensures unwritten { IfErr result (λ fault. fault ≢ RunFault.Write → output.new ≡ output.old) }
 {
@@ -50,7 +52,8 @@ fn check_text(
     candidates: &[u8],
     extras: &[&str],
 ) -> Result<String, RunFault>
-    ensures { AnswersText result (texts_of (map (λ e. e.now) extras.now) requirements.now environment.now candidates.now) }
+    ensures { AnswersText result
+        (texts_of (map (λ e. e.now) extras.now) requirements.now environment.now candidates.now) }
 {
     test_extras(alloc, extras)?;
     let requirements = match Requirements::parse(alloc, requirements) {

@@ -1,7 +1,9 @@
 //! How a command ends: its statuses, its refusals and their texts.
 
-ghost use Rattle.std.specs.Prelude.{◌≡◌, length, string_bytes};
+ghost use Rattle.std.specs.Prelude.{◌≡◌, length, map, string_bytes, IfOk};
+ghost use Rattle.pep508_marker.specs.Environment.{member_name};
 ghost use Rattle.reqs.specs.Faults.{status_of, of_reading, of_requirements, of_environment, of_candidates};
+ghost use Rattle.reqs.specs.FaultText.{path_of, cause_text, input_text, line_text, member_text, fault_text};
 
 use pep508_marker::{EnvironmentError, EnvironmentMember};
 use reqs_io::ReadFault;
@@ -22,6 +24,7 @@ impl Input {
     /// The path of this input among those of a command line.
     fn path<'a>(self, paths: &[&'a str]) -> &'a str
         requires { length paths.now ≡ 3 }
+        ensures { result.now ≡ path_of (map (λ p. p.now) paths.now) self }
     {
         match self {
             Input::First => paths[0],
@@ -234,72 +237,81 @@ impl RunFault {
     }
 
     /// What is said of the fault, without a line end. The paths are those of the inputs, in the
-    /// order of the command line.
+    /// order of the command line. Linear in the text.
     pub fn text(&self, alloc: Global, paths: &[&str]) -> Result<String, AllocError>
         requires { length paths.now ≡ 3 }
+        ensures { IfOk result (λ text. string_bytes text ≡ fault_text (map (λ p. p.now) paths.now) self.now) }
     {
         match self {
+            RunFault::Read { input } => at(alloc, input.path(paths), "read fault"),
             RunFault::Write => format!(in alloc; "write fault"),
             RunFault::Memory => format!(in alloc; "out of memory"),
-            RunFault::Extra { text } => format!(in alloc; "extra {text} is no name"),
-            RunFault::Read { input } => at(alloc, paths, *input, "read fault"),
             RunFault::TooLong { input } => {
-                at(alloc, paths, *input, "longer than 16777216 bytes")
+                at(alloc, input.path(paths), "longer than 16777216 bytes")
             }
-            RunFault::Json { input } => at(alloc, paths, *input, "not JSON"),
-            RunFault::Float { input } => at(alloc, paths, *input, "a number is a float"),
-            RunFault::Shape { input } => at(alloc, paths, *input, "not an object"),
-            _ => self.placed_text(alloc, paths),
-        }
-    }
-
-    /// The text of a fault that has a place within its input.
-    fn placed_text(&self, alloc: Global, paths: &[&str]) -> Result<String, AllocError>
-        requires { length paths.now ≡ 3 }
-    {
-        match self {
             RunFault::NotText { input, offset } => {
                 let path = input.path(paths);
                 format!(in alloc; "{path}: not UTF-8 at byte {offset}")
             }
+            RunFault::Extra { text } => format!(in alloc; "extra {text} is no name"),
             RunFault::NotYet { input, number } => {
-                let path = input.path(paths);
-                format!(in alloc; "{path}: line {number}: not yet read")
+                at_line(alloc, input.path(paths), *number, "not yet read")
+            }
+            RunFault::Json { input } => at(alloc, input.path(paths), "not JSON"),
+            RunFault::Float { input } => at(alloc, input.path(paths), "a number is a float"),
+            RunFault::Shape { input } => at(alloc, input.path(paths), "not an object"),
+            RunFault::Member { input, index, name } => {
+                at_member(
+                    alloc,
+                    input.path(paths),
+                    *index,
+                    *name,
+                    "missing or no text",
+                )
+            }
+            RunFault::Version { input, index, name } => {
+                at_member(alloc, input.path(paths), *index, *name, "no version")
             }
             RunFault::Candidate {
                 input,
                 number,
                 cause,
-            } => {
-                let path = input.path(paths);
-                let cause = cause_text(*cause);
-                format!(in alloc; "{path}: line {number}: {cause}")
-            }
-            RunFault::Member { input, index, name } => {
-                let path = input.path(paths);
-                format!(in alloc;
-                    "{path}: environment {index}: member {name} is missing or no text"
-                )
-            }
-            RunFault::Version { input, index, name } => {
-                let path = input.path(paths);
-                format!(in alloc; "{path}: environment {index}: member {name} is no version")
-            }
-            _ => Ok(String::new(alloc)),
+            } => { at_line(alloc, input.path(paths), *number, cause_text(*cause)) }
         }
     }
 }
 
 /// A fault of an input as a whole.
-fn at(alloc: Global, paths: &[&str], input: Input, fault: &str) -> Result<String, AllocError>
-    requires { length paths.now ≡ 3 }
+fn at(alloc: Global, path: &str, fault: &str) -> Result<String, AllocError>
+    ensures { IfOk result (λ text. string_bytes text ≡ input_text path.now fault.now) }
 {
-    let path = input.path(paths);
     format!(in alloc; "{path}: {fault}")
 }
 
+/// A fault of a line.
+fn at_line(alloc: Global, path: &str, number: usize, fault: &str) -> Result<String, AllocError>
+    ensures { IfOk result (λ text. string_bytes text ≡ line_text path.now number fault.now) }
+{
+    format!(in alloc; "{path}: line {number}: {fault}")
+}
+
+/// A fault of a member of an environment.
+fn at_member(
+    alloc: Global,
+    path: &str,
+    index: usize,
+    name: EnvironmentMember,
+    fault: &str,
+) -> Result<String, AllocError>
+    ensures { IfOk result (λ text. string_bytes text ≡ member_text path.now index (member_name name) fault.now) }
+{
+    format!(in alloc; "{path}: environment {index}: member {name} is {fault}")
+}
+
 /// What is wrong with a candidate line, in a word.
-fn cause_text(cause: CandidateFault) -> &'static str {
+fn cause_text(cause: CandidateFault) -> &'static str
+    ensures { result.now ≡ cause_text cause }
+{
     match cause {
         CandidateFault::Shape => "shape",
         CandidateFault::Name => "name",

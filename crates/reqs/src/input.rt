@@ -1,11 +1,12 @@
 //! The inputs of a command: each read whole, and then read as what it is.
 
-ghost use Rattle.std.specs.Prelude.{◌≡◌, map, IfOk, IfErr, IfSome, true, false};
+ghost use Rattle.std.specs.Prelude.{◌≡◌, map, IfOk, IfErr, true, false};
 ghost use Rattle.std.specs.Str.{is_utf8};
 ghost use Rattle.std.specs.Str.Lossy.{utf8_valid_len};
 ghost use Rattle.serde_json.specs.Read.{read};
-ghost use Rattle.reqs.specs.Faults.{Answers, AnswersReading};
-ghost use Rattle.reqs.specs.Inputs.{input_of, extras_of, environment_in, environment_from};
+ghost use Rattle.read_outcome.specs.Outcome.{Answers};
+ghost use Rattle.reqs.specs.Faults.{told_run};
+ghost use Rattle.reqs.specs.Inputs.{ReadsInput, extras_of, environment_in, environment_from};
 
 use crate::fault::{Input, RefusedWord, RunFault};
 use pep508_marker::MarkerEnvironment;
@@ -22,7 +23,7 @@ pub struct Vars;
 
 /// Reads an input to its end.
 pub fn read_input<R: Read>(alloc: Global, input: Input, reader: &mut R) -> Result<Vec<u8>, RunFault>
-    ensures { IfSome (R.remaining reader.old) (λ all. AnswersReading input (λ bytes. bytes.items) result (input_of input all)) }
+    ensures { ReadsInput input (λ bytes. bytes.items) (R.remaining reader.old) result }
 {
     match read_whole(alloc, reader, INPUT_LIMIT, ASK_LIMIT) {
         Ok(bytes) => Ok(bytes),
@@ -33,7 +34,7 @@ pub fn read_input<R: Read>(alloc: Global, input: Input, reader: &mut R) -> Resul
 /// Tests that each extra is a name. Nothing more is made of them yet, since no line that is read
 /// today asks for an extra.
 pub fn test_extras(alloc: Global, extras: &[&str]) -> Result<(), RunFault>
-    ensures { Answers (λ _. map (λ e. e.now) extras.now) result (extras_of (map (λ e. e.now) extras.now)) }
+    ensures { Answers (λ _. map (λ e. e.now) extras.now) told_run result (extras_of (map (λ e. e.now) extras.now)) }
 {
     for extra in extras {
         match ExtraName::from_str(alloc, extra) {
@@ -52,7 +53,8 @@ pub fn test_extras(alloc: Global, extras: &[&str]) -> Result<(), RunFault>
 /// The text that an input's bytes are.
 fn text_of(input: Input, bytes: &[u8]) -> Result<&str, RunFault>
     ensures text { IfOk result (λ text. (text.now ≡ bytes.now) × (is_utf8 bytes.now ≡ true)) }
-    ensures fault { IfErr result (λ fault. (fault ≡ RunFault.NotText input (utf8_valid_len bytes.now)) × (is_utf8 bytes.now ≡ false)) }
+    ensures fault { IfErr result
+        (λ fault. (fault ≡ RunFault.NotText input (utf8_valid_len bytes.now)) × (is_utf8 bytes.now ≡ false)) }
 {
     match str::from_utf8(bytes) {
         Ok(text) => Ok(text),
@@ -65,7 +67,7 @@ fn text_of(input: Input, bytes: &[u8]) -> Result<&str, RunFault>
 
 /// The environment that a JSON text is.
 fn environment_of(alloc: Global, text: &str) -> Result<MarkerEnvironment, RunFault>
-    ensures { Answers (λ e. e) result (environment_in (read text.now)) }
+    ensures { Answers (λ e. e) told_run result (environment_in (read text.now)) }
 {
     let value = match Value::from_str(alloc, text) {
         Ok(value) => value,
@@ -87,7 +89,7 @@ fn environment_of(alloc: Global, text: &str) -> Result<MarkerEnvironment, RunFau
 /// Reads an environment from its bytes, JSON in UTF-8.
 #[tactic(auto, unfolding(crate::specs::Inputs::environment_from))]
 pub fn read_environment(alloc: Global, bytes: &[u8]) -> Result<MarkerEnvironment, RunFault>
-    ensures { Answers (λ e. e) result (environment_from bytes.now) }
+    ensures { Answers (λ e. e) told_run result (environment_from bytes.now) }
 {
     environment_of(alloc, text_of(Input::Second, bytes)?)
 }

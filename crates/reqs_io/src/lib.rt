@@ -2,15 +2,11 @@
 //! written whole once it is made.
 #![tactic(auto)]
 
-ghost use Rattle.std.specs.Prelude.{◌≡◌, ◌<◌, ◌≤◌, length, drop, IfOk, IfErr, OnOk, OnErr, IfSome};
-ghost use Rattle.std.specs.Io.KnownBytes.{Appends, Consumes};
-ghost use Rattle.reqs_io.specs.Front.{AppendsFront};
+ghost use Rattle.std.specs.Prelude.{◌≡◌, ◌≤◌, length, drop, IfOk, OnOk, OnErr};
+ghost use Rattle.reqs_io.specs.Front.{AreAsTold, MayBeLonger, WritesWhole, AppendsFront};
 
 use std::alloc::{AllocError, Global};
 use std::io::{ErrorKind, Read, Write};
-
-#[cfg(test)]
-mod tests;
 
 /// The most bytes that an input may have.
 pub const INPUT_LIMIT: usize = 16_777_216;
@@ -46,17 +42,18 @@ impl From<AllocError> for ReadFault {
 
 /// Reads to the end: at most `limit` bytes, in at most `asks` asks.
 ///
-/// An interrupted ask is asked again. No clause can say why a reader failed, nor how often it was
-/// asked. The time is linear in the input.
+/// An interrupted ask is asked again. Where the reader fails or `asks` of them don't reach its end
+/// the fault is `Read`; no clause can say why a reader failed, nor how often it was asked. The time
+/// is linear in the input and the number of asks.
 pub fn read_whole<R: Read>(
     alloc: Global,
     reader: &mut R,
     limit: usize,
     asks: u64,
 ) -> Result<Vec<u8>, ReadFault>
-    ensures bytes { IfOk result (λ bytes. IfSome (R.remaining reader.old) (λ all. bytes.items ≡ all)) }
+    ensures bytes { IfOk result (λ bytes. AreAsTold (R.remaining reader.old) bytes.items) }
     ensures within { IfOk result (λ bytes. length bytes.items ≤ limit) }
-    ensures too_long { result ≡ Err ReadFault.TooLong → IfSome (R.remaining reader.old) (λ all. limit < length all) }
+    ensures too_long { result ≡ Err ReadFault.TooLong → MayBeLonger limit (R.remaining reader.old) }
 {
     let mut bytes = Vec::new(alloc);
     let mut buffer = [0u8; BUFFER_SIZE];
@@ -85,10 +82,10 @@ pub struct WriteFault;
 
 /// Writes the whole text, in as many writes as the writer wants; an empty text makes none.
 ///
-/// After a fault a front of the text was written. The 1,025th interruption in a row is a fault.
-/// Linear in the text and the number of writes.
+/// After a fault a front of the text was written, of which something is left. The 1,025th
+/// interruption in a row is a fault. Linear in the text and the number of writes.
 pub fn write_whole<W: Write>(writer: &mut W, text: &[u8]) -> Result<(), WriteFault>
-    ensures all { OnOk result (Appends (W.contents writer.old) (W.contents writer.new) text.now) }
+    ensures all { OnOk result (WritesWhole W.contents writer.old writer.new text.now) }
     ensures front { OnErr result (AppendsFront (W.contents writer.old) (W.contents writer.new) text.now) }
 {
     let mut rest = text;

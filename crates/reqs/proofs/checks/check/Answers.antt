@@ -1,37 +1,46 @@
 use Rattle.std.proofs.lemmas.Result.{err_from_is_err_and}
-use Rattle.std.proofs.Common.{◌≡◌, rules, string_bytes}
+use Rattle.std.proofs.Common.{◌≡◌, ℕ, Vec, Global, rules, string_bytes}
 use Rattle.reqs.proofs.Steps.{first_unread, second_unread, third_unread, refused, answered, cut_short}
 use Rattle.reqs.proofs.checks.check.Goals as goal
 
 pub returns-in_err-requirements-clause-runs : goal.returns-in_err-requirements-clause-runs
 returns-in_err-requirements-clause-runs g c =
     let p = err_from_is_err_and c.from_residual.result c.from_residual.ensures.1 in
-    rw (p.1, p.2) (first_unread _ _ _ _ _ _ _ c.in_err-requirements.ensures)
+    rw (p.1, p.2) (first_unread _ _ _ _ _ _ _ (λ (bytes : Vec ℕ Global). bytes.items) _ c.in_err-requirements.ensures)
 
 pub returns-in_err-environment-clause-runs : goal.returns-in_err-environment-clause-runs
 returns-in_err-environment-clause-runs g c =
     let p = err_from_is_err_and c.from_residual-in_err-environment.result c.from_residual-in_err-environment.ensures.1 in
-    rw (p.1, p.2) (second_unread _ _ _ _ _ _ c.in_ok-requirements.requirements.items _ c.in_ok-requirements.ensures c.in_err-environment.ensures)
+    rw (p.1, p.2)
+    (second_unread _ _ _ _ _ _ _ c.in_ok-requirements.requirements.items c.in_ok-requirements.ensures
+    (λ (bytes : Vec ℕ Global). bytes.items) _ c.in_err-environment.ensures)
 
 pub returns-in_err-candidates-clause-runs : goal.returns-in_err-candidates-clause-runs
 returns-in_err-candidates-clause-runs g c =
     let p = err_from_is_err_and c.from_residual-in_err-candidates.result c.from_residual-in_err-candidates.ensures.1 in
-    rw (p.1, p.2) (third_unread _ _ _ _ _ _ c.in_ok-requirements.requirements.items c.in_ok-environment.environment.items _ c.in_ok-requirements.ensures c.in_ok-environment.ensures c.in_err-candidates.ensures)
+    rw (p.1, p.2)
+    (third_unread _ _ _ _ _ _ _ c.in_ok-requirements.requirements.items c.in_ok-requirements.ensures
+    c.in_ok-environment.environment.items c.in_ok-environment.ensures
+    (λ (bytes : Vec ℕ Global). bytes.items) _ c.in_err-candidates.ensures)
 
 pub returns-in_err-text-clause-runs : goal.returns-in_err-text-clause-runs
 returns-in_err-text-clause-runs g c =
     let p = err_from_is_err_and c.from_residual-in_err-text.result c.from_residual-in_err-text.ensures.1 in
-    let explained = rw (c.deref.ensures.value, c.deref-2.ensures.value, c.deref-3.ensures.value) at c.in_err-text.ensures in
-    rw (p.1, p.2) (refused _ _ _ _ _ _ _ _ _ _ c.in_ok-requirements.ensures c.in_ok-environment.ensures c.in_ok-candidates.ensures explained)
+    let told = rw (c.deref.ensures.value, c.deref-2.ensures.value, c.deref-3.ensures.value) at c.in_err-text.ensures in
+    rw (p.1, p.2)
+    (refused _ _ _ _ _ _ _ _ c.in_ok-requirements.ensures _ c.in_ok-environment.ensures _ c.in_ok-candidates.ensures
+    _ told)
 
 pub returns-in-Ok-clause-runs : goal.returns-in-Ok-clause-runs
 returns-in-Ok-clause-runs g c =
     let answer = rw (c.deref.ensures.value, c.deref-2.ensures.value, c.deref-3.ensures.value) at c.in_ok-text.ensures in
     let bytes : c.as_bytes.result.now ≡ string_bytes c.in_ok-text.text = search rules in
-    answered _ _ _ _ _ _ _ _ _ (string_bytes c.in_ok-text.text) c.in_ok-requirements.ensures c.in_ok-environment.ensures c.in_ok-candidates.ensures answer (rw bytes at c.in-Ok.ensures.all)
+    answered _ _ _ _ _ _ _ _ c.in_ok-requirements.ensures _ c.in_ok-environment.ensures _ c.in_ok-candidates.ensures
+    (string_bytes c.in_ok-text.text) answer (rw bytes at c.in-Ok.ensures.all)
 
 pub returns-clause-runs : goal.returns-clause-runs
 returns-clause-runs g c =
     let answer = rw (c.deref.ensures.value, c.deref-2.ensures.value, c.deref-3.ensures.value) at c.in_ok-text.ensures in
     let bytes : c.as_bytes.result.now ≡ string_bytes c.in_ok-text.text = search rules in
-    cut_short _ _ _ _ _ _ _ _ _ (string_bytes c.in_ok-text.text) c.in_ok-requirements.ensures c.in_ok-environment.ensures c.in_ok-candidates.ensures answer (rw bytes at c.in-Err.ensures.front)
+    cut_short _ _ _ _ _ _ _ _ c.in_ok-requirements.ensures _ c.in_ok-environment.ensures _ c.in_ok-candidates.ensures
+    (string_bytes c.in_ok-text.text) answer (rw bytes at c.in-Err.ensures.front)
