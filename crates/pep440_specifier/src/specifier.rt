@@ -183,7 +183,8 @@ impl VersionSpecifier {
 
     /// The version that it compares with.
     pub fn version(&self) -> &Version
-        ensures { result.now ≡ self.now.version }
+        ensures version { result.now ≡ self.now.version }
+        ensures built { IsBuilt self.now }
     {
         &self.version
     }
