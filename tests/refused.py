@@ -1,0 +1,179 @@
+#!/usr/bin/env python3
+"""Runs programs with memory refused.
+
+    refused.py LIBRARY
+
+LIBRARY is tests/refuse.c as a shared library, which refuses a program the requests for memory that it is told. Each
+command is run with its first request refused, then with its second, and so on until a run asks no more often; and once
+more with all requests refused from each on. A run that met a refusal has to say so, by its status and the text of want
+of memory, and write nothing else; or it gives its whole answer after all, since a request may be made by the C library
+for itself. Where an input is refused and its text can't be made, the text of want of memory comes with the status of
+the refusal. The last run gives the answer with ample memory.
+
+The commands are `reqs check` on each example and on lists that are refused, its help, and the questions of
+crates/pep440_vectors, one a run. The last line is `refused: N passed, M failed`, a command or a kind of question each.
+"""
+
+import json
+import multiprocessing
+import os
+import subprocess
+import sys
+import tempfile
+
+TOP = os.path.dirname(os.path.dirname(os.path.abspath(__file__)))
+REQS = os.path.join(TOP, "crates", "reqs_cli", "out", "reqs_cli")
+VECTORS = os.path.join(TOP, "crates", "pep440_vectors", "out", "pep440_vectors")
+# Every request after the first that is refused.
+ALL = 2 ** 62
+# A command that asks more often than this doesn't end.
+MOST_REQUESTS = 100_000
+INPUT_REFUSED = 2
+# How each program ends where memory is refused.
+WANT = {REQS: (3, b"reqs: out of memory\n"), VECTORS: (1, b"Error: Kind(OutOfMemory)\n")}
+
+
+class Tally:
+    """What came of the runs of one command."""
+
+    def __init__(self, kind):
+        self.kind, self.requests, self.runs, self.harmless, self.faults = kind, 0, 0, 0, []
+
+    def add(self, other):
+        self.requests += other.requests
+        self.runs += other.runs
+        self.harmless += other.harmless
+        self.faults += other.faults
+
+
+def ran(library, words, folder, first, last):
+    """Runs a command with these requests refused: how it ended, and whether a request was refused."""
+    reads, writes = os.pipe()
+    try:
+        refuse = {"REFUSE_TOLD": str(writes), "REFUSE_FIRST": str(first), "REFUSE_LAST": str(last)}
+        environment = {"LC_ALL": "C.UTF-8", "LD_PRELOAD": library, **refuse}
+        done = subprocess.run(words, cwd=folder, env=environment, stdin=subprocess.DEVNULL, capture_output=True,
+                              pass_fds=[writes], timeout=60)
+        os.close(writes)
+        writes = None
+        return (done.returncode, done.stdout, done.stderr), bool(os.read(reads, 1))
+    finally:
+        os.close(reads)
+        if writes is not None:
+            os.close(writes)
+
+
+def try_command(library, kind, words, folder, wanted=None):
+    """Tries a command with each of its requests refused. What is wanted is what it does with ample memory."""
+    tally = Tally(kind)
+    label = " ".join([kind, *words[1:]])
+    ample, _ = ran(library, words, folder, 0, 0)
+    if wanted is not None and ample != wanted:
+        tally.faults.append(f"{label}: with ample memory: {ample}, not {wanted}")
+        return tally
+    status, text = WANT[words[0]]
+    lacking, refused = [(status, b"", text)], 0
+    if ample[0] == INPUT_REFUSED:
+        lacking.append((INPUT_REFUSED, b"", text))
+    for number in range(1, MOST_REQUESTS):
+        is_met = False
+        for last in (number, ALL):
+            ended, is_met = ran(library, words, folder, number, last)
+            if not is_met:
+                break
+            tally.runs += 1
+            refused += ended in lacking
+            tally.harmless += ended == ample
+            if ended not in (*lacking, ample):
+                which = f"request {number} refused" + (", and all after it" if last == ALL else "")
+                tally.faults.append(f"{label}: {which}: {ended}")
+        if not is_met:
+            if ended != ample:
+                tally.faults.append(f"{label}: with no request refused: {ended}")
+            break
+        tally.requests = number
+    else:
+        tally.faults.append(f"{label}: it still asks for memory after {MOST_REQUESTS} requests")
+    if refused == 0:
+        tally.faults.append(f"{label}: no run told want of memory")
+    return tally
+
+
+def read(path):
+    with open(path, "rb") as file:
+        return file.read()
+
+
+def commands(room):
+    """The commands of `reqs`: a name, its words, the folder and what is wanted where it is known."""
+    examples = os.path.join(TOP, "examples")
+    files = ["requirements.txt", "environment.json", "candidates.txt"]
+    for name in sorted(os.listdir(examples)):
+        folder = os.path.join(examples, name)
+        if all(os.path.isfile(os.path.join(folder, it)) for it in [*files, "expected.txt"]):
+            expected = read(os.path.join(folder, "expected.txt"))
+            yield f"examples/{name}:", ["check", *files], folder, (0, expected, b"")
+    example = os.path.join(examples, "spelling")
+    for it in files:
+        with open(os.path.join(room, it), "wb") as file:
+            file.write(read(os.path.join(example, it)))
+    for name, text in (("unread", b"foo>=1.0\n\nfoo @ x\n"), ("name", b"foo 1.0\nfoo- 1.0\n"), ("version", b"foo 1.0\nfoo 1.0+\n")):
+        with open(os.path.join(room, name), "wb") as file:
+            file.write(text)
+    yield "a line that isn't read:", ["check", "unread", *files[1:]], room, None
+    yield "a candidate's name:", ["check", *files[:2], "name"], room, None
+    yield "a candidate's version:", ["check", *files[:2], "version"], room, None
+    yield "no environment:", ["check", files[0], "absent", files[2]], room, None
+    yield "extras:", ["check", *files, "Dev_Extra", "tests"], room, None
+    yield "a wrong extra:", ["check", *files, "dev-"], room, None
+    yield "help:", ["--help"], room, None
+    yield "a wrong word:", ["judge"], room, None
+
+
+def tasks(library, room):
+    for name, words, folder, wanted in commands(room):
+        yield library, name, [REQS, *words], folder, wanted, None
+    data = os.path.join(TOP, "crates", "pep440_vectors")
+    questions = read(os.path.join(data, "data", "vectors.jsonl")).splitlines()
+    answers = read(os.path.join(data, "stdout")).splitlines()
+    if len(questions) != len(answers):
+        sys.exit("refused.py: crates/pep440_vectors has not as many answers as questions")
+    for question, answer in zip(questions, answers):
+        kind = f"questions of {json.loads(question)[0]}:"
+        yield library, kind, [VECTORS], None, (0, answer + b"\n", b""), question
+
+
+def work(task):
+    library, kind, words, folder, wanted, question = task
+    if question is None:
+        return try_command(library, kind, words, folder, wanted)
+    with tempfile.TemporaryDirectory(prefix="refused-") as room:
+        with open(os.path.join(room, "vectors.jsonl"), "wb") as file:
+            file.write(question + b"\n")
+        tally = try_command(library, kind, words, room, wanted)
+    tally.faults = [f"{it} ({question.decode()})" for it in tally.faults]
+    return tally
+
+
+def main(words):
+    if len(words) != 1:
+        sys.exit(__doc__)
+    tallies = {}
+    lanes = len(os.sched_getaffinity(0))
+    with tempfile.TemporaryDirectory(prefix="refused-") as room, multiprocessing.Pool(lanes) as pool:
+        for it in pool.imap(work, tasks(os.path.abspath(words[0]), room), chunksize=4):
+            tallies.setdefault(it.kind, Tally(it.kind)).add(it)
+    failed = 0
+    for it in tallies.values():
+        failed += bool(it.faults)
+        for fault in it.faults[:5]:
+            print(f"FAILED: {fault[:600]}")
+        if len(it.faults) > 5:
+            print(f"FAILED: {it.kind} {len(it.faults) - 5} more")
+        print(f"{it.kind} {it.requests} requests, {it.runs} runs, {it.harmless} of them answered all the same")
+    print(f"refused: {len(tallies) - failed} passed, {failed} failed")
+    return 1 if failed else 0
+
+
+if __name__ == "__main__":
+    sys.exit(main(sys.argv[1:]))
