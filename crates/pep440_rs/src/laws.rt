@@ -8,7 +8,9 @@ pub use pep440_specifier_list::laws::{
     a_list_takes_what_each_member_takes, list_text_is_read, the_empty_list_takes_all,
 };
 pub use pep440_text::laws::{
-    pattern_text_is_read, print_reads_back, text_has_one_pattern, text_has_one_version,
-    version_text_is_read,
+    faults_stand_between_characters, pattern_text_is_read, print_reads_back, read_is_printable,
+    text_has_one_pattern, text_has_one_version, version_text_is_read,
 };
-pub use pep440_version::laws::{end_zeros_change_nothing, key_decides, releases_compare_padded};
+pub use pep440_version::laws::{
+    end_zeros_change_nothing, key_decides, readings_find_what_texts_are, releases_compare_padded,
+};

@@ -7,7 +7,8 @@ use Rattle.std.specs.Ordering.{ordering_then, nat_cmp, is_eq}
 use Rattle.std.specs.Cmp.{nat_cmp_is, tied_itself}
 use Rattle.std.specs.Cmp.Lexicographic.{slice_cmp}
 use Rattle.pep440_text.specs.Record.{VersionRecord, with_end_zeros}
-use Rattle.pep440_version.specs.Order.{before_stripped, stripped, key_of, key_cmp, version_cmp, version_eq, version_cmp_total, beside_zeros, zeros_beside, padded_cmp}
+use Rattle.pep440_version.specs.Order.{before_stripped, stripped, key_of, key_cmp, version_cmp, version_eq, beside_zeros, zeros_beside, padded_cmp}
+use Rattle.pep440_version.specs.OrderLaws.{version_cmp_total}
 
 zeros_stripped : (count : ℕ) → stripped (replicate count 0) ≡ []
 zeros_stripped zero = refl

@@ -84,7 +84,7 @@ mapped_twice f g (Some a) = refl
 mapped_twice f g None = refl
 
 -- numbers that stand before the last are kept
-pub behind_front : (front : List ℕ) (last : ℕ)
+behind_front : (front : List ℕ) (last : ℕ)
     → last_raised (front ++ last ∷ []) ≡ option_map (λ next. front ++ next ∷ []) (raised last)
 behind_front [] last = refl
 behind_front (number ∷ []) last = mapped_twice (λ next. next ∷ []) (λ later. number ∷ later) (raised last)
@@ -92,21 +92,8 @@ behind_front (number ∷ other ∷ front) last =
     ap (option_map (λ later. number ∷ later)) (behind_front (other ∷ front) last)
     ∙ mapped_twice (λ next. (other ∷ front) ++ next ∷ []) (λ later. number ∷ later) (raised last)
 
-least_end : (n : ℕ) → (n + 1 < 2 ^ 64 → ⊥) → nat_lt (n + 1) (2 ^ 64) ≡ false
-least_end n h = grind (arith, nat_tests)
-
-below_end : (n : ℕ) → n + 1 < 2 ^ 64 → nat_lt (n + 1) (2 ^ 64) ≡ true
-below_end n h = grind (arith, nat_tests)
-
-pub none_raised : (numbers front : List ℕ) (last : ℕ) → numbers ≡ front ++ last ∷ [] → (last + 1 < 2 ^ 64 → ⊥)
-    → last_raised numbers ≡ None
-none_raised numbers front last e h =
-    ap last_raised e ∙ behind_front front last
-    ∙ ap (λ t. option_map (λ next. front ++ next ∷ []) (if t then Some (last + 1) else None)) (least_end last h)
-
-pub some_raised : (numbers front : List ℕ) (last next : ℕ) → numbers ≡ front ++ last ∷ [] → last + 1 < 2 ^ 64
-    → next ≡ last + 1 → last_raised numbers ≡ Some (front ++ next ∷ [])
-some_raised numbers front last next e h f =
-    ap last_raised e ∙ behind_front front last
-    ∙ ap (λ t. option_map (λ next. front ++ next ∷ []) (if t then Some (last + 1) else None)) (below_end last h)
-    ∙ ap (λ n. Some (front ++ n ∷ [])) (sym f)
+-- numbers behind which a last one stands, raised where that one is
+pub raised_last : (numbers front : List ℕ) (last : ℕ) (next : Option ℕ) → numbers ≡ front ++ last ∷ [] → next ≡ raised last
+    → last_raised numbers ≡ option_map (λ n. front ++ n ∷ []) next
+raised_last numbers front last next e f =
+    ap last_raised e ∙ behind_front front last ∙ ap (option_map (λ n. front ++ n ∷ [])) (sym f)

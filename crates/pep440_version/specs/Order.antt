@@ -1,16 +1,12 @@
 -- The order of versions: component by component of their keys, and the first that differs decides
 -- (PEP 440, "Summary of permitted suffixes and relative ordering").
-use Rattle.std.specs.Prelude.{◌≡◌, ℕ, ◌+◌, Bool, true, if◌then◌else◌, IsTrue, ◌↔◌, ◌==◌, ◌++◌, List, [], ◌∷◌, Option, Some, None, map, refl}
+use Rattle.std.specs.Prelude.{ℕ, ◌+◌, Bool, if◌then◌else◌, ◌==◌, ◌++◌, List, [], ◌∷◌, Option, Some, None, map}
 use Rattle.std.specs.List.{flat_map}
 use Rattle.std.specs.Hash as fed
-use Rattle.std.proofs.Common.{ap, sym, ◌∙◌}
-use Rattle.std.proofs.lemmas.Map.Lookups.{exact_bytes}
-use Rattle.std.specs.Cmp.{Equal-is, tied_itself}
 use Rattle.std.specs.declared.cmp.Ordering.{Ordering}
 use Rattle.std.specs.declared.cmp.Ordering.TheVariants.{Less, Equal, Greater}
-use Rattle.std.specs.Ordering.{ordering_then, nat_cmp, on, eq_by_cmp, as_partial_cmp, is_eq}
-use Rattle.std.specs.Cmp.{IsTotalOrder, IsEquivalence, IsPartialEquivalence, IsPartialOrder, partial_equiv_from_equiv, eq_by_cmp_equiv, partial_order_from_agreeing_total, on_total}
-use Rattle.std.specs.Cmp.Lexicographic.{slice_cmp, lists_total, nat_list_cmp_total}
+use Rattle.std.specs.Ordering.{ordering_then, nat_cmp, on, eq_by_cmp}
+use Rattle.std.specs.Cmp.Lexicographic.{slice_cmp}
 use Rattle.pep440_text.specs.declared.Prerelease.{Prerelease}
 use Rattle.pep440_text.specs.declared.PrereleaseKind.{PrereleaseKind}
 use Rattle.pep440_text.specs.declared.PrereleaseKind.TheVariants.{Alpha, Beta, Rc}
@@ -114,21 +110,6 @@ version_cmp = on key_of key_cmp
 abbrev pub version_eq : VersionRecord → VersionRecord → Bool
 version_eq = eq_by_cmp version_cmp
 
--- the order is total
-pub version_cmp_total : IsTotalOrder version_cmp
-version_cmp_total = on_total key_of (lists_total nat_list_cmp_total)
-
--- equality is an equivalence
-pub version_eq_equiv : IsEquivalence version_eq
-version_eq_equiv = eq_by_cmp_equiv version_cmp_total
-
-pub version_eq_partial : IsPartialEquivalence version_eq
-version_eq_partial = partial_equiv_from_equiv version_eq_equiv
-
--- the order agrees with equality
-pub version_partial_order : IsPartialOrder version_eq (as_partial_cmp version_cmp)
-version_partial_order = partial_order_from_agreeing_total version_cmp version_cmp_total (λ x y. refl) (λ x y. refl)
-
 -- what a hash is fed of a component: its numbers, and a byte that ends them
 abbrev pub fed_numbers : List ℕ → List (List ℕ)
 fed_numbers numbers = flat_map fed.u64 numbers ++ fed.u8 255
@@ -136,38 +117,3 @@ fed_numbers numbers = flat_map fed.u64 numbers ++ fed.u8 255
 -- and of a whole key
 abbrev pub fed_key : List (List ℕ) → List (List ℕ)
 fed_key = flat_map fed_numbers
-
--- one that follows another ties where both do
-pub then_equal : (o p : Ordering) → ordering_then o p ≡ Equal → (o ≡ Equal) × (p ≡ Equal)
-then_equal Less p h = absurd (cc)
-then_equal Equal p h = (refl, h)
-then_equal Greater p h = absurd (cc)
-
-keys_exact : (a b : List (List ℕ)) → key_cmp a b ≡ Equal → a ≡ b
-keys_exact [] [] h = refl
-keys_exact [] (y ∷ ys) h = absurd (cc)
-keys_exact (x ∷ xs) [] h = absurd (cc)
-keys_exact (x ∷ xs) (y ∷ ys) h =
-    let both = then_equal (slice_cmp nat_cmp x y) (key_cmp xs ys) h in
-    let one : x ≡ y = exact_bytes x y both.0 in
-    let rest : xs ≡ ys = keys_exact xs ys both.1 in
-    cc
-
--- equal versions have one key
-pub same_key : (a b : VersionRecord) → version_eq a b ≡ true → key_of a ≡ key_of b
-same_key a b h = keys_exact (key_of a) (key_of b) ((Equal-is (version_cmp a b)).0 h)
-
--- so equal versions feed a hash alike
-pub alike_versions : (a b : VersionRecord) → version_eq a b ≡ true → fed_key (key_of a) ≡ fed_key (key_of b)
-alike_versions a b h = ap fed_key (same_key a b h)
-
--- versions are equal exactly where they have one key
-pub key_decides : (a b : VersionRecord) → (IsTrue (version_eq a b)) ↔ (key_of a ≡ key_of b)
-key_decides a b = (
-  λ h. same_key a b h,
-  λ e. ap (λ k. is_eq (key_cmp (key_of a) k)) (sym e) ∙ ap is_eq (tied_itself version_cmp_total a),
-)
-
--- a version equals itself
-pub equal_records : (a b : VersionRecord) → a ≡ b → version_cmp a b ≡ Equal
-equal_records a b e = ap (version_cmp a) (sym e) ∙ tied_itself version_cmp_total a

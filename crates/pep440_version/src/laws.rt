@@ -11,7 +11,7 @@ ghost use Rattle.pep440_version.specs.VersionReading.{version_reading, pattern_r
 ghost use Rattle.pep440_version.specs.Order.{key_of, padded_cmp, stripped, version_cmp, version_eq};
 
 /// Versions are equal exactly where their keys are the same, and then they feed a hash alike.
-#[tactic(auto, using(crate::specs::Order::key_decides))]
+#[tactic(auto, using(crate::specs::OrderLaws::key_decides))]
 pub fn key_decides()
     ensures { (a b : VersionRecord) → IsTrue (version_eq a b) ↔ (key_of a ≡ key_of b) }
 {}

@@ -6,7 +6,8 @@ ghost use Rattle.read_outcome.specs.Outcome.{Answers};
 ghost use Rattle.pep440_version.specs.declared.parse_error.VersionParseError.TheVariants as errors;
 ghost use Rattle.pep440_version.specs.declared.parse_error.VersionPatternParseError.TheVariants as patterns;
 ghost use Rattle.pep440_version.specs.VersionReading.{NoLeadingNumber, pattern_reading, told_pattern};
-ghost use Rattle.pep440_version.specs.PatternOrder.{pattern_eq, pattern_eq_equiv, pattern_eq_partial, fed_pattern, alike_patterns};
+ghost use Rattle.pep440_version.specs.PatternOrder.{pattern_eq, fed_pattern};
+ghost use Rattle.pep440_version.specs.OrderLaws.{pattern_eq_equiv, pattern_eq_partial, alike_patterns};
 
 use crate::{Version, VersionPatternParseError};
 use std::alloc::{AllocError, Global};

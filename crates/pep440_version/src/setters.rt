@@ -3,11 +3,18 @@
 ghost use Rattle.std.specs.Prelude.{◌≡◌, ◌↔◌, ◌<◌, length, map, Some, None, IfOk, IsTrue};
 ghost use Rattle.std.specs.Option.{option_map};
 ghost use Rattle.pep440_text.specs.Record.{release_record, segment_of, without_local};
-ghost use Rattle.pep440_version.specs.Changes.{early_version, without_end_zeros, last_raised};
+ghost use Rattle.pep440_version.specs.Changes.{early_version, without_end_zeros, raised, last_raised};
 
 use crate::ordering::without_end_zeros;
 use crate::{LocalSegment, Prerelease, PrereleaseKind, Version};
 use std::alloc::{AllocError, Global};
+
+/// One more, where 64 bits hold it.
+fn raised(number: u64) -> Option<u64>
+    ensures { result ≡ raised number }
+{
+    number.checked_add(1)
+}
 
 impl Version {
     /// An early version: `0a0.dev0`. Some versions lie below it, as `0.dev0`. Takes memory for its number.
@@ -130,7 +137,7 @@ impl Version {
         ensures { result ≡ option_map (λ numbers. record self { release = numbers }) (last_raised self.release) }
     {
         let last = self.release.pop()?;
-        match last.checked_add(1) {
+        match raised(last) {
             None => None,
             Some(next) => match self.release.push(next) {
                 Ok(()) => Some(self),

@@ -1,5 +1,5 @@
 use Rattle.std.proofs.lemmas.Result.{IfOk-weaker}
-use Rattle.pep440_version.specs.Order.{equal_records}
+use Rattle.pep440_version.specs.OrderLaws.{equal_records}
 use Rattle.pep440_version.proofs.range_value.VersionRangeValue.try_clone.Goals as goal
 
 pub returns : goal.returns
