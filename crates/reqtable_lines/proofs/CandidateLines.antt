@@ -1,5 +1,5 @@
 -- What is read of a candidate line is in the grammar, and what is in the grammar is read.
-use Rattle.std.proofs.Common.{◌≡◌, ◌↔◌, ℕ, List, Option, Some, None, Result, Ok, Err, refl, ap, sym, subst, ◌∙◌}
+use Rattle.std.proofs.Common.{◌≡◌, ℕ, List, Option, Some, None, Result, Ok, Err, refl, ap, sym, subst, ◌∙◌}
 use Rattle.std.specs.Str.{encode_utf8_all, IsUtf8, trim}
 use Rattle.pep440_rs.specs.Record.{VersionRecord}
 use Rattle.pep440_rs.specs.Reading.{version_of}
@@ -9,9 +9,9 @@ use Rattle.reqtable_lines.specs.declared.candidates.Candidate.{Candidate}
 use Rattle.reqtable_lines.specs.declared.candidates.CandidateFault.{CandidateFault}
 use Rattle.reqtable_lines.specs.declared.candidates.CandidateFault.TheVariants.{Shape, Name, Version}
 use Rattle.reqtable_lines.specs.CandidateLine.{parts_in, candidate_by, candidate_in, candidate_of}
-use Rattle.reqtable_lines.specs.CandidateText.{AreItsParts, IsCandidateLine, LacksName, LacksVersion, IsCandidateFault}
+use Rattle.reqtable_lines.specs.CandidateText.{AreItsParts, IsCandidateLine, IsCandidateFault}
 use Rattle.reqtable_lines.proofs.Releases.{VersionLaw}
-use Rattle.reqtable_lines.proofs.CandidateParts.{Found, parts_found, parts_again}
+use Rattle.reqtable_lines.proofs.CandidateParts.{parts_found, parts_again}
 
 both_read : (name : Option (List ℕ)) (version : Option VersionRecord) (candidate : Candidate)
     → candidate_by name version ≡ Ok candidate → (name ≡ Some candidate.name) × (version ≡ Some candidate.version)

@@ -13,7 +13,7 @@ use Rattle.std.specs.Option.{MatchOption, unwrap_or, option_map_or}
 use Rattle.std.specs.Str.{chars, encode_utf8_all, IsUtf8, IsCharBoundary, NonePass, skip_leading_whitespace, trim_start}
 use Rattle.std.specs.Str.Lines.{strip_carriage_return}
 use Rattle.std.specs.Str.Pattern.{FindsCharSuffix, StripsSuffix}
-use Rattle.reqtable_lines.specs.TextLines.{with_before, begins_comment, without_comment, is_blank}
+use Rattle.reqtable_lines.specs.TextLines.{begins_comment, without_comment, is_blank}
 
 -- the characters before a comment, where the truth says whether a `#` here begins one
 abbrev pub scanned : Bool → List ℕ → List ℕ

@@ -10,7 +10,7 @@ use Rattle.reqtable_lines.specs.declared.candidates.CandidatesError.{CandidatesE
 use Rattle.reqtable_lines.specs.declared.candidates.CandidatesError.TheVariants.{NotText, Line}
 use Rattle.reqtable_lines.specs.TextLines.{text_lines, each_line}
 use Rattle.reqtable_lines.specs.CandidateLine.{candidate_of}
-use Rattle.reqtable_lines.specs.CandidateText.{IsCandidateLine, IsNumberedCandidate, IsCandidateFault, IsFirstFault}
+use Rattle.reqtable_lines.specs.CandidateText.{IsNumberedCandidate, IsFirstFault}
 use Rattle.reqtable_lines.specs.Candidates.{at_line, candidate_at, candidates_of}
 use Rattle.reqtable_lines.proofs.Releases.{VersionLaw}
 use Rattle.reqtable_lines.proofs.CandidateLines.{candidate_found, candidate_again, cause_found, cause_again}
