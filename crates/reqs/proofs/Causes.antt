@@ -1,10 +1,10 @@
 -- No text of an input is refused for a reader's or the writer's own fault.
-use Rattle.std.proofs.Common.{◌≡◌, ℕ, Bool, true, false, List, length, nat_le, Option, Some, None, not, is_some, find, Result, Ok, Err, refl, subst, if◌then◌else◌}
+use Rattle.std.proofs.Common.{◌≡◌, ℕ, Bool, true, false, List, length, nat_le, Option, Some, None, not, find, Result, Ok, Err, refl, subst, if◌then◌else◌}
 use Rattle.std.specs.Str.{is_utf8}
 use Rattle.std.specs.Str.Lossy.{utf8_valid_len}
 use Rattle.serde_json.specs.Data.{Data}
 use Rattle.serde_json.specs.Read.{read}
-use Rattle.pep508_name.specs.Name.{name_of}
+use Rattle.pep508_name.specs.Name.{is_name}
 use Rattle.pep508_marker.specs.declared.EnvironmentError.{EnvironmentError}
 use Rattle.pep508_marker.specs.declared.EnvironmentError.TheVariants as environments
 use Rattle.pep508_marker.specs.Environment.{environment_of}
@@ -86,7 +86,7 @@ environment_causes bytes = choice_causes (is_utf8 bytes) (environment_in (read b
 texts_causes : (extras : List (List ℕ)) (first second third : List ℕ) → Causes (texts_of extras first second third)
 unfolding texts_of
 texts_causes extras first second third =
-    step_causes (extras_of extras) _ (refused_causes extras (find (λ text. not (is_some (name_of text))) extras)) (λ names.
+    step_causes (extras_of extras) _ (refused_causes extras (find (λ text. not (is_name text)) extras)) (λ names.
     step_causes (with_fault of_requirements (requirements_of first)) _
     (with_fault_causes of_requirements (requirements_of first) of_requirements_causes) (λ lines.
     step_causes (environment_from second) _ (environment_causes second) (λ environment.

@@ -6,8 +6,8 @@ use Rattle.reqtable_lines.specs.declared.requirements.RequirementsError.{Require
 use Rattle.reqtable_lines.specs.declared.requirements.RequirementsError.TheVariants as requirements
 use Rattle.reqtable_lines.specs.declared.candidates.CandidatesError.{CandidatesError}
 use Rattle.reqtable_lines.specs.declared.candidates.CandidatesError.TheVariants as candidates
-use Rattle.reqtable_lines.specs.Requirements as lists
-use Rattle.reqtable_lines.specs.Candidates as choices
+use Rattle.reqtable_lines.specs.Requirements.{told_requirements}
+use Rattle.reqtable_lines.specs.Candidates.{told_candidates}
 use Rattle.reqs.specs.declared.fault.RunFault.{RunFault}
 use Rattle.reqs.specs.declared.fault.RunFault.TheVariants.{Read, Write}
 use Rattle.reqs.specs.declared.fault.Input.{Input}
@@ -26,17 +26,18 @@ pub tells_rest : {A B : Type 0} (told : Option RunFault) (step : Result A RunFau
 tells_rest None step rest h = tt
 tells_rest (Some fault) step rest h = ap (λ r. r >>= rest) h
 
-pub requirements_tell : {A : Type 0} (fault : RequirementsError) (read : Result A RequirementsError)
-    → lists.Refuses fault read → Tells (told_run (of_requirements fault)) (with_fault of_requirements read)
-requirements_tell (requirements.NotText offset) read h = ap (with_fault of_requirements) h
-requirements_tell (requirements.NotYet number) read h = ap (with_fault of_requirements) h
-requirements_tell requirements.Memory read h = tt
+-- a fault of a list is one of the command
+pub requirements_tell : {A : Type 0} (error : RequirementsError) (reading : Result A RequirementsError)
+    → Tells (told_requirements error) reading → Tells (told_run (of_requirements error)) (with_fault of_requirements reading)
+requirements_tell (requirements.NotText offset) reading h = ap (with_fault of_requirements) h
+requirements_tell (requirements.NotYet number) reading h = ap (with_fault of_requirements) h
+requirements_tell requirements.Memory reading h = tt
 
-pub candidates_tell : {A : Type 0} (fault : CandidatesError) (read : Result A CandidatesError)
-    → choices.Refuses fault read → Tells (told_run (of_candidates fault)) (with_fault of_candidates read)
-candidates_tell (candidates.NotText offset) read h = ap (with_fault of_candidates) h
-candidates_tell (candidates.Line number cause) read h = ap (with_fault of_candidates) h
-candidates_tell candidates.Memory read h = tt
+pub candidates_tell : {A : Type 0} (error : CandidatesError) (reading : Result A CandidatesError)
+    → Tells (told_candidates error) reading → Tells (told_run (of_candidates error)) (with_fault of_candidates reading)
+candidates_tell (candidates.NotText offset) reading h = ap (with_fault of_candidates) h
+candidates_tell (candidates.Line number cause) reading h = ap (with_fault of_candidates) h
+candidates_tell candidates.Memory reading h = tt
 
 -- inputs that are read whole are what their texts are
 inputs_are : (extras : List (List ℕ)) (x y z first second third : List ℕ) → input_of First x ≡ Ok first

@@ -1,11 +1,11 @@
 -- What the bytes of a command's inputs are, or the fault that they are refused for.
-use Rattle.std.specs.Prelude.{ℕ, not, is_some, List, find, Option, Some, None, Result, Ok, Err, if◌then◌else◌}
+use Rattle.std.specs.Prelude.{ℕ, not, List, find, Option, Some, None, Result, Ok, Err, if◌then◌else◌}
 use Rattle.std.specs.Prelude.{◌≤◌, nat_le, length}
 use Rattle.std.specs.Str.{is_utf8}
 use Rattle.std.specs.Str.Lossy.{utf8_valid_len}
 use Rattle.serde_json.specs.Data.{Data}
 use Rattle.serde_json.specs.Read.{read}
-use Rattle.pep508_name.specs.Name.{name_of}
+use Rattle.pep508_name.specs.Name.{is_name}
 use Rattle.pep508_marker.specs.Environment.{EnvironmentRecord, environment_of}
 use Rattle.reqtable_lines.specs.declared.requirement.RequirementLine.{RequirementLine}
 use Rattle.reqtable_lines.specs.declared.candidates.Candidate.{Candidate}
@@ -50,7 +50,7 @@ unless_refused extras (Some text) = Err (Extra text)
 
 -- the extras of the command line, each of which is a name
 abbrev pub extras_of : List (List ℕ) → Result (List (List ℕ)) RunFault
-extras_of extras = unless_refused extras (find (λ text. not (is_some (name_of text))) extras)
+extras_of extras = unless_refused extras (find (λ text. not (is_name text)) extras)
 
 abbrev pub environment_in : Option Data → Result EnvironmentRecord RunFault
 environment_in None = Err (Json Second)

@@ -1,6 +1,6 @@
 //! The inputs of a command: each read whole, and then read as what it is.
 
-ghost use Rattle.std.specs.Prelude.{◌≡◌, map, IfOk, IfErr, true, false};
+ghost use Rattle.std.specs.Prelude.{◌≡◌, map, IfOk, IfErr, IsErr, true, false};
 ghost use Rattle.std.specs.Str.{is_utf8};
 ghost use Rattle.std.specs.Str.Lossy.{utf8_valid_len};
 ghost use Rattle.serde_json.specs.Read.{read};
@@ -10,10 +10,10 @@ ghost use Rattle.reqs.specs.Inputs.{ReadsInput, extras_of, environment_in, envir
 
 use crate::fault::{Input, RefusedWord, RunFault};
 use pep508_marker::MarkerEnvironment;
-use pep508_name::{ExtraName, InvalidNameError};
+use pep508_name::is_name;
 use reqs_io::{ASK_LIMIT, INPUT_LIMIT, read_whole};
 use serde_json::Value;
-use std::alloc::Global;
+use std::alloc::{AllocError, Global};
 use std::io::Read;
 
 /// The environment variables by which URLs are expanded. No line that is read today has a URL, so
@@ -31,23 +31,27 @@ pub fn read_input<R: Read>(alloc: Global, input: Input, reader: &mut R) -> Resul
     }
 }
 
-/// Tests that each extra is a name. Nothing more is made of them yet, since no line that is read
-/// today asks for an extra.
+/// Tests that each extra is a name, and takes memory only for one that is none. Nothing more is
+/// made of them yet, since no line that is read today asks for an extra.
 pub fn test_extras(alloc: Global, extras: &[&str]) -> Result<(), RunFault>
-    ensures { Answers (λ _. map (λ e. e.now) extras.now) told_run result (extras_of (map (λ e. e.now) extras.now)) }
+    ensures answered { Answers (λ _. map (λ e. e.now) extras.now) told_run result (extras_of (map (λ e. e.now) extras.now)) }
+    ensures grown { result ≡ Err RunFault.Memory → IsErr (extras_of (map (λ e. e.now) extras.now)) }
 {
     for extra in extras {
-        match ExtraName::from_str(alloc, extra) {
-            Ok(_) => {}
-            Err(InvalidNameError::Memory) => return Err(RunFault::Memory),
-            Err(InvalidNameError::InvalidName(text)) => {
-                return Err(RunFault::Extra {
-                    text: RefusedWord::new(text),
-                });
-            }
+        if !is_name(extra) {
+            return Err(refused_extra(alloc, extra)?);
         }
     }
     Ok(())
+}
+
+/// The fault for an extra that is no name.
+fn refused_extra(alloc: Global, extra: &str) -> Result<RunFault, AllocError>
+    ensures { IfOk result (λ fault. fault ≡ RunFault.Extra extra.now) }
+{
+    Ok(RunFault::Extra {
+        text: RefusedWord::new(String::from_str(alloc, extra)?),
+    })
 }
 
 /// The text that an input's bytes are.

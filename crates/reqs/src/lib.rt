@@ -8,6 +8,3 @@ mod input;
 pub use checks::check;
 pub use fault::{Input, RefusedWord, RunFault, Status};
 pub use input::Vars;
-
-#[cfg(test)]
-mod tests;

@@ -1,5 +1,6 @@
 use reqtable_lines::{
-    CandidateFault, Candidates, CandidatesError, Comparator, RequirementLine, Requirements, RequirementsError,
+    CandidateFault, Candidates, CandidatesError, Comparator, RequirementLine, Requirements,
+    RequirementsError,
 };
 use std::alloc::Global;
 use std::fmt;
