@@ -9,7 +9,7 @@ use Rattle.version_ranges.specs.Bounds.{starts_by, goes_on_to, is_within}
 use Rattle.pep440_version.specs.Record.{VersionRecord}
 use Rattle.pep440_version.specs.Order.{version_cmp}
 use Rattle.pep440_specifier_list.specs.ListBounds.{gap_specifier}
-use Rattle.pep440_range.specs.Ranges.{PointTest, range_holds}
+use Rattle.pep440_range.specs.Ranges.{PointTest, all_hold}
 
 abbrev pub Interval : Type 0
 Interval = Bound VersionRecord × Bound VersionRecord
@@ -18,7 +18,7 @@ Interval = Bound VersionRecord × Bound VersionRecord
 abbrev pub ShareJust : List (Option PointTest) → PointTest → Type 0
 ShareJust ranges test =
     (list_all is_some ranges ≡ true)
-    × ((p : Point VersionRecord) → list_all (λ range. range_holds range p) ranges ≡ test p)
+    × ((p : Point VersionRecord) → all_hold ranges p ≡ test p)
 
 -- the points between the bounds of some interval
 abbrev pub is_in_one : List Interval → PointTest
@@ -35,8 +35,10 @@ HaveNumbers = AllByRecursion (λ interval. HasNumbers interval.0 × HasNumbers i
 
 -- an interval begins and ends no earlier than another one
 pub record IsBehind (first next : Interval) : Type 0 where
-  pub begins : (p : Point VersionRecord) → starts_by version_cmp next.0 p ≡ true → starts_by version_cmp first.0 p ≡ true
-  pub ends : (p : Point VersionRecord) → goes_on_to version_cmp first.1 p ≡ true → goes_on_to version_cmp next.1 p ≡ true
+  pub begins : (p : Point VersionRecord) →
+      starts_by version_cmp next.0 p ≡ true → starts_by version_cmp first.0 p ≡ true
+  pub ends : (p : Point VersionRecord) →
+      goes_on_to version_cmp first.1 p ≡ true → goes_on_to version_cmp next.1 p ≡ true
 
 -- and so each one that follows
 abbrev pub AreBehind : Interval → List Interval → Type 0

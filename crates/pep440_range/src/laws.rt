@@ -34,7 +34,8 @@ pub fn ranges_agree_with_matching()
 /// A list's range, where there is one, holds a version without a local part exactly where the list takes it; under what
 /// `ranges_agree_with_matching` asks, of each member.
 pub fn list_ranges_agree_with_matching()
-    ensures { (members : List SpecifierRecord) (candidate : VersionRecord) (set : List (Point VersionRecord)) →
+    ensures { (members : List SpecifierRecord) (candidate : VersionRecord)
+        (set : List (Point VersionRecord)) →
         All (IsAgreeing candidate) members → IsSaid candidate → candidate.local ≡ [] →
         GivesAll (Ok set) (map range_of members) →
         holds_at version_cmp set (At candidate) ≡ matches_all members candidate }
@@ -43,7 +44,8 @@ pub fn list_ranges_agree_with_matching()
 /// The same for a candidate that has neither a local part nor a post-release, and members without `===` and without a
 /// post-release beside `<` or `>`: then no more is asked of the two together.
 pub fn ranges_agree_beside_posts()
-    ensures { (members : List SpecifierRecord) (candidate : VersionRecord) (set : List (Point VersionRecord)) →
+    ensures { (members : List SpecifierRecord) (candidate : VersionRecord)
+        (set : List (Point VersionRecord)) →
         All IsWithoutPosts members → IsSaid candidate → candidate.local ≡ [] → candidate.post ≡ None →
         GivesAll (Ok set) (map range_of members) →
         holds_at version_cmp set (At candidate) ≡ matches_all members candidate }
@@ -92,7 +94,8 @@ pub fn release_negation_is_the_complement()
 pub fn interval_specifiers_hold_the_interval()
     ensures { (lower upper : Bound VersionRecord) →
         IsReleaseBound lower → IsReleaseBound upper → HasNumbers upper →
-        ShareJust (map release_range_of (interval_specifiers lower upper)) (is_within version_cmp (lower, upper)) }
+        ShareJust (map release_range_of (interval_specifiers lower upper))
+        (is_within version_cmp (lower, upper)) }
 {}
 
 /// The ranges among releases of the list of intervals hold together just what lies in one of the intervals; where these
