@@ -31,7 +31,7 @@ mapped_rest (Some test) = ap Some (sym (rest_of_rest test))
 
 -- ---- complements of bounds
 
-turned : (p q : Point VersionRecord) → point_cmp version_cmp p q ≡ ordering_reverse (point_cmp version_cmp q p)
+pub turned : (p q : Point VersionRecord) → point_cmp version_cmp p q ≡ ordering_reverse (point_cmp version_cmp q p)
 turned p q = (points_total version_cmp version_cmp_total).antisymm p q
 
 -- what is not from a version on lies below it

@@ -11,3 +11,8 @@ pub mod Agreeing
 pub mod Lists
 pub mod ReleaseRanges
 pub mod Complements
+pub mod NextNumbers
+pub mod Intervals
+pub mod Unions
+pub mod InOrder
+pub mod Neither

@@ -19,7 +19,7 @@ abbrev pub AgreesAt : (SpecifierRecord → Option PointTest) → VersionRecord �
 AgreesAt range candidate member =
     (test : PointTest) → range member ≡ Some test → test (At candidate) ≡ takes candidate member
 
-both_true : (a b : Bool) → (a && b) ≡ true → (a ≡ true) × (b ≡ true)
+pub both_true : (a b : Bool) → (a && b) ≡ true → (a ≡ true) × (b ≡ true)
 both_true true b h = (refl, h)
 both_true false b h = absurd (true≢false (sym h))
 

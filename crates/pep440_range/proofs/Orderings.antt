@@ -55,6 +55,11 @@ both_equal Less p = refl
 both_equal Equal p = refl
 both_equal Greater p = refl
 
+pub equal_first : (o p : Ordering) → ordering_then o p ≡ Equal → o ≡ Equal
+equal_first Less p h = h
+equal_first Equal p h = refl
+equal_first Greater p h = h
+
 pub neither_greater : (o p : Ordering) → is_gt o ≡ false → is_gt p ≡ false → is_gt (ordering_then o p) ≡ false
 neither_greater Less p h k = refl
 neither_greater Equal p h k = k

@@ -52,7 +52,7 @@ below_is_prerelease version candidate said plain other_said other_plain apart fi
     below_final candidate.pre candidate.dev (sym (λ i. is_gt (key_cmp (left i) (right i))) ∙ h)
 
 -- the place below all of a release
-before_least : (version candidate : VersionRecord) → IsSaid candidate → candidate.local ≡ [] → is_lt (version_cmp candidate (record version { least = Some 0 })) ≡ is_gt (front_cmp version candidate)
+pub before_least : (version candidate : VersionRecord) → IsSaid candidate → candidate.local ≡ [] → is_lt (version_cmp candidate (record version { least = Some 0 })) ≡ is_gt (front_cmp version candidate)
 before_least version candidate said plain =
     let end : VersionRecord = record version { least = Some 0 } in
     let rest : List (List ℕ) = rest_of version.pre version.post version.dev (Some 0) version.most version.local in

@@ -2,9 +2,10 @@
 use Rattle.std.specs.Prelude.{◌≡◌, ◌⊎◌, false, None}
 use Rattle.pep440_version.specs.Record.{VersionRecord}
 use Rattle.pep440_specifier.specs.declared.operator.Operator.{Operator}
-use Rattle.pep440_specifier.specs.declared.operator.Operator.TheVariants.{Equal, EqualStar, ExactEqual, NotEqual}
-use Rattle.pep440_specifier.specs.declared.operator.Operator.TheVariants.{NotEqualStar, TildeEqual, LessThan}
-use Rattle.pep440_specifier.specs.declared.operator.Operator.TheVariants.{LessThanEqual, GreaterThan, GreaterThanEqual}
+use Rattle.pep440_specifier.specs.declared.operator.Operator.TheVariants.{Equal, EqualStar, ExactEqual}
+use Rattle.pep440_specifier.specs.declared.operator.Operator.TheVariants.{NotEqual, NotEqualStar, TildeEqual}
+use Rattle.pep440_specifier.specs.declared.operator.Operator.TheVariants.{LessThan, LessThanEqual}
+use Rattle.pep440_specifier.specs.declared.operator.Operator.TheVariants.{GreaterThan, GreaterThanEqual}
 use Rattle.pep440_specifier.specs.Building.{IsBuilt}
 use Rattle.pep440_specifier.specs.Matching.{SpecifierRecord, same_release}
 
@@ -18,8 +19,8 @@ abbrev pub AreApart : VersionRecord → VersionRecord → Type 0
 AreApart version candidate =
     (same_release version candidate ≡ false) ⊎ ((version.post ≡ None) × (candidate.post ≡ None))
 
--- where an operator's range holds just the versions that it takes: nowhere for `===`, which goes by prints, and
--- beside `<` and `>` apart from post-releases of one release
+-- where an operator's range holds just the versions that it takes: nowhere for `===`, which goes by prints,
+-- and beside `<` and `>` apart from post-releases of one release
 abbrev pub Agrees : Operator → VersionRecord → VersionRecord → Type 0
 Agrees Equal version candidate = Unit {0}
 Agrees EqualStar version candidate = Unit {0}
@@ -32,7 +33,8 @@ Agrees LessThanEqual version candidate = Unit {0}
 Agrees GreaterThan version candidate = AreApart version candidate
 Agrees GreaterThanEqual version candidate = Unit {0}
 
--- where it does so for each candidate that is no post-release: not for `===`, nor beside `<` and `>` for a post-release
+-- where it does so for each candidate that is no post-release: not for `===`, nor for a post-release beside
+-- `<` and `>`
 abbrev pub AgreesBesidePosts : Operator → VersionRecord → Type 0
 AgreesBesidePosts Equal version = Unit {0}
 AgreesBesidePosts EqualStar version = Unit {0}

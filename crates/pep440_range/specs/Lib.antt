@@ -4,3 +4,4 @@ pub mod ErrorPrint
 pub mod Agreement
 pub mod Shared
 pub mod Complements
+pub mod Intervals

@@ -67,7 +67,8 @@ pub(crate) fn all_but(
     alloc: Global,
     range: Result<Ranges<Version>, RangeError>,
 ) -> Result<Ranges<Version>, RangeError>
-    ensures { (wanted : Option PointTest) → Gives range wanted → Gives result (option_map all_but wanted) }
+    ensures { (wanted : Option PointTest) →
+        Gives range wanted → Gives result (option_map all_but wanted) }
 {
     match range {
         Ok(range) => Ok(range.complement(alloc)?),
@@ -82,7 +83,8 @@ pub(crate) fn both(
     other: &Ranges<Version>,
 ) -> Result<Ranges<Version>, RangeError>
     ensures points { IfOk result (λ set. (p : Point VersionRecord) →
-        holds_at version_cmp set p ≡ (holds_at version_cmp range.now p && holds_at version_cmp other.now p)) }
+        holds_at version_cmp set p
+        ≡ (holds_at version_cmp range.now p && holds_at version_cmp other.now p)) }
     ensures memory { IfErr result (λ error. error ≡ RangeError.Memory) }
 {
     Ok(range.intersection(alloc, other)?)
