@@ -3,14 +3,15 @@
 
     list_range.py [PROGRAM] [--sizes N,..] [--runs N] [--most SECONDS]
 
-PROGRAM is crates/pep440_list_range/out/pep440_list_range where none is named; it reads the list and
-says of how many intervals its range is, which has to be one more than its members. Times are the
-least of several runs of the whole process, reading the list's text included. The exit status is 1
+PROGRAM is crates/pep440_vectors/out/pep440_vectors where none is named (`./build pep440_vectors`
+makes it). It is asked of how many intervals the list's range is, which has to be one more than its
+members. Times are the least of several runs of the whole process, reading the list's text included. The exit status is 1
 where an answer is wrong, or where the longest list of at most 40,000 members took longer than
 SECONDS, 1 by default.
 """
 
 import argparse
+import json
 import os
 import random
 import subprocess
@@ -19,7 +20,7 @@ import tempfile
 import time
 
 HERE = os.path.dirname(os.path.abspath(__file__))
-PROGRAM = os.path.join(HERE, "..", "crates", "pep440_list_range", "out", "pep440_list_range")
+PROGRAM = os.path.join(HERE, "..", "crates", "pep440_vectors", "out", "pep440_vectors")
 
 
 def numbers(text):
@@ -37,12 +38,14 @@ def read_words():
     return words.parse_args()
 
 
-def write_list(folder, size):
-    """Writes a list of so many exclusions, in no order."""
+def write_question(folder, size):
+    """Asks for the intervals of a list of so many exclusions, in no order. Returns the answer."""
     members = [f"!={number}.0" for number in range(size)]
     random.Random(7).shuffle(members)
-    with open(os.path.join(folder, "list.txt"), "w", encoding="ascii") as file:
-        file.write(", ".join(members))
+    question = json.dumps(["intervals", ", ".join(members)])
+    with open(os.path.join(folder, "vectors.jsonl"), "w", encoding="ascii") as file:
+        file.write(question)
+    return f"{question} {size + 1}"
 
 
 def timed(program, folder):
@@ -59,12 +62,13 @@ def main():
     print("members  seconds")
     for size in words.sizes:
         with tempfile.TemporaryDirectory() as folder:
-            write_list(folder, size)
+            answer = write_question(folder, size)
             runs = [timed(program, folder) for _ in range(words.runs)]
         least = min(seconds for _, seconds in runs)
         print(f"{size:7}  {least:7.3f}")
-        if any(said != f"{size + 1} intervals" for said, _ in runs):
-            print(f"  wrong: {runs[0][0]}")
+        wrong = [said for said, _ in runs if said != answer]
+        if wrong:
+            print(f"  wrong: {wrong[0][-80:]}")
             failed = True
         if size <= 40000 and least > words.most:
             failed = True

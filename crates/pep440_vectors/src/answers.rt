@@ -1,21 +1,25 @@
 //! The answers.
 
 use pep440_rs::{
-    LocalSegment, Version, VersionParseError, VersionSpecifier, VersionSpecifierParseError,
-    VersionSpecifiers, VersionSpecifiersParseError,
+    LocalSegment, RangeError, Version, VersionParseError, VersionSpecifier,
+    VersionSpecifierParseError, VersionSpecifiers, VersionSpecifiersParseError,
+    specifiers_to_range,
 };
 use serde_json::Value;
 use std::alloc::{AllocError, Global};
 use std::cmp::Ordering;
 use std::fmt::Write;
+use version_ranges::Ranges;
 
 /// What is answered where a text is none of the kind.
 const REFUSED: &str = "refused";
 
 /// The answer to a question; `refused` where a text can't be read, `no question` for another form.
 pub fn answer(alloc: Global, question: &str) -> Result<String, AllocError> {
-    let Ok(question) = Value::from_str(alloc, question) else {
-        return String::from_str(alloc, "no question");
+    let question = match Value::from_str(alloc, question) {
+        Ok(question) => question,
+        Err(error) if error.is_memory() => return Err(AllocError),
+        Err(_) => return String::from_str(alloc, "no question"),
     };
     let kind = text_at(&question, 0);
     let first = text_at(&question, 1);
@@ -26,6 +30,9 @@ pub fn answer(alloc: Global, question: &str) -> Result<String, AllocError> {
         "specifier" => specifier(alloc, first),
         "list" => list(alloc, first),
         "contains" => contains(alloc, first, text_at(&question, 2)),
+        "range" => in_range(alloc, first, text_at(&question, 2)),
+        "intervals" => intervals(alloc, first),
+        "union" | "intersection" => in_both(alloc, kind, &question),
         _ => String::from_str(alloc, "no question"),
     }
 }
@@ -134,4 +141,53 @@ fn contains(alloc: Global, list: &str, candidate: &str) -> Result<String, AllocE
     };
     let taken = list.contains(alloc, &candidate)?;
     format!(in alloc; "{taken}")
+}
+
+/// The set of versions that a list takes; none where the text isn't a list, or a number can't be
+/// raised.
+fn range(alloc: Global, text: &str) -> Result<Option<Ranges<Version>>, AllocError> {
+    let Some(list) = specifiers(alloc, text)? else {
+        return Ok(None);
+    };
+    match specifiers_to_range(alloc, &list) {
+        Ok(range) => Ok(Some(range)),
+        Err(RangeError::Memory) => Err(AllocError),
+        Err(RangeError::NumberAtEnd) => Ok(None),
+    }
+}
+
+fn in_range(alloc: Global, list: &str, candidate: &str) -> Result<String, AllocError> {
+    let (Some(range), Some(candidate)) = (range(alloc, list)?, version(alloc, candidate)?) else {
+        return String::from_str(alloc, REFUSED);
+    };
+    let held = range.contains(&candidate);
+    format!(in alloc; "{held}")
+}
+
+/// How many intervals a list's set has.
+fn intervals(alloc: Global, list: &str) -> Result<String, AllocError> {
+    match range(alloc, list)? {
+        Some(range) => {
+            let count = range.iter().count();
+            format!(in alloc; "{count}")
+        }
+        None => String::from_str(alloc, REFUSED),
+    }
+}
+
+/// Whether the union or the intersection of two lists' sets holds a version.
+fn in_both(alloc: Global, kind: &str, question: &Value) -> Result<String, AllocError> {
+    let left = range(alloc, text_at(question, 1))?;
+    let right = range(alloc, text_at(question, 2))?;
+    let candidate = version(alloc, text_at(question, 3))?;
+    let (Some(left), Some(right), Some(candidate)) = (left, right, candidate) else {
+        return String::from_str(alloc, REFUSED);
+    };
+    let both = if kind == "union" {
+        left.union(alloc, &right)?
+    } else {
+        left.intersection(alloc, &right)?
+    };
+    let held = both.contains(&candidate);
+    format!(in alloc; "{held}")
 }
