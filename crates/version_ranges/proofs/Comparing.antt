@@ -1,80 +1,40 @@
 -- The order of sets, and the points that they hold.
-use Rattle.std.proofs.Common.{◌≡◌, not, ◌&&◌, ◌||◌, List, [], ◌∷◌, map, refl, ap, sym, ◌∙◌}
+use Rattle.std.proofs.Common.{◌≡◌, Bool, true, false, cond, not, ◌&&◌, ◌||◌, List, [], ◌∷◌, length, map, refl, ap, sym, ◌∙◌}
 use Rattle.std.specs.List.{list_any}
 use Rattle.std.specs.declared.cmp.Ordering.{Ordering}
 use Rattle.std.specs.declared.cmp.Ordering.TheVariants.{Less, Equal, Greater}
-use Rattle.std.specs.Ordering.{is_gt, is_lt, ordering_then}
-use Rattle.std.specs.Cmp.{IsTotalOrder, alike_right}
-use Rattle.std.specs.Cmp.Lexicographic.{slice_cmp}
+use Rattle.std.specs.Prelude.{◌==◌, IsTrue}
+use Rattle.std.specs.Ordering.{is_gt, is_lt, is_eq, ordering_then, eq_by_cmp}
+use Rattle.std.specs.Cmp.{IsTotalOrder, alike_right, Equal-is, both_ways}
+use Rattle.std.specs.Cmp.Lexicographic.{slice_cmp, pointwise, lists_ties}
+use mathlib.Core.Bool.{beq}
 use Rattle.std.specs.declared.ops.Bound.{Bound}
 use Rattle.std.specs.declared.ops.Bound.TheVariants.{Included, Excluded, Unbounded}
-use Rattle.version_ranges.specs.Point.{Point, BelowAll, At, JustAbove, point_cmp, points_total}
-use Rattle.version_ranges.specs.Turns.{reaches}
+use Rattle.version_ranges.specs.Point.{Point, BelowAll, At, JustAbove, point_cmp}
 use Rattle.version_ranges.specs.Held.{HoldSamePoints, IsNormal}
 use Rattle.version_ranges.specs.Bounds.{starts_by, goes_on_to, is_within, lower_bound_at, upper_bound_at, intervals}
 use Rattle.version_ranges.specs.Order.{start_point, lower_cmp, upper_cmp, interval_cmp, ranges_cmp}
-use Rattle.version_ranges.specs.declared.segment.Segment.{Segment}
-use Rattle.version_ranges.specs.Segments.{bounds_of, turns_of, turns_from_upper, OnlyLastEndless}
-use Rattle.version_ranges.proofs.Membership.{like, canonical, then_equal}
-use Rattle.version_ranges.proofs.Reading.{held_in_intervals, intervals_are}
+use Rattle.version_ranges.specs.Boundaries.{point_of, boundary_cmp, turns_of}
+use Rattle.version_ranges.specs.OrderLaws.{points_total}
+use Rattle.version_ranges.specs.HashingLaws.{then_equal}
+use Rattle.version_ranges.specs.declared.boundary.Boundary.{Boundary}
+use Rattle.version_ranges.specs.declared.boundary.Boundary.TheVariants as boundary
+use Rattle.version_ranges.proofs.Membership.{like, canonical, same_points}
+use Rattle.version_ranges.proofs.Reading.{held_in_intervals, starts_by_reaches}
+use Rattle.version_ranges.proofs.Turning.{turns_cmp, no_more}
 
 level_then : (r : Ordering) → ordering_then r Equal ≡ r
 level_then Less = refl
 level_then Equal = refl
 level_then Greater = refl
 
--- upper bounds by their turns
-module _ {T : Type 0} (cmp : T → T → Ordering) where
-  pub both_endless : (a b : Bound T) → turns_from_upper a [] ≡ [] → turns_from_upper b [] ≡ [] → Equal ≡ upper_cmp cmp a b
-  both_endless Unbounded Unbounded h k = refl
-  both_endless Unbounded (Included w) h k = absurd (cc)
-  both_endless Unbounded (Excluded w) h k = absurd (cc)
-  both_endless (Included v) b h k = absurd (cc)
-  both_endless (Excluded v) b h k = absurd (cc)
-
-  pub first_endless : (a b : Bound T) (q : Point T) → turns_from_upper a [] ≡ [] → turns_from_upper b [] ≡ q ∷ [] → Greater ≡ upper_cmp cmp a b
-  first_endless Unbounded Unbounded q h k = absurd (cc)
-  first_endless Unbounded (Included w) q h k = refl
-  first_endless Unbounded (Excluded w) q h k = refl
-  first_endless (Included v) b q h k = absurd (cc)
-  first_endless (Excluded v) b q h k = absurd (cc)
-
-  pub second_endless : (a b : Bound T) (p : Point T) → turns_from_upper a [] ≡ p ∷ [] → turns_from_upper b [] ≡ [] → Less ≡ upper_cmp cmp a b
-  second_endless a (Included w) p h k = absurd (cc)
-  second_endless a (Excluded w) p h k = absurd (cc)
-  second_endless Unbounded Unbounded p h k = absurd (cc)
-  second_endless (Included v) Unbounded p h k = refl
-  second_endless (Excluded v) Unbounded p h k = refl
-
-  by_ends : (a b : Bound T) (p q v w : Point T) → (upper_cmp cmp a b ≡ ordering_then (point_cmp cmp v w) Equal) → v ∷ [] ≡ p ∷ [] → w ∷ [] ≡ q ∷ [] → point_cmp cmp p q ≡ upper_cmp cmp a b
-  by_ends a b p q v w e h k =
-      let l : v ≡ p = cc in
-      let m : w ≡ q = cc in
-      sym (e ∙ level_then (point_cmp cmp v w) ∙ (λ i. point_cmp cmp (l i) (m i)))
-
-  pub both_end : (a b : Bound T) (p q : Point T) → turns_from_upper a [] ≡ p ∷ [] → turns_from_upper b [] ≡ q ∷ [] → point_cmp cmp p q ≡ upper_cmp cmp a b
-  both_end Unbounded b p q h k = absurd (cc)
-  both_end (Included v) Unbounded p q h k = absurd (cc)
-  both_end (Excluded v) Unbounded p q h k = absurd (cc)
-  both_end (Included v) (Included w) p q h k = by_ends (Included v) (Included w) p q (JustAbove v) (JustAbove w) refl h k
-  both_end (Included v) (Excluded w) p q h k = by_ends (Included v) (Excluded w) p q (JustAbove v) (At w) refl h k
-  both_end (Excluded v) (Included w) p q h k = by_ends (Excluded v) (Included w) p q (At v) (JustAbove w) refl h k
-  both_end (Excluded v) (Excluded w) p q h k = by_ends (Excluded v) (Excluded w) p q (At v) (At w) refl h k
-
 -- sets are equal in their order exactly when they hold the same points
 module _ {T : Type 0} (cmp : T → T → Ordering) (o : IsTotalOrder cmp) where
   points : IsTotalOrder (point_cmp cmp)
   points = points_total cmp o
 
-  starts_by_reaches : (b : Bound T) (p : Point T) → starts_by cmp b p ≡ reaches (point_cmp cmp) (start_point b) p
-  starts_by_reaches (Included v) p = refl
-  starts_by_reaches (Excluded v) p = refl
-  starts_by_reaches Unbounded BelowAll = refl
-  starts_by_reaches Unbounded (At v) = refl
-  starts_by_reaches Unbounded (JustAbove v) = refl
-
   lowers_alike : (a b : Bound T) (p : Point T) → lower_cmp cmp a b ≡ Equal → starts_by cmp a p ≡ starts_by cmp b p
-  lowers_alike a b p h = starts_by_reaches a p ∙ like (point_cmp cmp) points (start_point a) (start_point b) p h ∙ sym (starts_by_reaches b p)
+  lowers_alike a b p h = starts_by_reaches cmp o a p ∙ like (point_cmp cmp) points (start_point a) (start_point b) p h ∙ sym (starts_by_reaches cmp o b p)
 
   uppers_alike : (a b : Bound T) (p : Point T) → upper_cmp cmp a b ≡ Equal → goes_on_to cmp a p ≡ goes_on_to cmp b p
   uppers_alike Unbounded Unbounded p h = refl
@@ -143,9 +103,153 @@ module _ {T : Type 0} (cmp : T → T → Ordering) (o : IsTotalOrder cmp) where
   pub same_equal : (a b : List (Point T)) → IsNormal cmp a → IsNormal cmp b → HoldSamePoints cmp a b → ranges_cmp cmp a b ≡ Equal
   same_equal a b r s h = turns_tied a b (canonical points a b r s h)
 
-  -- how segments compare is how their sets do
-  pub order_of : (a b : List (Segment T)) (x y : List (Point T)) → OnlyLastEndless a → OnlyLastEndless b → turns_of a ≡ x → turns_of b ≡ y → slice_cmp (interval_cmp cmp) (map bounds_of a) (map bounds_of b) ≡ ranges_cmp cmp x y
-  order_of a b x y h k e f = λ i. slice_cmp (interval_cmp cmp) (intervals_are a x h e i) (intervals_are b y k f i)
-
   pub equal_when : (x y : List (Point T)) → IsNormal cmp x → IsNormal cmp y → (r : Ordering) → r ≡ ranges_cmp cmp x y → (r ≡ Equal → HoldSamePoints cmp x y) × (HoldSamePoints cmp x y → r ≡ Equal)
   equal_when x y h k r e = (λ t. equal_holds x y h k (sym e ∙ t), λ s. e ∙ same_equal x y h k s)
+
+  -- equality by signs and boundaries is that of points
+  lists_equal : (s t : Bool) (a b : List (Boundary T)) →
+      (beq s t && pointwise (eq_by_cmp (boundary_cmp cmp)) a b)
+      ≡ eq_by_cmp (slice_cmp (point_cmp cmp)) (turns_of s a) (turns_of t b)
+  lists_equal true true a b = lists_ties (boundary_cmp cmp) (λ x y. refl) a b ∙ ap is_eq (sym (turns_cmp cmp true a b))
+  lists_equal false false a b = lists_ties (boundary_cmp cmp) (λ x y. refl) a b ∙ ap is_eq (sym (turns_cmp cmp false a b))
+  lists_equal true false a [] = refl
+  lists_equal true false a (boundary.At w ∷ b) = refl
+  lists_equal true false a (boundary.JustAbove w ∷ b) = refl
+  lists_equal false true [] b = refl
+  lists_equal false true (boundary.At v ∷ a) b = refl
+  lists_equal false true (boundary.JustAbove v ∷ a) b = refl
+
+  pub equal_lists : (s t : Bool) (a b : List (Boundary T)) (x y : List (Point T)) (r : Bool) → turns_of s a ≡ x →
+      turns_of t b ≡ y → IsNormal cmp x → IsNormal cmp y →
+      r ≡ (beq s t && pointwise (eq_by_cmp (boundary_cmp cmp)) a b) →
+      (r ≡ eq_by_cmp (ranges_cmp cmp) x y)
+      × ((IsTrue r → HoldSamePoints cmp x y) × (HoldSamePoints cmp x y → IsTrue r))
+  equal_lists s t a b x y r d e m n f =
+      let all : r ≡ is_eq (slice_cmp (point_cmp cmp) x y) =
+      f ∙ lists_equal s t a b ∙ (λ i. is_eq (slice_cmp (point_cmp cmp) (d i) (e i))) in
+      let to : IsTrue r → HoldSamePoints cmp x y =
+      λ h. same_points points x y ((Equal-is (slice_cmp (point_cmp cmp) x y)).0 (sym all ∙ h)) in
+      let from : HoldSamePoints cmp x y → IsTrue r = λ h. all ∙ ap is_eq (canonical points x y m n h) in (
+        both_ways r (is_eq (ranges_cmp cmp x y)) (λ h. ap is_eq (same_equal x y m n (to h)))
+            (λ h. from (equal_holds x y m n ((Equal-is (ranges_cmp cmp x y)).0 h))),
+        (to, from),
+      )
+
+-- the order of sets, boundary by boundary
+module _ {T : Type 0} (cmp : T → T → Ordering) where
+  level_upper : (x y : Boundary T) →
+      upper_cmp cmp (upper_bound_at (point_of x)) (upper_bound_at (point_of y)) ≡ boundary_cmp cmp x y
+  level_upper (boundary.At v) (boundary.At w) = level_then (cmp v w)
+  level_upper (boundary.At v) (boundary.JustAbove w) = level_then (ordering_then (cmp v w) Less)
+  level_upper (boundary.JustAbove v) (boundary.At w) = level_then (ordering_then (cmp v w) Greater)
+  level_upper (boundary.JustAbove v) (boundary.JustAbove w) = level_then (cmp v w)
+
+  level_lower : (x y : Boundary T) →
+      lower_cmp cmp (lower_bound_at (point_of x)) (lower_bound_at (point_of y)) ≡ boundary_cmp cmp x y
+  level_lower (boundary.At v) (boundary.At w) = refl
+  level_lower (boundary.At v) (boundary.JustAbove w) = refl
+  level_lower (boundary.JustAbove v) (boundary.At w) = refl
+  level_lower (boundary.JustAbove v) (boundary.JustAbove w) = refl
+
+  -- two sets whose first lower bounds compare by the first argument
+  behind_lower : Ordering → List (Point T) → List (Point T) → Ordering
+  behind_lower r [] [] = ordering_then (ordering_then r (upper_cmp cmp Unbounded Unbounded)) Equal
+  behind_lower r [] (y ∷ b) =
+      ordering_then (ordering_then r (upper_cmp cmp Unbounded (upper_bound_at y)))
+      (slice_cmp (interval_cmp cmp) [] (intervals b))
+  behind_lower r (x ∷ a) [] =
+      ordering_then (ordering_then r (upper_cmp cmp (upper_bound_at x) Unbounded))
+      (slice_cmp (interval_cmp cmp) (intervals a) [])
+  behind_lower r (x ∷ a) (y ∷ b) =
+      ordering_then (ordering_then r (upper_cmp cmp (upper_bound_at x) (upper_bound_at y))) (ranges_cmp cmp a b)
+
+  by_lower : (x y : Point T) (a b : List (Point T)) →
+      ranges_cmp cmp (x ∷ a) (y ∷ b) ≡ behind_lower (lower_cmp cmp (lower_bound_at x) (lower_bound_at y)) a b
+  unfolding behind_lower
+  by_lower x y [] [] = refl
+  by_lower x y [] (w ∷ b) = refl
+  by_lower x y (v ∷ a) [] = refl
+  by_lower x y (v ∷ a) (w ∷ b) = refl
+
+  lower_decides : (r : Ordering) → (r ≡ Equal → ⊥) → (a b : List (Point T)) → behind_lower r a b ≡ r
+  unfolding behind_lower
+  lower_decides Equal h a b = absurd (h refl)
+  lower_decides Less h [] [] = refl
+  lower_decides Less h [] (y ∷ b) = refl
+  lower_decides Less h (x ∷ a) [] = refl
+  lower_decides Less h (x ∷ a) (y ∷ b) = refl
+  lower_decides Greater h [] [] = refl
+  lower_decides Greater h [] (y ∷ b) = refl
+  lower_decides Greater h (x ∷ a) [] = refl
+  lower_decides Greater h (x ∷ a) (y ∷ b) = refl
+
+  first_decides : (r s : Ordering) → (r ≡ Equal → ⊥) → ordering_then r s ≡ r
+  first_decides Less s h = refl
+  first_decides Equal s h = absurd (h refl)
+  first_decides Greater s h = refl
+
+  turns_first : (held : Bool) (list left : List (Boundary T)) (x : Boundary T) → list ≡ x ∷ left →
+      turns_of held (x ∷ left) ≡ turns_of held list
+  turns_first held list left x e = ap (turns_of held) (sym e)
+
+  behind_equal : (held : Bool) (x y : Boundary T) (a b : List (Boundary T)) → boundary_cmp cmp x y ≡ Equal →
+      ranges_cmp cmp (turns_of held (x ∷ a)) (turns_of held (y ∷ b))
+      ≡ ranges_cmp cmp (turns_of (not held) a) (turns_of (not held) b)
+  behind_equal true x y a b h =
+      ap (λ r. ordering_then r (ranges_cmp cmp (map point_of a) (map point_of b))) (level_upper x y ∙ h)
+  behind_equal false x y a b h =
+      by_lower (point_of x) (point_of y) (map point_of a) (map point_of b)
+      ∙ ap (λ r. behind_lower r (map point_of a) (map point_of b)) (level_lower x y ∙ h)
+      ∙ sym (by_lower BelowAll BelowAll (map point_of a) (map point_of b))
+
+  -- equal boundaries leave the comparison to those behind them
+  pub compare_behind : (held : Bool) (x y : Boundary T) (a b left right : List (Boundary T)) → left ≡ x ∷ a → right ≡ y ∷ b →
+      boundary_cmp cmp x y ≡ Equal →
+      ranges_cmp cmp (turns_of (not held) a) (turns_of (not held) b)
+      ≡ ranges_cmp cmp (turns_of held left) (turns_of held right)
+  compare_behind held x y a b left right d e h =
+      sym (behind_equal held x y a b h)
+      ∙ (λ i. ranges_cmp cmp (turns_first held left a x d i) (turns_first held right b y e i))
+
+  at_first : (held : Bool) (x y : Boundary T) (a b : List (Boundary T)) → (boundary_cmp cmp x y ≡ Equal → ⊥) →
+      ranges_cmp cmp (turns_of held (x ∷ a)) (turns_of held (y ∷ b)) ≡ boundary_cmp cmp x y
+  at_first true x y a b h =
+      ap (λ r. ordering_then r (ranges_cmp cmp (map point_of a) (map point_of b))) (level_upper x y)
+      ∙ first_decides (boundary_cmp cmp x y) (ranges_cmp cmp (map point_of a) (map point_of b)) h
+  at_first false x y a b h =
+      by_lower (point_of x) (point_of y) (map point_of a) (map point_of b)
+      ∙ ap (λ r. behind_lower r (map point_of a) (map point_of b)) (level_lower x y)
+      ∙ lower_decides (boundary_cmp cmp x y) h (map point_of a) (map point_of b)
+
+  -- the first that differ decide
+  pub compare_first : (held : Bool) (x y : Boundary T) (a b left right : List (Boundary T)) → left ≡ x ∷ a → right ≡ y ∷ b →
+      (r : Ordering) → r ≡ boundary_cmp cmp x y → (r ≡ Equal → ⊥) →
+      r ≡ ranges_cmp cmp (turns_of held left) (turns_of held right)
+  compare_first held x y a b left right d e r f h =
+      f ∙ sym (at_first held x y a b (λ k. h (f ∙ k)))
+      ∙ (λ i. ranges_cmp cmp (turns_first held left a x d i) (turns_first held right b y e i))
+
+  ends_first : (held : Bool) (y : Boundary T) (b : List (Boundary T)) →
+      cond held Greater Less ≡ ranges_cmp cmp (turns_of held []) (turns_of held (y ∷ b))
+  ends_first true (boundary.At w) b = refl
+  ends_first true (boundary.JustAbove w) b = refl
+  ends_first false y [] = refl
+  ends_first false y (z ∷ b) = refl
+
+  -- one ends first
+  pub compare_end : (held : Bool) (y : Boundary T) (b left right : List (Boundary T)) → length left ≡ 0 → right ≡ y ∷ b →
+      cond held Greater Less ≡ ranges_cmp cmp (turns_of held left) (turns_of held right)
+  compare_end held y b left right d e =
+      ends_first held y b
+      ∙ (λ i. ranges_cmp cmp (turns_of held (sym (no_more left d) i)) (turns_first held right b y e i))
+
+  -- one begins below all, and the other does not
+  pub from_below : (a b : List (Boundary T)) → (length b == 0) ≡ false →
+      Less ≡ ranges_cmp cmp (turns_of true a) (turns_of false b)
+  from_below a [] h = absurd (cc)
+  from_below a (boundary.At w ∷ b) h =
+      sym (by_lower BelowAll (At w) (map point_of a) (map point_of b)
+      ∙ lower_decides Less (λ e. cc) (map point_of a) (map point_of b))
+  from_below a (boundary.JustAbove w ∷ b) h =
+      sym (by_lower BelowAll (JustAbove w) (map point_of a) (map point_of b)
+      ∙ lower_decides Less (λ e. cc) (map point_of a) (map point_of b))

@@ -1,6 +1,8 @@
 pub mod Membership
 pub mod Pass
-pub mod Drawing
+pub mod Turning
 pub mod Reading
 pub mod Comparing
+pub mod Searching
 pub mod Spanning
+pub mod Apart

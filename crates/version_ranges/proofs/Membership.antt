@@ -6,12 +6,18 @@ use Rattle.std.specs.declared.cmp.Ordering.TheVariants.{Less, Equal, Greater}
 use Rattle.std.specs.Ordering.{is_gt, ordering_reverse, ordering_then}
 use Rattle.std.specs.Cmp.Lexicographic.{slice_cmp}
 use Rattle.std.specs.Cmp.{IsTotalOrder, tied_itself, alike_right}
+use mathlib.Core.Bool.{beq}
 use Rattle.version_ranges.specs.Turns.{flips, reaches, is_held, Rising}
-use Rattle.version_ranges.specs.Merging.{is_held_beyond, Below}
+use Rattle.version_ranges.specs.HashingLaws.{then_equal}
 
-pub flips_not : (a b : Bool) → flips a (not b) ≡ not (flips a b)
-flips_not true b = refl
-flips_not false b = refl
+-- membership beyond all turns
+abbrev pub is_held_beyond : {K : Type 0} → List K → Bool
+is_held_beyond [] = false
+is_held_beyond (x ∷ xs) = not (is_held_beyond xs)
+
+-- each of xs before each of ys
+abbrev pub Below : {K : Type 0} → (K → K → Ordering) → List K → List K → Type 0
+Below R xs ys = AllByRecursion (λ y. AllByRecursion (λ x. R x y ≡ Less) xs) ys
 
 pub not_not : (b : Bool) → not (not b) ≡ b
 not_not true = refl
@@ -35,6 +41,13 @@ flips_comm true true = refl
 flips_comm true false = refl
 flips_comm false true = refl
 flips_comm false false = refl
+
+-- one or the other, not both
+pub differs : (a b : Bool) → not (beq a b) ≡ flips b a
+differs true true = refl
+differs true false = refl
+differs false true = refl
+differs false false = refl
 
 module _ {K : Type 0} where
   pub is_held_beyond-append : (xs ys : List K) → is_held_beyond (xs ++ ys) ≡ flips (is_held_beyond xs) (is_held_beyond ys)
@@ -124,17 +137,9 @@ module _ {K : Type 0} where
           (all_weaker (λ x. R x t ≡ Equal) (λ x. R x y ≡ Less) (λ x k. o.congr x t y k ∙ h) ts b))
           ys c
 
-      pub below_first : (xs ys : List K) (t : K) → Below R xs (t ∷ ys) → AllByRecursion (λ x. R x t ≡ Less) xs
-      below_first xs ys t b = b.0
-
       -- t in place of one like it
       pub below_like : (t u : K) (xs : List K) → R t u ≡ Equal → AllByRecursion (λ x. R x t ≡ Less) xs → AllByRecursion (λ x. R x u ≡ Less) xs
       below_like t u xs e a = all_weaker (λ x. R x t ≡ Less) (λ x. R x u ≡ Less) (λ x k. sym (alike_right o t u x e) ∙ k) xs a
-
-pub then_equal : (r s : Ordering) → ordering_then r s ≡ Equal → (r ≡ Equal) × (s ≡ Equal)
-then_equal Less s h = absurd (cc)
-then_equal Equal s h = (refl, h)
-then_equal Greater s h = absurd (cc)
 
 module _ {K : Type 0} {R : K → K → Ordering} (o : IsTotalOrder R) where
   -- t before the head of a rising list is before all of it
@@ -188,3 +193,20 @@ module _ {K : Type 0} {R : K → K → Ordering} (o : IsTotalOrder R) where
   same_points (x ∷ xs) (y ∷ ys) e p =
       let both = then_equal (R x y) (slice_cmp R xs ys) e in
       (λ i. flips (like R o x y p both.0 i) (same_points xs ys both.1 p i))
+
+  -- a list that is equal to a rising one rises
+  tied_before : (x y : K) (xs ys : List K) → R x y ≡ Equal → slice_cmp R xs ys ≡ Equal →
+      AllByRecursion (λ z. R y z ≡ Less) ys → AllByRecursion (λ z. R x z ≡ Less) xs
+  tied_before x y [] [] e f a = tt
+  tied_before x y [] (w ∷ ys) e f a = absurd (cc)
+  tied_before x y (v ∷ xs) [] e f a = absurd (cc)
+  tied_before x y (v ∷ xs) (w ∷ ys) e f a =
+      let both = then_equal (R v w) (slice_cmp R xs ys) f in
+      (alike_right o v w x both.0 ∙ o.congr x y w e ∙ a.0, tied_before x y xs ys e both.1 a.1)
+
+  pub tied_rises : (xs ys : List K) → slice_cmp R xs ys ≡ Equal → Rising R ys → Rising R xs
+  tied_rises [] ys e r = tt
+  tied_rises (x ∷ xs) [] e r = absurd (cc)
+  tied_rises (x ∷ xs) (y ∷ ys) e r =
+      let both = then_equal (R x y) (slice_cmp R xs ys) e in
+      (tied_before x y xs ys both.0 both.1 r.0, tied_rises xs ys both.1 r.1)

@@ -1,5 +1,5 @@
 -- What one pass over the turns of two sets has written at a time.
-use Rattle.std.proofs.Common.{◌≡◌, Bool, true, false, not, List, [], ◌∷◌, ◌++◌, refl, ap, sym, subst, ◌∙◌, append_assoc, append-nil, arith}
+use Rattle.std.proofs.Common.{◌≡◌, Bool, true, false, not, List, [], ◌∷◌, ◌++◌, refl, ap, sym, subst, ◌∙◌, append_assoc, append-nil}
 use Rattle.std.specs.List.{AllByRecursion}
 use Rattle.std.specs.declared.cmp.Ordering.{Ordering}
 use Rattle.std.specs.declared.cmp.Ordering.TheVariants.{Less, Equal, Greater}
@@ -7,11 +7,12 @@ use Rattle.std.specs.Ordering.{is_gt, ordering_reverse}
 use Rattle.std.specs.Cmp.{IsTotalOrder, tied_itself, tied_back}
 use mathlib.Core.Bool.{beq}
 use Rattle.version_ranges.specs.Turns.{flips, is_held, Rising}
-use Rattle.version_ranges.specs.Merging.{is_held_beyond, Below, IsFirst, Adds}
-use Rattle.version_ranges.proofs.Membership.{flips_comm, is_held_beyond-append, all_weaker, step_at, rising_append, below_like, below_step, before_head}
+use Rattle.version_ranges.specs.Merging.{Takes, Adds, IsFirst}
+use Rattle.version_ranges.proofs.Membership.{is_held_beyond, Below, flips_comm, is_held_beyond-append, all_weaker, step_at, rising_append, below_like, below_step, before_head}
 
 -- what two lists of turns are joined to, as far as they are read
-pub record Joined {K : Type 0} (R : K → K → Ordering) (f : Bool → Bool → Bool) (a b out left_a left_b : List K) (in_a in_b : Bool) : Type 0 where
+pub record Joined {K : Type 0} (R : K → K → Ordering) (f : Bool → Bool → Bool) (a b out left_a left_b : List K)
+    (in_a in_b : Bool) : Type 0 where
   pub read_a : List K
   pub read_b : List K
   pub a_is : read_a ++ left_a ≡ a
@@ -62,97 +63,127 @@ module _ {K : Type 0} {R : K → K → Ordering} (o : IsTotalOrder R) {f : Bool 
         out_b = below_step R o t out to rb lo eo gb;
       }
 
+-- what is taken from a list or put at its end, as a list of one or none
+record IsAtMostOne {K : Type 0} (R : K → K → Ordering) (t : K) (there : Bool) (xs : List K) : Type 0 where
+  like : AllByRecursion (λ x. R x t ≡ Equal) xs
+  end_is : is_held_beyond xs ≡ there
+  rising : Rising R xs
+
+module _ {K : Type 0} (R : K → K → Ordering) where
+  taken_front : (t : K) (there : Bool) (list left : List K) → Takes R t there list left →
+      (xs : List K) × (list ≡ xs ++ left) × IsAtMostOne R t there xs
+  taken_front t true list left h = (h.0 ∷ [], h.1, record { like = (h.2, tt); end_is = refl; rising = (tt, tt) })
+  taken_front t false list left h = ([], h, record { like = tt; end_is = refl; rising = tt })
+
+  added_end : (t : K) (there : Bool) (old new : List K) → Adds R t there old new →
+      (xs : List K) × (new ≡ old ++ xs) × IsAtMostOne R t there xs
+  added_end t true old new h = (h.0 ∷ [], h.1, record { like = (h.2, tt); end_is = refl; rising = (tt, tt) })
+  added_end t false old new h =
+      ([], h ∙ sym (append-nil old), record { like = tt; end_is = refl; rising = tt })
+
+  rising_left : (t : K) (there : Bool) (list left : List K) → Takes R t there list left → Rising R list → Rising R left
+  rising_left t true list left h r = (subst (Rising R) h.1 r).1
+  rising_left t false list left h r = subst (Rising R) h r
+
 -- the first turn of two lists: which list it comes from, and what is left
-module _ {K : Type 0} {R : K → K → Ordering} (o : IsTotalOrder R) (in_a in_b : Bool) where
-  first_a_at : (t : K) (ra b : List K) → (Rising R b → AllByRecursion (λ y. R t y ≡ Less) b) → IsFirst R in_a (t ∷ ra) in_b b t (not in_a) ra in_b b
-  first_a_at t ra b l = record {
-    from_a = t ∷ [];
-    from_b = [];
-    a_is = refl;
-    b_is = refl;
-    like_a = (tied_itself o t, tt);
-    like_b = tt;
-    end_a = refl;
-    end_b = refl;
-    later = λ p q. (p.1, q, p.0, l q);
-    before = λ xs p q. p.0;
-    fewer = omega arith;
+module _ {K : Type 0} {R : K → K → Ordering} (o : IsTotalOrder R) where
+  -- what comes before all of a list comes before what was taken from it
+  before_taken : (t : K) (xs list left : List K) → Takes R t true list left → Below R xs list →
+      AllByRecursion (λ x. R x t ≡ Less) xs
+  before_taken t xs list left h b = below_like R o h.0 t xs h.2 (subst (Below R xs) h.1 b).0
+
+  before_first : (t : K) (in_a in_b : Bool) (a b left_a left_b xs : List K) → IsFirst R a b t in_a in_b left_a left_b →
+      Below R xs a → Below R xs b → AllByRecursion (λ x. R x t ≡ Less) xs
+  before_first t true in_b a b left_a left_b xs n p q = before_taken t xs a left_a n.taken_a p
+  before_first t false true a b left_a left_b xs n p q = before_taken t xs b left_b n.taken_b q
+  before_first t false false a b left_a left_b xs n p q = absurd (cc (n.taken))
+
+  -- nothing is left of an empty list
+  behind_none : (t : K) (list : List K) → list ≡ [] → AllByRecursion (λ y. R t y ≡ Less) list
+  behind_none t list e = subst (AllByRecursion (λ y. R t y ≡ Less)) (sym e) tt
+
+  pub first_alone_a : (t : K) (a left b : List K) → a ≡ t ∷ left → b ≡ [] → IsFirst R a b t true false left b
+  first_alone_a t a left b e f = record {
+    taken_a = (t, e, tied_itself o t);
+    taken_b = refl;
+    taken = refl;
+    before_a = λ p q. (subst (Rising R) e p).0;
+    before_b = λ p q. behind_none t b f;
   }
 
-  first_b_at : (t : K) (a rb : List K) → (Rising R a → AllByRecursion (λ y. R t y ≡ Less) a) → IsFirst R in_a a in_b (t ∷ rb) t in_a a (not in_b) rb
-  first_b_at t a rb l = record {
-    from_a = [];
-    from_b = t ∷ [];
-    a_is = refl;
-    b_is = refl;
-    like_a = tt;
-    like_b = (tied_itself o t, tt);
-    end_a = refl;
-    end_b = refl;
-    later = λ p q. (p, q.1, l p, q.0);
-    before = λ xs p q. q.0;
-    fewer = omega arith;
+  pub first_alone_b : (t : K) (a b left : List K) → b ≡ t ∷ left → a ≡ [] → IsFirst R a b t false true a left
+  first_alone_b t a b left e f = record {
+    taken_a = refl;
+    taken_b = (t, e, tied_itself o t);
+    taken = refl;
+    before_a = λ p q. behind_none t a f;
+    before_b = λ p q. (subst (Rising R) e q).0;
   }
 
-  first_both_at : (t u : K) (ra rb : List K) → R t u ≡ Equal → IsFirst R in_a (t ∷ ra) in_b (u ∷ rb) t (not in_a) ra (not in_b) rb
-  first_both_at t u ra rb e = record {
-    from_a = t ∷ [];
-    from_b = u ∷ [];
-    a_is = refl;
-    b_is = refl;
-    like_a = (tied_itself o t, tt);
-    like_b = (tied_back o t u e, tt);
-    end_a = refl;
-    end_b = refl;
-    later = λ p q. (p.1, q.1, p.0, all_weaker (λ y. R u y ≡ Less) (λ y. R t y ≡ Less) (λ y k. o.congr t u y e ∙ k) rb q.0);
-    before = λ xs p q. p.0;
-    fewer = omega arith;
+  -- t before the head of a rising list is before all of it
+  before_all : (t u : K) (list left : List K) → R t u ≡ Less → list ≡ u ∷ left → Rising R list →
+      AllByRecursion (λ y. R t y ≡ Less) list
+  before_all t u list left h e r =
+      subst (AllByRecursion (λ y. R t y ≡ Less)) (sym e) (before_head o t u left h (subst (Rising R) e r))
+
+  pub first_less : (t u : K) (a b left_a left_b : List K) → a ≡ t ∷ left_a → b ≡ u ∷ left_b → R t u ≡ Less →
+      IsFirst R a b t true false left_a b
+  first_less t u a b left_a left_b e f h = record {
+    taken_a = (t, e, tied_itself o t);
+    taken_b = refl;
+    taken = refl;
+    before_a = λ p q. (subst (Rising R) e p).0;
+    before_b = λ p q. before_all t u b left_b h f q;
   }
 
-  pub first_alone_a : (t : K) (now : Bool) (a ra b : List K) → a ≡ t ∷ ra → now ≡ not in_a → b ≡ [] → IsFirst R in_a a in_b b t now ra in_b b
-  first_alone_a t now a ra b e n f = subst (λ w. IsFirst R in_a a in_b b t w ra in_b b) (sym n) (subst (λ v. IsFirst R in_a v in_b b t (not in_a) ra in_b b) (sym e) (first_a_at t ra b (λ r. subst (AllByRecursion (λ z. R t z ≡ Less)) (sym f) tt)))
+  pub first_equal : (t u : K) (a b left_a left_b : List K) → a ≡ t ∷ left_a → b ≡ u ∷ left_b → R t u ≡ Equal →
+      IsFirst R a b t true true left_a left_b
+  first_equal t u a b left_a left_b e f h = record {
+    taken_a = (t, e, tied_itself o t);
+    taken_b = (u, f, tied_back o t u h);
+    taken = refl;
+    before_a = λ p q. (subst (Rising R) e p).0;
+    before_b = λ p q.
+        all_weaker (λ y. R u y ≡ Less) (λ y. R t y ≡ Less) (λ y k. o.congr t u y h ∙ k) left_b (subst (Rising R) f q).0;
+  }
 
-  pub first_alone_b : (t : K) (now : Bool) (a b rb : List K) → b ≡ t ∷ rb → now ≡ not in_b → a ≡ [] → IsFirst R in_a a in_b b t in_a a now rb
-  first_alone_b t now a b rb e n f = subst (λ w. IsFirst R in_a a in_b b t in_a a w rb) (sym n) (subst (λ v. IsFirst R in_a a in_b v t in_a a (not in_b) rb) (sym e) (first_b_at t a rb (λ r. subst (AllByRecursion (λ z. R t z ≡ Less)) (sym f) tt)))
-
-  pub first_less : (t u : K) (now : Bool) (a b ra rb : List K) → a ≡ t ∷ ra → now ≡ not in_a → b ≡ u ∷ rb → R t u ≡ Less → IsFirst R in_a a in_b b t now ra in_b b
-  first_less t u now a b ra rb e n f h =
-      subst (λ w. IsFirst R in_a a in_b b t w ra in_b b) (sym n)
-      (subst (λ v. IsFirst R in_a v in_b b t (not in_a) ra in_b b) (sym e)
-      (first_a_at t ra b (λ r. subst (AllByRecursion (λ z. R t z ≡ Less)) (sym f) (before_head o t u rb h (subst (Rising R) f r)))))
-
-  pub first_equal : (t u : K) (now_a now_b : Bool) (a b ra rb : List K) → a ≡ t ∷ ra → now_a ≡ not in_a → b ≡ u ∷ rb → now_b ≡ not in_b → R t u ≡ Equal → IsFirst R in_a a in_b b t now_a ra now_b rb
-  first_equal t u now_a now_b a b ra rb e n f m h =
-      subst (λ w. IsFirst R in_a a in_b b t w ra now_b rb) (sym n)
-      (subst (λ w. IsFirst R in_a a in_b b t (not in_a) ra w rb) (sym m)
-      (subst (λ v. IsFirst R in_a v in_b b t (not in_a) ra (not in_b) rb) (sym e)
-      (subst (λ v. IsFirst R in_a (t ∷ ra) in_b v t (not in_a) ra (not in_b) rb) (sym f) (first_both_at t u ra rb h))))
-
-  pub first_greater : (t u : K) (now : Bool) (a b ra rb : List K) → a ≡ t ∷ ra → b ≡ u ∷ rb → now ≡ not in_b → R t u ≡ Greater → IsFirst R in_a a in_b b u in_a a now rb
-  first_greater t u now a b ra rb e f n h =
-      let back : R u t ≡ Less = o.antisymm u t ∙ ap ordering_reverse h in
-      subst (λ w. IsFirst R in_a a in_b b u in_a a w rb) (sym n)
-      (subst (λ v. IsFirst R in_a a in_b v u in_a a (not in_b) rb) (sym f)
-      (first_b_at u a rb (λ r. subst (AllByRecursion (λ z. R u z ≡ Less)) (sym e) (before_head o u t ra back (subst (Rising R) e r)))))
+  pub first_greater : (t u : K) (a b left_a left_b : List K) → a ≡ t ∷ left_a → b ≡ u ∷ left_b → R t u ≡ Greater →
+      IsFirst R a b u false true a left_b
+  first_greater t u a b left_a left_b e f h = record {
+    taken_a = refl;
+    taken_b = (u, f, tied_itself o u);
+    taken = refl;
+    before_a = λ p q. before_all u t a left_a (o.antisymm u t ∙ ap ordering_reverse h) e p;
+    before_b = λ p q. (subst (Rising R) f q).0;
+  }
 
 -- the next turn is read, and written where membership changes
-module _ {K : Type 0} {R : K → K → Ordering} (o : IsTotalOrder R) {f : Bool → Bool → Bool} {a b out new la lb ra rb : List K} {in_a in_b now_a now_b changed : Bool} {t : K} where
-  pub joined_next : Joined R f a b out la lb in_a in_b → IsFirst R in_a la in_b lb t now_a ra now_b rb → Adds R t changed out new
-      → flips (f in_a in_b) changed ≡ f now_a now_b
-      → Joined R f a b new ra rb now_a now_b
-  joined_next j n d e =
-      let k : Joined R f a b out (n.from_a ++ ra) (n.from_b ++ rb) in_a in_b = subst (λ v. Joined R f a b out v (n.from_b ++ rb) in_a in_b) n.a_is (subst (λ v. Joined R f a b out la v in_a in_b) n.b_is j) in
-      let late = n.later j.rising_a j.rising_b in
-      let s : Joined R f a b (out ++ d.added) ra rb (flips (is_held_beyond n.from_a) in_a) (flips (is_held_beyond n.from_b) in_b) =
-      joined_step o t n.from_a ra n.from_b rb d.added k n.like_a n.like_b d.like d.rising late.0 late.1
-      (n.before k.read_a (subst (λ v. Below R k.read_a v) (sym n.a_is) k.a_a) (subst (λ v. Below R k.read_a v) (sym n.b_is) k.a_b))
-      (n.before k.read_b (subst (λ v. Below R k.read_b v) (sym n.a_is) k.b_a) (subst (λ v. Below R k.read_b v) (sym n.b_is) k.b_b))
-      (n.before out j.out_a j.out_b)
-      late.2 late.3
-      (is_held_beyond-append out d.added ∙ (λ i. flips (k.end_out i) (sym d.end_is i)) ∙ e ∙ (λ i. f (n.end_a i) (n.end_b i))) in
-      subst (λ v. Joined R f a b v ra rb now_a now_b) (sym d.new_is)
-      (subst (λ v. Joined R f a b (out ++ d.added) ra rb v now_b) (sym n.end_a)
-      (subst (λ v. Joined R f a b (out ++ d.added) ra rb (flips (is_held_beyond n.from_a) in_a) v) (sym n.end_b) s))
+module _ {K : Type 0} {R : K → K → Ordering} (o : IsTotalOrder R) {f : Bool → Bool → Bool}
+    {a b out new la lb ra rb : List K} {in_a in_b from_a from_b : Bool} {t : K} where
+  pub joined_next : (changed : Bool) → Joined R f a b out la lb in_a in_b → IsFirst R la lb t from_a from_b ra rb → Adds R t changed out new →
+      flips (f in_a in_b) changed ≡ f (flips from_a in_a) (flips from_b in_b) →
+      Joined R f a b new ra rb (flips from_a in_a) (flips from_b in_b)
+  joined_next changed j n d e =
+      let xa = taken_front R t from_a la ra n.taken_a in
+      let xb = taken_front R t from_b lb rb n.taken_b in
+      let xo = added_end R t changed out new d in
+      let k : Joined R f a b out (xa.0 ++ ra) (xb.0 ++ rb) in_a in_b =
+      subst (λ v. Joined R f a b out v (xb.0 ++ rb) in_a in_b) xa.1
+      (subst (λ v. Joined R f a b out la v in_a in_b) xb.1 j) in
+      let early = λ (xs : List K) (p : Below R xs la) (q : Below R xs lb).
+      before_first o t from_a from_b la lb ra rb xs n p q in
+      let s : Joined R f a b (out ++ xo.0) ra rb (flips (is_held_beyond xa.0) in_a) (flips (is_held_beyond xb.0) in_b) =
+      joined_step o t xa.0 ra xb.0 rb xo.0 k xa.2.like xb.2.like xo.2.like xo.2.rising
+      (rising_left R t from_a la ra n.taken_a j.rising_a) (rising_left R t from_b lb rb n.taken_b j.rising_b)
+      (early k.read_a (subst (Below R k.read_a) (sym xa.1) k.a_a) (subst (Below R k.read_a) (sym xb.1) k.a_b))
+      (early k.read_b (subst (Below R k.read_b) (sym xa.1) k.b_a) (subst (Below R k.read_b) (sym xb.1) k.b_b))
+      (early out j.out_a j.out_b)
+      (n.before_a j.rising_a j.rising_b) (n.before_b j.rising_a j.rising_b)
+      (is_held_beyond-append out xo.0 ∙ (λ i. flips (k.end_out i) (xo.2.end_is i)) ∙ e
+      ∙ (λ i. f (flips (sym xa.2.end_is i) in_a) (flips (sym xb.2.end_is i) in_b))) in
+      subst (λ v. Joined R f a b v ra rb (flips from_a in_a) (flips from_b in_b)) (sym xo.1)
+      (subst (λ v. Joined R f a b (out ++ xo.0) ra rb (flips v in_a) (flips from_b in_b)) xa.2.end_is
+      (subst (λ v. Joined R f a b (out ++ xo.0) ra rb (flips (is_held_beyond xa.0) in_a) (flips v in_b)) xb.2.end_is s))
 
 -- membership was w, is n, and changed where the two differ
 pub changes : (w n : Bool) → flips w (not (beq n w)) ≡ n
@@ -160,12 +191,3 @@ changes true true = refl
 changes true false = refl
 changes false true = refl
 changes false false = refl
-
--- all is read
-pub joined_all : {K : Type 0} {R : K → K → Ordering} {f : Bool → Bool → Bool} {a b out la lb : List K} {in_a in_b : Bool} → Joined R f a b out la lb in_a in_b → la ≡ [] → lb ≡ [] → (p : K) → is_held R out p ≡ f (is_held R a p) (is_held R b p)
-joined_all {R = R} {f = f} j ea eb p =
-    j.points p
-    ∙ (λ i. f (is_held R (all_of j.read_a ea j.a_is i) p) (is_held R (all_of j.read_b eb j.b_is i) p))
-  where
-    all_of : {K : Type 0} {all left : List K} (read : List K) → left ≡ [] → read ++ left ≡ all → read ≡ all
-    all_of read e h = sym (append-nil read) ∙ ap (λ left. read ++ left) (sym e) ∙ h

@@ -1,6 +1,8 @@
--- A set read as its intervals, and as its segments.
-use Rattle.std.proofs.Common.{◌≡◌, length, arith, Bool, true, false, not, ◌&&◌, ◌||◌, cond, List, [], ◌∷◌, ◌++◌, map, refl, ap, sym, subst, ◌∙◌}
-use borrow.Author.Tests.{eqb-true}
+-- A set read as its intervals.
+use Rattle.std.proofs.Common.{◌≡◌, ℕ, suc, zero, ◌+◌, ◌<◌, ◌/◌, ◌%◌, length, arith, Bool, true, false, not, ◌&&◌, ◌||◌, cond, List, [], ◌∷◌, ◌++◌, map, refl, ap, sym, subst, ◌∙◌}
+use Rattle.std.proofs.Math.Nat.{suc-mod}
+use Rattle.std.proofs.lemmas.List.{map-append, length-map}
+use mathlib.Core.Bool.{beq}
 use Rattle.std.specs.Prelude.{◌==◌, Option, Some, None, MatchOption, IsTrue}
 use Rattle.std.specs.Borrow.{Bor}
 use Rattle.std.specs.Option.{option_map}
@@ -8,81 +10,116 @@ use Rattle.std.specs.List.{list_any}
 use Rattle.std.specs.declared.cmp.Ordering.{Ordering}
 use Rattle.std.specs.declared.cmp.Ordering.TheVariants.{Less, Equal, Greater}
 use Rattle.std.specs.Ordering.{is_gt, is_eq, is_lt, ordering_reverse, ordering_then}
-use Rattle.std.specs.Cmp.{IsTotalOrder, tied_itself, tied_back, alike_right, Equal-is}
+use Rattle.std.specs.Cmp.{IsTotalOrder, tied_itself, tied_back, alike_right, upto, Equal-is}
+use borrow.Author.Tests.{eqb-true}
 use Rattle.std.specs.Cmp.Lexicographic.{slice_cmp}
 use Rattle.std.specs.declared.ops.Bound.{Bound}
 use Rattle.std.specs.declared.ops.Bound.TheVariants.{Included, Excluded, Unbounded}
-use Rattle.version_ranges.specs.declared.segment.Segment.{Segment}
-use Rattle.version_ranges.specs.Point.{Point, BelowAll, At, JustAbove, point_cmp, points_total}
+use Rattle.version_ranges.specs.Point.{Point, BelowAll, At, JustAbove, point_cmp}
 use Rattle.version_ranges.specs.Turns.{flips, reaches, is_held, Rising}
-use Rattle.version_ranges.specs.Held.{holds_at, HoldsOnly}
-use Rattle.version_ranges.specs.Bounds.{starts_by, goes_on_to, is_within, single_value, lower_bound_at, upper_bound_at, intervals, last_upper, hull}
-use Rattle.version_ranges.specs.Order.{start_point}
-use Rattle.version_ranges.specs.Segments.{bounds_of, turns_of, turns_from_upper, EndsBefore, OnlyLastEndless, AreNormal, LiesAtValue, single_bound}
-use Rattle.version_ranges.proofs.Membership.{all_weaker, held_before, past_less, before_less, canonical, held_at_head, then_equal}
+use Rattle.version_ranges.specs.Held.{holds_at, HoldsOnly, IsNormal}
+use Rattle.version_ranges.specs.Bounds.{starts_by, goes_on_to, is_within, single_value, lower_bound_at, upper_bound_at, intervals, last_upper}
+use Rattle.version_ranges.specs.Order.{start_point, end_points}
+use Rattle.version_ranges.specs.OrderLaws.{points_total}
+use Rattle.version_ranges.specs.Boundaries.{point_of, turns_of}
+use Rattle.version_ranges.specs.declared.boundary.Boundary.{Boundary}
+use Rattle.version_ranges.specs.HashingLaws.{then_equal}
+use Rattle.version_ranges.proofs.Membership.{is_held_beyond, not_not, differs, flips_comm, flips_false, all_weaker, held_before, past_less, before_less, canonical, held_at_head}
 
+-- the point lies at a value or just above one, so that an interval can end there
+abbrev pub LiesAtValue : {T : Type 0} → Point T → Type 0
+LiesAtValue BelowAll = ⊥
+LiesAtValue (At v) = Unit {0}
+LiesAtValue (JustAbove v) = Unit {0}
+
+odd_at : (k : ℕ) → k < 2 → (suc k % 2 == 1) ≡ not (k == 1)
+odd_at zero h = refl
+odd_at (suc zero) h = refl
+odd_at (suc (suc k)) h = absurd (omega arith)
+
+-- one more is odd where it was even
+pub odd_suc : (n : ℕ) → (suc n % 2 == 1) ≡ not (n % 2 == 1)
+odd_suc n = ap (λ k. k == 1) (suc-mod n 2) ∙ odd_at (n % 2) (omega arith)
+
+-- the last interval
 module _ {T : Type 0} where
-  -- the intervals read off the turns of segments are the segments
-  start_back : (b : Bound T) → lower_bound_at (start_point b) ≡ b
-  start_back (Included v) = refl
-  start_back (Excluded v) = refl
-  start_back Unbounded = refl
+  -- after an even number of turns the last one ends an interval
+  pub last_upper_even : (u : Bound T) (set front : List (Point T)) (last : Point T) → set ≡ front ++ last ∷ [] →
+      is_held_beyond set ≡ false → last_upper u (intervals set) ≡ upper_bound_at last
+  last_upper_even u [] [] last e h = absurd (cc)
+  last_upper_even u [] (x ∷ front) last e h = absurd (cc)
+  last_upper_even u (x ∷ []) front last e h = absurd (cc)
+  last_upper_even u (x ∷ y ∷ set) [] last e h = absurd (cc)
+  last_upper_even u (x ∷ y ∷ set) (v ∷ []) last e h =
+      let s : set ≡ [] = cc in
+      let l : y ≡ last = cc in
+      ap (λ later. last_upper (upper_bound_at y) (intervals later)) s ∙ ap upper_bound_at l
+  last_upper_even u (x ∷ y ∷ set) (v ∷ w ∷ front) last e h =
+      last_upper_even (upper_bound_at y) set front last (cc) (sym (not_not (is_held_beyond set)) ∙ h)
 
-  one_interval : (lower upper : Bound T) (later : List (Segment T)) → EndsBefore upper later → intervals (turns_of later) ≡ map bounds_of later → intervals (start_point lower ∷ turns_from_upper upper (turns_of later)) ≡ (lower, upper) ∷ map bounds_of later
-  one_interval lower (Included v) later h e = λ i. (start_back lower i, Included v) ∷ e i
-  one_interval lower (Excluded v) later h e = λ i. (start_back lower i, Excluded v) ∷ e i
-  one_interval lower Unbounded later h e = λ i. (start_back lower i, Unbounded) ∷ map bounds_of (sym h i)
+  -- after an odd number it begins one without end
+  pub last_upper_odd : (u : Bound T) (set : List (Point T)) → is_held_beyond set ≡ true →
+      last_upper u (intervals set) ≡ Unbounded
+  last_upper_odd u [] h = absurd (cc)
+  last_upper_odd u (x ∷ []) h = refl
+  last_upper_odd u (x ∷ y ∷ set) h =
+      last_upper_odd (upper_bound_at y) set (sym (not_not (is_held_beyond set)) ∙ h)
 
-  pub intervals-turns_of : (segments : List (Segment T)) → OnlyLastEndless segments → intervals (turns_of segments) ≡ map bounds_of segments
-  intervals-turns_of [] h = refl
-  intervals-turns_of (segment ∷ later) h = one_interval segment.lower segment.upper later h.0 (intervals-turns_of later h.1)
+  -- the number of turns tells membership beyond all of them
+  pub beyond_odd : (set : List (Point T)) → is_held_beyond set ≡ (length set % 2 == 1)
+  beyond_odd [] = refl
+  beyond_odd (x ∷ set) = ap not (beyond_odd set) ∙ sym (odd_suc (length set))
 
-  -- the intervals of a set are its segments' bounds
-  pub intervals_are : (segments : List (Segment T)) (set : List (Point T)) → OnlyLastEndless segments → turns_of segments ≡ set → map bounds_of segments ≡ intervals set
-  intervals_are segments set h e = sym (intervals-turns_of segments h) ∙ ap intervals e
+  -- how many intervals there are
+  pub length-intervals : (set : List (Point T)) → length (intervals set) ≡ length set / 2 + length set % 2
+  length-intervals [] = refl
+  length-intervals (x ∷ []) = refl
+  length-intervals (x ∷ y ∷ set) = omega (arith, length-intervals set)
 
-  last_upper-map : (upper : Bound T) (front : List (Segment T)) (last : Segment T) → last_upper upper (map bounds_of (front ++ last ∷ [])) ≡ last.upper
-  last_upper-map upper [] last = refl
-  last_upper-map upper (segment ∷ front) last = last_upper-map segment.upper front last
+  beyond_map : (boundaries : List (Boundary T)) →
+      is_held_beyond (map point_of boundaries) ≡ (length boundaries % 2 == 1)
+  beyond_map boundaries =
+      beyond_odd (map point_of boundaries) ∙ ap (λ n. n % 2 == 1) (length-map boundaries point_of)
 
-  hull_at : (segments : List (Segment T)) (first last : Segment T) (later front : List (Segment T)) → segments ≡ first ∷ later → segments ≡ front ++ last ∷ [] → Some (first.lower, last.upper) ≡ hull (map bounds_of segments)
-  hull_at segments first last later [] e f =
-      let same : first ≡ last = cc in
-      ap (λ (s : Segment T). Some (s.lower, last.upper)) same ∙ sym (ap (λ s. hull (map bounds_of s)) f)
-  hull_at segments first last later (other ∷ front) e f =
-      let same : first ≡ other = cc in
-      (λ i. Some ((same i).lower, sym (last_upper-map other.upper front last) i)) ∙ sym (ap (λ s. hull (map bounds_of s)) f)
+  beyond_flips : (starts : Bool) (boundaries : List (Boundary T)) →
+      is_held_beyond (turns_of starts boundaries) ≡ flips starts (length boundaries % 2 == 1)
+  beyond_flips true boundaries = ap not (beyond_map boundaries)
+  beyond_flips false boundaries = beyond_map boundaries
 
-  pub hull_is : (segments : List (Segment T)) (set : List (Point T)) (first last : Segment T) (later front : List (Segment T)) → OnlyLastEndless segments → turns_of segments ≡ set → segments ≡ first ∷ later → segments ≡ front ++ last ∷ [] → Some (first.lower, last.upper) ≡ hull (intervals set)
-  hull_is segments set first last later front h e f g = hull_at segments first last later front f g ∙ ap hull (intervals_are segments set h e)
+  beyond_turns : (starts : Bool) (boundaries : List (Boundary T)) →
+      is_held_beyond (turns_of starts boundaries) ≡ not (beq starts (length boundaries % 2 == 1))
+  beyond_turns starts boundaries =
+      beyond_flips starts boundaries ∙ flips_comm starts (length boundaries % 2 == 1)
+      ∙ sym (differs starts (length boundaries % 2 == 1))
 
-  -- one segment
-  pub one_single : (cmp : T → T → Ordering) (lower upper : Bound T) → single_bound cmp lower upper ≡ single_value cmp (start_point lower ∷ turns_from_upper upper [])
-  one_single cmp (Included v) (Included w) = refl
-  one_single cmp (Included v) (Excluded w) = refl
-  one_single cmp (Included v) Unbounded = refl
-  one_single cmp (Excluded v) (Included w) = refl
-  one_single cmp (Excluded v) (Excluded w) = refl
-  one_single cmp (Excluded v) Unbounded = refl
-  one_single cmp Unbounded (Included w) = refl
-  one_single cmp Unbounded (Excluded w) = refl
-  one_single cmp Unbounded Unbounded = refl
+  pub last_open : (starts : Bool) (boundaries : List (Boundary T)) →
+      not (beq starts (length boundaries % 2 == 1)) ≡ true →
+      Unbounded ≡ last_upper Unbounded (intervals (turns_of starts boundaries))
+  last_open starts boundaries h =
+      sym (last_upper_odd Unbounded (turns_of starts boundaries) (beyond_turns starts boundaries ∙ h))
 
-  three_or_more : (cmp : T → T → Ordering) (a b c : Point T) (more : List (Point T)) → single_value cmp (a ∷ b ∷ c ∷ more) ≡ None
-  three_or_more cmp BelowAll b c more = refl
-  three_or_more cmp (At v) BelowAll c more = refl
-  three_or_more cmp (At v) (At w) c more = refl
-  three_or_more cmp (At v) (JustAbove w) c more = refl
-  three_or_more cmp (JustAbove v) b c more = refl
+  last_turn : (starts : Bool) (boundaries front : List (Boundary T)) (last : Boundary T) →
+      boundaries ≡ front ++ last ∷ [] → turns_of starts boundaries ≡ turns_of starts front ++ point_of last ∷ []
+  last_turn true boundaries front last e =
+      ap (turns_of true) e ∙ ap (λ ps. BelowAll ∷ ps) (map-append point_of front (last ∷ []))
+  last_turn false boundaries front last e = ap (map point_of) e ∙ map-append point_of front (last ∷ [])
 
-  two_segments : (cmp : T → T → Ordering) (lower upper : Bound T) (next : Segment T) (later : List (Segment T)) → EndsBefore upper (next ∷ later) → single_value cmp (start_point lower ∷ turns_from_upper upper (turns_of (next ∷ later))) ≡ None
-  two_segments cmp lower (Included w) next later h = three_or_more cmp (start_point lower) (JustAbove w) (start_point next.lower) (turns_from_upper next.upper (turns_of later))
-  two_segments cmp lower (Excluded w) next later h = three_or_more cmp (start_point lower) (At w) (start_point next.lower) (turns_from_upper next.upper (turns_of later))
-  two_segments cmp lower Unbounded next later h = absurd (cc)
+  pub last_closed : (starts : Bool) (boundaries front : List (Boundary T)) (last : Boundary T) →
+      boundaries ≡ front ++ last ∷ [] → not (beq starts (length boundaries % 2 == 1)) ≡ false →
+      upper_bound_at (point_of last) ≡ last_upper Unbounded (intervals (turns_of starts boundaries))
+  last_closed starts boundaries front last e h =
+      sym (last_upper_even Unbounded (turns_of starts boundaries) (turns_of starts front) (point_of last)
+      (last_turn starts boundaries front last e) (beyond_turns starts boundaries ∙ h))
 
-  pub not_alone : (cmp : T → T → Ordering) (segments : List (Segment T)) (first : Segment T) (later : List (Segment T)) → OnlyLastEndless segments → segments ≡ first ∷ later → (length later == 0) ≡ false → None ≡ single_value cmp (turns_of segments)
-  not_alone cmp segments first [] h e n = absurd (cc)
-  not_alone cmp segments first (next ∷ later) h e n = sym (ap (λ s. single_value cmp (turns_of s)) e ∙ two_segments cmp first.lower first.upper next later (subst OnlyLastEndless e h).0)
+  count_turns : (starts : Bool) (boundaries : List (Boundary T)) →
+      length (intervals (turns_of starts boundaries)) ≡ length boundaries / 2 + cond starts 1 (length boundaries % 2)
+  count_turns true boundaries = omega (arith, length-intervals (turns_of true boundaries), length-map boundaries point_of)
+  count_turns false boundaries = length-intervals (map point_of boundaries) ∙ ap (λ n. n / 2 + n % 2) (length-map boundaries point_of)
+
+  pub count_is : (starts : Bool) (boundaries : List (Boundary T)) (left : List (Bound T × Bound T)) (n : ℕ) →
+      intervals (turns_of starts boundaries) ≡ left → n ≡ length boundaries / 2 + cond starts 1 (length boundaries % 2) →
+      n ≡ length left
+  count_is starts boundaries left n e h = h ∙ sym (count_turns starts boundaries) ∙ ap length e
 
 module _ {T : Type 0} (cmp : T → T → Ordering) (o : IsTotalOrder cmp) where
   points : IsTotalOrder (point_cmp cmp)
@@ -149,39 +186,31 @@ module _ {T : Type 0} (cmp : T → T → Ordering) (o : IsTotalOrder cmp) where
   with_true true = refl
   with_true false = refl
 
-  flips_none : (b : Bool) → flips b false ≡ b
-  flips_none true = refl
-  flips_none false = refl
-
   pub held_in_intervals : (set : List (Point T)) (p : Point T) → Rising (point_cmp cmp) set → list_any (λ i. is_within cmp i p) (intervals set) ≡ is_held (point_cmp cmp) set p
   held_in_intervals [] p r = refl
-  held_in_intervals (lower ∷ []) p r = with_true (starts_by cmp (lower_bound_at lower) p) ∙ starts_at lower p ∙ sym (flips_none (reaches (point_cmp cmp) lower p))
+  held_in_intervals (lower ∷ []) p r = with_true (starts_by cmp (lower_bound_at lower) p) ∙ starts_at lower p ∙ sym (flips_false (reaches (point_cmp cmp) lower p))
   held_in_intervals (lower ∷ upper ∷ later) p r =
       (λ i. (starts_at lower p i && goes_to upper p (above_another lower upper r.0.0) i) || held_in_intervals later p r.1.1 i)
       ∙ sym (two_turns (reaches (point_cmp cmp) lower p) (reaches (point_cmp cmp) upper p) (is_held (point_cmp cmp) later p)
       (λ b. past_less (point_cmp cmp) points lower upper p (point_cmp cmp upper p) refl r.0.0 (not_true (is_gt (point_cmp cmp upper p)) b))
       (λ b. held_before (point_cmp cmp) p later (all_weaker (λ y. point_cmp cmp upper y ≡ Less) (λ y. reaches (point_cmp cmp) y p ≡ false) (λ y h. before_less (point_cmp cmp) points y upper p (is_greater (point_cmp cmp upper p) b) h) later r.1.0)))
 
-  any-map : (test : Bound T × Bound T → Bool) (segments : List (Segment T)) → list_any (λ s. test (bounds_of s)) segments ≡ list_any test (map bounds_of segments)
-  any-map test [] = refl
-  any-map test (segment ∷ later) = ap (λ b. test (bounds_of segment) || b) (any-map test later)
-
-  pub held_in_segments : (segments : List (Segment T)) (set : List (Point T)) (p : Point T) → AreNormal cmp segments → turns_of segments ≡ set → list_any (λ s. is_within cmp (s.lower, s.upper) p) segments ≡ holds_at cmp set p
-  held_in_segments segments set p n e =
-      any-map (λ i. is_within cmp i p) segments
-      ∙ ap (list_any (λ i. is_within cmp i p)) (intervals_are segments set n.ended e)
-      ∙ held_in_intervals set p (subst (Rising (point_cmp cmp)) e n.rising)
-
   -- the empty set
   pub nothing_held : (set : List (Point T)) → Rising (point_cmp cmp) set → ((p : Point T) → holds_at cmp set p ≡ false) → set ≡ []
   nothing_held [] r h = refl
   nothing_held (x ∷ xs) r h = let l : true ≡ false = sym (held_at_head points x xs r) ∙ h x in absurd (cc)
 
-  pub empty_is : (segments : List (Segment T)) (set : List (Point T)) (b : Bool) → AreNormal cmp segments → turns_of segments ≡ set → b ≡ (length segments == 0) → (IsTrue b → (p : Point T) → holds_at cmp set p ≡ false) × (((p : Point T) → holds_at cmp set p ≡ false) → IsTrue b)
-  empty_is [] set b n e f = (λ h p. ap (λ turns. holds_at cmp turns p) (sym e), λ h. f)
-  empty_is (segment ∷ later) set b n e f = (
-    λ h. let l : length (segment ∷ later) ≡ 0 = eqb-true (length (segment ∷ later)) 0 (sym f ∙ h) in absurd (omega arith),
-    λ h. let l : turns_of (segment ∷ later) ≡ [] = nothing_held (turns_of (segment ∷ later)) n.rising (λ p. ap (λ turns. holds_at cmp turns p) e ∙ h p) in absurd (cc),
+  pub empty_turns : (starts : Bool) (boundaries : List (Boundary T)) (set : List (Point T)) (b : Bool) →
+      turns_of starts boundaries ≡ set → IsNormal cmp set → b ≡ (not starts && (length boundaries == 0)) →
+      (IsTrue b → (p : Point T) → holds_at cmp set p ≡ false) × (((p : Point T) → holds_at cmp set p ≡ false) → IsTrue b)
+  empty_turns true boundaries set b e n f = (
+    λ h p. let l : true ≡ false = sym h ∙ f in absurd (cc),
+    λ h. let l : turns_of true boundaries ≡ [] = e ∙ nothing_held set n h in absurd (cc),
+  )
+  empty_turns false [] set b e n f = (λ h p. ap (λ turns. holds_at cmp turns p) (sym e), λ h. f)
+  empty_turns false (x ∷ later) set b e n f = (
+    λ h p. let l : length (x ∷ later) ≡ 0 = eqb-true (length (x ∷ later)) 0 (sym f ∙ h) in absurd (omega arith),
+    λ h. let l : turns_of false (x ∷ later) ≡ [] = e ∙ nothing_held set n h in absurd (cc),
   )
 
   -- the set of one point
@@ -190,7 +219,7 @@ module _ {T : Type 0} (cmp : T → T → Ordering) (o : IsTotalOrder cmp) where
   between Equal = refl
   between Greater = refl
 
-  pub within_one : (v w : T) → cmp w v ≡ Equal → (p : Point T) → is_within cmp (Included v, Included w) p ≡ is_eq (point_cmp cmp p (At v))
+  within_one : (v w : T) → cmp w v ≡ Equal → (p : Point T) → is_within cmp (Included v, Included w) p ≡ is_eq (point_cmp cmp p (At v))
   within_one v w e p =
       (λ i. not (is_gt (points.antisymm (At v) p i)) && not (is_gt (alike_right points (At w) (At v) p e i)))
       ∙ between (point_cmp cmp p (At v))
@@ -255,3 +284,75 @@ module _ {T : Type 0} (cmp : T → T → Ordering) (o : IsTotalOrder cmp) where
   pub single_answer : (set : List (Point T)) → Rising (point_cmp cmp) set → (result : Option (Bor T)) → option_map (λ v. v.now) result ≡ single_value cmp set → MatchOption result ((v : T) → ¬ (HoldsOnly cmp v set)) (λ v. HoldsOnly cmp v.now set)
   single_answer set r None e = λ v h. let found = single_held v set r h in let l : None ≡ Some found.0 = e ∙ found.1 in absurd (cc)
   single_answer set r (Some v) e = single_holds v.now set e
+
+  -- what lies between two bounds
+  pub starts_by_reaches : (b : Bound T) (p : Point T) → starts_by cmp b p ≡ reaches (point_cmp cmp) (start_point b) p
+  starts_by_reaches (Included v) p = refl
+  starts_by_reaches (Excluded v) p = refl
+  starts_by_reaches Unbounded BelowAll = refl
+  starts_by_reaches Unbounded (At v) = refl
+  starts_by_reaches Unbounded (JustAbove v) = refl
+
+  goes_on_until : (b : Bound T) (end p : Point T) → end_points b ≡ end ∷ [] →
+      goes_on_to cmp b p ≡ not (reaches (point_cmp cmp) end p)
+  goes_on_until (Included v) end p e =
+      let l : JustAbove v ≡ end = cc in
+      goes_to (JustAbove v) p tt ∙ ap (λ q. not (reaches (point_cmp cmp) q p)) l
+  goes_on_until (Excluded v) end p e =
+      let l : At v ≡ end = cc in
+      goes_to (At v) p tt ∙ ap (λ q. not (reaches (point_cmp cmp) q p)) l
+  goes_on_until Unbounded end p e = absurd (cc)
+
+  goes_on_always : (b : Bound T) (p : Point T) → end_points b ≡ [] → goes_on_to cmp b p ≡ true
+  goes_on_always (Included v) p e = absurd (cc)
+  goes_on_always (Excluded v) p e = absurd (cc)
+  goes_on_always Unbounded p e = refl
+
+  reached_by_all : (p : Point T) → reaches (point_cmp cmp) BelowAll p ≡ true
+  reached_by_all BelowAll = refl
+  reached_by_all (At v) = refl
+  reached_by_all (JustAbove v) = refl
+
+  pub within_all : (i : Bound T × Bound T) → start_point i.0 ≡ BelowAll → end_points i.1 ≡ [] →
+      (p : Point T) → true ≡ is_within cmp i p
+  within_all i e f p =
+      sym (λ k. (starts_by_reaches i.0 p ∙ ap (λ s. reaches (point_cmp cmp) s p) e ∙ reached_by_all p) k && goes_on_always i.1 p f k)
+
+  within_turns : (i : Bound T × Bound T) (start end p : Point T) → start_point i.0 ≡ start → end_points i.1 ≡ end ∷ [] →
+      is_within cmp i p ≡ (reaches (point_cmp cmp) start p && not (reaches (point_cmp cmp) end p))
+  within_turns i start end p e f =
+      λ k. (starts_by_reaches i.0 p ∙ ap (λ s. reaches (point_cmp cmp) s p) e) k && goes_on_until i.1 end p f k
+
+  is_less : (r : Ordering) → is_lt r ≡ true → r ≡ Less
+  is_less Less h = refl
+  is_less Equal h = absurd (cc)
+  is_less Greater h = absurd (cc)
+
+  pub within_between : (i : Bound T × Bound T) (start end : Point T) → start_point i.0 ≡ start → end_points i.1 ≡ end ∷ [] →
+      is_lt (point_cmp cmp start end) ≡ true → (p : Point T) → holds_at cmp (start ∷ end ∷ []) p ≡ is_within cmp i p
+  within_between i start end e f h p =
+      two_turns (reaches (point_cmp cmp) start p) (reaches (point_cmp cmp) end p) false
+      (λ b. past_less (point_cmp cmp) points start end p (point_cmp cmp end p) refl (is_less (point_cmp cmp start end) h)
+      (not_true (is_gt (point_cmp cmp end p)) b))
+      (λ b. refl)
+      ∙ or_nothing (reaches (point_cmp cmp) start p && not (reaches (point_cmp cmp) end p))
+      ∙ sym (within_turns i start end p e f)
+
+  not_both : (a b : Bool) → (a ≡ true → b ≡ true) → false ≡ (a && not b)
+  not_both false b f = refl
+  not_both true true f = refl
+  not_both true false f = f refl
+
+  not_after : (r s : Ordering) → s ≡ ordering_reverse r → is_lt r ≡ false → is_gt s ≡ false
+  not_after Less s e h = absurd (cc)
+  not_after Equal s e h = ap is_gt e
+  not_after Greater s e h = ap is_gt e
+
+  pub within_none : (i : Bound T × Bound T) (start end : Point T) → start_point i.0 ≡ start → end_points i.1 ≡ end ∷ [] →
+      is_lt (point_cmp cmp start end) ≡ false → (p : Point T) → false ≡ is_within cmp i p
+  within_none i start end e f h p =
+      not_both (reaches (point_cmp cmp) start p) (reaches (point_cmp cmp) end p)
+      (λ b. ap not (upto points end start p
+      (not_after (point_cmp cmp start end) (point_cmp cmp end start) (points.antisymm end start) h)
+      (not_true (is_gt (point_cmp cmp start p)) b)))
+      ∙ sym (within_turns i start end p e f)

@@ -7,7 +7,8 @@ use Rattle.std.specs.declared.cmp.Ordering.TheVariants.{Less, Equal, Greater}
 use Rattle.std.specs.Ordering.{is_gt, ordering_reverse}
 use Rattle.std.specs.Cmp.{IsTotalOrder, upto}
 use Rattle.std.specs.declared.ops.Bound.{Bound}
-use Rattle.version_ranges.specs.Point.{Point, point_cmp, points_total}
+use Rattle.version_ranges.specs.Point.{Point, point_cmp}
+use Rattle.version_ranges.specs.OrderLaws.{points_total}
 use Rattle.version_ranges.specs.Turns.{flips, reaches, is_held}
 use Rattle.version_ranges.specs.Held.{IsNormal, IsBetweenHeld}
 use Rattle.version_ranges.specs.Bounds.{starts_by, goes_on_to, is_within, lower_bound_at, upper_bound_at, intervals, last_upper, hull}

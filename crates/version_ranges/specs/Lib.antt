@@ -1,8 +1,10 @@
 pub mod Point
 pub mod Turns
 pub mod Held
+pub mod Boundaries
 pub mod Bounds
 pub mod Order
+pub mod OrderLaws
 pub mod Hashing
+pub mod HashingLaws
 pub mod Merging
-pub mod Segments

@@ -1,46 +1,33 @@
--- One pass over the turns of two sets: what is read at a time, and what is written.
-use Rattle.std.specs.Prelude.{◌≡◌, ◌+◌, ◌<◌, length, Bool, false, not, ◌&&◌, ◌||◌, List, [], ◌∷◌, ◌++◌}
+-- One pass over two rising lists: what is read at a time, what is written, and which memberships a combination has.
+use Rattle.std.specs.Prelude.{◌≡◌, Bool, true, false, ◌&&◌, ◌||◌, List, [], ◌∷◌, ◌++◌, IsTrue}
 use Rattle.std.specs.List.{AllByRecursion}
 use Rattle.std.specs.declared.cmp.Ordering.{Ordering}
 use Rattle.std.specs.declared.cmp.Ordering.TheVariants.{Less, Equal}
-use Rattle.version_ranges.specs.Turns.{flips, Rising}
+use Rattle.version_ranges.specs.Turns.{Rising}
 use Rattle.version_ranges.specs.declared.merge.Combination.{Combination}
-use Rattle.version_ranges.specs.declared.merge.Combination.TheVariants.{Both, Either, FirstOnly}
+use Rattle.version_ranges.specs.declared.merge.Combination.TheVariants.{Both, Either}
 
 -- membership in a combination of two sets
 abbrev pub combined : Combination → Bool → Bool → Bool
 combined Both x y = x && y
 combined Either x y = x || y
-combined FirstOnly x y = x && not y
 
--- membership beyond all turns
-abbrev pub is_held_beyond : {K : Type 0} → List K → Bool
-is_held_beyond [] = false
-is_held_beyond (x ∷ xs) = not (is_held_beyond xs)
+-- one that equals t in the order is taken from the front of a list, or none is
+abbrev pub Takes : {K : Type 0} → (K → K → Ordering) → K → Bool → List K → List K → Type 0
+Takes {K} R t true list left = (x : K) × (list ≡ x ∷ left) × (R x t ≡ Equal)
+Takes R t false list left = list ≡ left
 
--- each of xs before each of ys
-abbrev pub Below : {K : Type 0} → (K → K → Ordering) → List K → List K → Type 0
-Below R xs ys = AllByRecursion (λ y. AllByRecursion (λ x. R x y ≡ Less) xs) ys
+-- one that equals t in the order is put at the end of a list, or none is
+abbrev pub Adds : {K : Type 0} → (K → K → Ordering) → K → Bool → List K → List K → Type 0
+Adds {K} R t true old new = (x : K) × (new ≡ old ++ x ∷ []) × (R x t ≡ Equal)
+Adds R t false old new = new ≡ old
 
--- t is the first turn of two lists a and b; behind it left_a and left_b are left, and memberships were in_a and in_b
--- before it and are now_a and now_b from it on
-pub record IsFirst {K : Type 0} (R : K → K → Ordering) (in_a : Bool) (a : List K) (in_b : Bool) (b : List K) (t : K) (now_a : Bool) (left_a : List K) (now_b : Bool) (left_b : List K) : Type 0 where
-  pub from_a : List K
-  pub from_b : List K
-  pub a_is : a ≡ from_a ++ left_a
-  pub b_is : b ≡ from_b ++ left_b
-  pub like_a : AllByRecursion (λ x. R x t ≡ Equal) from_a
-  pub like_b : AllByRecursion (λ x. R x t ≡ Equal) from_b
-  pub end_a : now_a ≡ flips (is_held_beyond from_a) in_a
-  pub end_b : now_b ≡ flips (is_held_beyond from_b) in_b
-  pub later : Rising R a → Rising R b → Rising R left_a × Rising R left_b × AllByRecursion (λ y. R t y ≡ Less) left_a × AllByRecursion (λ y. R t y ≡ Less) left_b
-  pub before : (xs : List K) → Below R xs a → Below R xs b → AllByRecursion (λ x. R x t ≡ Less) xs
-  pub fewer : length left_a + length left_b < length a + length b
-
--- to a list of turns t is added where membership changes there, up to the order's equality, and else nothing
-pub record Adds {K : Type 0} (R : K → K → Ordering) (t : K) (changed : Bool) (old new : List K) : Type 0 where
-  pub added : List K
-  pub like : AllByRecursion (λ x. R x t ≡ Equal) added
-  pub end_is : changed ≡ is_held_beyond added
-  pub rising : Rising R added
-  pub new_is : new ≡ old ++ added
+-- t is the first of two lists, as far as they rise: in_a and in_b tell which of them it stands in, and left_a and left_b
+-- are left of them behind it
+pub record IsFirst {K : Type 0} (R : K → K → Ordering) (a b : List K) (t : K) (in_a in_b : Bool)
+    (left_a left_b : List K) : Type 0 where
+  pub taken_a : Takes R t in_a a left_a
+  pub taken_b : Takes R t in_b b left_b
+  pub taken : IsTrue (in_a || in_b)
+  pub before_a : Rising R a → Rising R b → AllByRecursion (λ y. R t y ≡ Less) left_a
+  pub before_b : Rising R a → Rising R b → AllByRecursion (λ y. R t y ≡ Less) left_b

@@ -5,9 +5,8 @@ use Rattle.std.specs.declared.cmp.Ordering.{Ordering}
 use Rattle.std.specs.declared.ops.Bound.{Bound}
 use Rattle.std.specs.declared.ops.Bound.TheVariants.{Included, Excluded, Unbounded}
 use Rattle.std.specs.Ordering.{then_cmp, on, nat_cmp}
-use Rattle.std.specs.Cmp.{IsTotalOrder, then_total, on_total, nat_cmp_total}
-use Rattle.std.specs.Cmp.Lexicographic.{slice_cmp, lists_total}
-use Rattle.version_ranges.specs.Point.{Point, BelowAll, At, JustAbove, point_cmp, points_total}
+use Rattle.std.specs.Cmp.Lexicographic.{slice_cmp}
+use Rattle.version_ranges.specs.Point.{Point, BelowAll, At, JustAbove, point_cmp}
 use Rattle.version_ranges.specs.Bounds.{intervals}
 
 -- the point from which a lower bound holds
@@ -39,18 +38,9 @@ module _ {T : Type 0} (cmp : T → T → Ordering) where
 
   -- intervals by their lower bounds, and then by their upper ones
   abbrev pub interval_cmp : Bound T × Bound T → Bound T × Bound T → Ordering
-  interval_cmp = then_cmp (on (λ (i : Bound T × Bound T). i.0) lower_cmp) (on (λ (i : Bound T × Bound T). i.1) upper_cmp)
+  interval_cmp =
+      then_cmp (on (λ (i : Bound T × Bound T). i.0) lower_cmp) (on (λ (i : Bound T × Bound T). i.1) upper_cmp)
 
   -- sets by their intervals in order, and then by how many there are
   abbrev pub ranges_cmp : List (Point T) → List (Point T) → Ordering
   ranges_cmp = on intervals (slice_cmp interval_cmp)
-
-  module _ (o : IsTotalOrder cmp) where
-    pub intervals_total : IsTotalOrder interval_cmp
-    intervals_total =
-        then_total
-        (on_total (λ (i : Bound T × Bound T). i.0) (on_total start_point (points_total cmp o)))
-        (on_total (λ (i : Bound T × Bound T). i.1) (then_total (on_total endless nat_cmp_total) (on_total end_points (lists_total (points_total cmp o)))))
-
-    pub ranges_total : IsTotalOrder ranges_cmp
-    ranges_total = on_total intervals (lists_total intervals_total)

@@ -1,33 +1,74 @@
 //! The intervals of a set, one after another.
-ghost use Rattle.std.specs.Prelude.{◌≡◌, length};
+ghost use Rattle.std.specs.Prelude.{◌≡◌, ◌+◌, ◌/◌, ◌%◌, cond, length, [], ◌∷◌, map, MatchOption};
 ghost use Rattle.std.specs.Iterator.{at_most};
 ghost use Rattle.std.specs.Map.Iter.{TakesFirst, ShowsInOrder};
-ghost use Rattle.version_ranges.specs.Bounds.{intervals, lent_bounds};
+ghost use Rattle.std.specs.Range.Bound.{bound_map};
+ghost use Rattle.version_ranges.specs.Point.{Point};
+ghost use Rattle.version_ranges.specs.Boundaries.{point_of, turns_of};
+ghost use Rattle.version_ranges.specs.Bounds.{intervals, lent_bounds, lower_bound_at};
 ghost use Rattle.version_ranges.specs.Held.{IsNormal};
 
+use crate::boundary::Boundary;
 use crate::ranges::Ranges;
-use crate::segment::Segment;
 use crate::value::RangeValue;
 use std::marker::Model;
 use std::ops::Bound;
-use std::slice;
 
 /// The intervals of a set that are left, in order, each as its lower and its upper bound. It takes no memory.
 #[derive(Drop)]
 pub struct Iter<'a, T> {
-    segments: slice::Iter<'a, Segment<T>>,
+    /// Whether the next interval begins below all.
+    starts_held: bool,
+    boundaries: &'a [Boundary<T>],
 }
 
 impl<'a, T> Model for Iter<'a, T> {
-    ghost use Rattle.std.specs.Prelude.{List, map};
+    ghost use Rattle.std.specs.Prelude.{List};
     ghost use Rattle.std.specs.declared.ops.Bound.{Bound};
-    ghost use Rattle.std.specs.Slice.Iter.{iter_rest};
+    ghost use Rattle.version_ranges.specs.Boundaries.{turns_of};
+    ghost use Rattle.version_ranges.specs.Bounds.{intervals};
 
     ghost Value = { List (Bound T × Bound T) };
 
-    ghost use Rattle.version_ranges.specs.Segments.{bounds_of};
+    ghost view = { λ iter. intervals (turns_of iter.starts_held iter.boundaries.now) };
+}
 
-    ghost view = { λ iter. map bounds_of (iter_rest iter.segments) };
+/// The lower bound of the first interval, and the boundaries behind it.
+fn split_lower<T>(
+    starts_held: bool,
+    boundaries: &[Boundary<T>],
+) -> Option<(Bound<&T>, &[Boundary<T>])>
+    ensures { MatchOption result (turns_of starts_held boundaries.now ≡ [])
+        (λ r. (start : Point T) × (turns_of starts_held boundaries.now ≡ start ∷ map point_of r.1.now)
+        × (bound_map (λ v. v.now) r.0 ≡ lower_bound_at start)) }
+{
+    if starts_held {
+        return Some((Bound::Unbounded, boundaries));
+    }
+    let (start, later) = boundaries.split_first()?;
+    Some((start.as_lower_bound(), later))
+}
+
+/// The upper bound of an interval that has begun, and the boundaries behind it.
+fn split_upper<T>(boundaries: &[Boundary<T>]) -> (Bound<&T>, &[Boundary<T>])
+    ensures { (start : Point T) → intervals (start ∷ map point_of boundaries.now)
+        ≡ (lower_bound_at start, bound_map (λ v. v.now) result.0) ∷ intervals (map point_of result.1.now) }
+{
+    match boundaries.split_first() {
+        None => (Bound::Unbounded, boundaries),
+        Some((end, later)) => (end.as_upper_bound(), later),
+    }
+}
+
+/// How many intervals begin and end at so many boundaries.
+fn count_intervals(starts_held: bool, boundaries: usize) -> usize
+    ensures { result ≡ boundaries / 2 + cond starts_held 1 (boundaries % 2) }
+{
+    if starts_held {
+        boundaries / 2 + 1
+    } else {
+        boundaries / 2 + boundaries % 2
+    }
 }
 
 impl<'a, T> Iterator for Iter<'a, T> {
@@ -38,12 +79,16 @@ impl<'a, T> Iterator for Iter<'a, T> {
     ghost remaining = { λ left. at_most (length left) };
 
     fn next(&mut self) -> Option<(Bound<&'a T>, Bound<&'a T>)> {
-        let segment = self.segments.next()?;
-        Some((segment.lower.as_ref(), segment.upper.as_ref()))
+        let (lower, begun) = split_lower(self.starts_held, self.boundaries)?;
+        let (upper, later) = split_upper(begun);
+        self.starts_held = false;
+        self.boundaries = later;
+        Some((lower, upper))
     }
 
     fn size_hint(&self) -> (usize, Option<usize>) {
-        self.segments.size_hint()
+        let left = count_intervals(self.starts_held, self.boundaries.len());
+        (left, Some(left))
     }
 }
 
@@ -54,8 +99,10 @@ impl<T: RangeValue> Ranges<T> {
         ensures runs { ShowsInOrder (lent_bounds {T = T}) }
         ensures normal { IsNormal T.cmp self.now }
     {
+        let (starts_held, boundaries) = self.turns();
         Iter {
-            segments: self.segments().iter(),
+            starts_held,
+            boundaries,
         }
     }
 }

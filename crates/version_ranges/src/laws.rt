@@ -1,9 +1,10 @@
 //! Laws of points and of sets. Each is the contract of a function, for a proof to cite; the functions do nothing.
-ghost use Rattle.std.specs.Prelude.{◌≡◌, ◌↔◌, List, [], IsTrue, MatchOption};
+ghost use Rattle.std.specs.Prelude.{◌≡◌, ◌↔◌, List, [], ◌∷◌, ◌++◌, IsTrue, MatchOption};
 ghost use Rattle.std.specs.List.{list_any};
 ghost use Rattle.std.specs.Cmp.{IsTotalOrder};
 ghost use Rattle.std.specs.Cmp.Lexicographic.{slice_cmp};
 ghost use Rattle.std.specs.declared.cmp.Ordering.TheVariants.{Equal};
+ghost use Rattle.std.specs.declared.ops.Bound.{Bound};
 ghost use Rattle.version_ranges.specs.Point.{Point, point_cmp};
 ghost use Rattle.version_ranges.specs.Held.{holds_at, HoldSamePoints, IsBetweenHeld, IsNormal};
 ghost use Rattle.version_ranges.specs.Bounds.{is_within, intervals, hull};
@@ -42,6 +43,13 @@ pub fn intervals_hold_the_set<T: Ord>()
         list_any (λ i. is_within T.cmp i p) (intervals set) ≡ holds_at T.cmp set p }
 {}
 
+/// No point lies in two intervals of one set.
+pub fn intervals_are_apart<T: Ord>()
+    ensures { (set : List (Point T)) (before between after : List (Bound T × Bound T)) (i j : Bound T × Bound T)
+        (p : Point T) → IsNormal T.cmp set → intervals set ≡ before ++ i ∷ between ++ j ∷ after →
+        IsTrue (is_within T.cmp i p) → ¬ (IsTrue (is_within T.cmp j p)) }
+{}
+
 /// From the first interval's lower bound to the last one's upper bound lie just the points that have a held point at or
 /// before them and one at or behind them; there are no such bounds of the empty set alone.
 pub fn hull_spans_the_set<T: Ord>()
@@ -54,5 +62,5 @@ pub fn hull_spans_the_set<T: Ord>()
 pub fn every_set_is_normal<T: RangeValue>(set: &Ranges<T>)
     ensures { IsNormal T.cmp set.now }
 {
-    let _ = set.segments();
+    let _ = &set.boundaries;
 }

@@ -4,18 +4,16 @@
 //! exactly when they hold the same points, also where no value may lie between their bounds.
 #![tactic(auto)]
 
+mod boundary;
 mod iter;
 pub mod laws;
 mod merge;
 mod order;
 mod ranges;
-mod segment;
-mod turn;
 mod value;
 
+pub use boundary::Boundary;
 pub use iter::Iter;
+pub use merge::{NextBoundary, next_boundary};
 pub use ranges::Ranges;
 pub use value::RangeValue;
-
-#[cfg(test)]
-mod tests;

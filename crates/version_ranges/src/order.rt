@@ -1,16 +1,19 @@
-//! Equality, order and hash of sets. None of them takes memory, and each is at most linear in the sets' intervals.
-ghost use Rattle.std.specs.Prelude.{◌≡◌, IsTrue, ◌↔◌, fold, refl};
-ghost use Rattle.std.specs.List.{flat_map};
+//! Equality, order and hash of sets. None of them takes memory, and each is at most linear in the sets' boundaries.
+ghost use Rattle.std.specs.Prelude.{◌≡◌, true, false, cond, List, IsTrue, ◌↔◌, fold, refl};
 ghost use Rattle.std.specs.Ordering.{eq_by_cmp, as_partial_cmp};
+ghost use Rattle.std.specs.Range.Bound.{bound_map};
 ghost use Rattle.std.specs.Cmp.{eq_by_cmp_equiv, partial_equiv_from_equiv, partial_order_from_agreeing_total};
-ghost use Rattle.std.specs.declared.cmp.Ordering.TheVariants.{Equal};
+ghost use Rattle.std.specs.declared.cmp.Ordering.TheVariants.{Less, Equal, Greater};
+ghost use Rattle.version_ranges.specs.declared.boundary.Boundary.{Boundary};
 ghost use Rattle.version_ranges.specs.Held.{HoldSamePoints};
-ghost use Rattle.version_ranges.specs.Order.{ranges_cmp, ranges_total};
-ghost use Rattle.version_ranges.specs.Hashing.{bound_input, interval_input, ranges_input, alike_ranges};
-ghost use Rattle.version_ranges.specs.Segments.{bounds_of};
+ghost use Rattle.version_ranges.specs.Boundaries.{turns_of};
+ghost use Rattle.version_ranges.specs.Order.{ranges_cmp};
+ghost use Rattle.version_ranges.specs.OrderLaws.{ranges_total};
+ghost use Rattle.version_ranges.specs.Hashing.{bound_input, ranges_input};
+ghost use Rattle.version_ranges.specs.HashingLaws.{alike_ranges};
 
+use crate::boundary::Boundary;
 use crate::ranges::Ranges;
-use crate::segment::{Segment, compare_segments};
 use crate::value::RangeValue;
 use std::cmp::Ordering;
 use std::hash::{Hash, Hasher};
@@ -25,7 +28,9 @@ impl<T: RangeValue> PartialEq for Ranges<T> {
         ensures test { result ≡ eq_by_cmp (ranges_cmp T.cmp) self.now other.now }
         ensures points { IsTrue result ↔ HoldSamePoints T.cmp self.now other.now }
     {
-        self.cmp(other).is_eq()
+        let (starts_held, boundaries) = self.turns();
+        let (other_starts_held, other_boundaries) = other.turns();
+        starts_held == other_starts_held && boundaries == other_boundaries
     }
 }
 
@@ -36,10 +41,65 @@ impl<T: RangeValue> Eq for Ranges<T> {
 impl<T: RangeValue> PartialOrd for Ranges<T> {
     ghost partial_cmp = { as_partial_cmp (ranges_cmp T.cmp) };
 
-    ghost laws = { partial_order_from_agreeing_total (ranges_cmp T.cmp) (ranges_total T.cmp T.total) (λ x y. refl) (λ x y. refl) };
+    ghost laws = { partial_order_from_agreeing_total (ranges_cmp T.cmp) (ranges_total T.cmp T.total)
+        (λ x y. refl) (λ x y. refl) };
 
     fn partial_cmp(&self, other: &Ranges<T>) -> Option<Ordering> {
         Some(self.cmp(other))
+    }
+}
+
+/// The order of two sets that both hold the point below all, or both don't: the first boundaries that differ decide.
+/// Where one set has no further boundary, it comes last if an interval is open there, since that has no end, and else
+/// first, since it has fewer intervals.
+fn compare_boundaries<T: Ord>(
+    starts_held: bool,
+    boundaries: &[Boundary<T>],
+    others: &[Boundary<T>],
+) -> Ordering
+    ensures { result ≡ ranges_cmp T.cmp (turns_of starts_held boundaries.now) (turns_of starts_held others.now) }
+{
+    let mut inside = starts_held;
+    let mut left = boundaries;
+    let mut right = others;
+    loop {
+        match (left.split_first(), right.split_first()) {
+            (None, None) => return Ordering::Equal,
+            (None, Some(_)) => return when_first_ends(inside),
+            (Some(_), None) => return when_first_ends(inside).reverse(),
+            (Some((boundary, behind)), Some((other, other_behind))) => {
+                match boundary.cmp(other) {
+                    Ordering::Equal => {}
+                    decided => return decided,
+                }
+                left = behind;
+                right = other_behind;
+                inside = !inside;
+            }
+        }
+    }
+}
+
+/// How the set that ends first compares with the other.
+fn when_first_ends(inside: bool) -> Ordering
+    ensures { result ≡ cond inside Greater Less }
+{
+    if inside {
+        Ordering::Greater
+    } else {
+        Ordering::Less
+    }
+}
+
+/// The order of a set that holds the point below all and one that doesn't, which has these boundaries.
+fn compare_from_below<T: Ord>(others: &[Boundary<T>]) -> Ordering
+    ensures { (boundaries : List (Boundary T)) →
+        result ≡ ranges_cmp T.cmp (turns_of true boundaries) (turns_of false others.now) }
+{
+    if others.is_empty() {
+        Ordering::Greater
+    } else {
+        Ordering::Less
     }
 }
 
@@ -56,12 +116,20 @@ impl<T: RangeValue> Ord for Ranges<T> {
         ensures order { result ≡ ranges_cmp T.cmp self.now other.now }
         ensures points { (result ≡ Equal) ↔ HoldSamePoints T.cmp self.now other.now }
     {
-        compare_segments(self.segments(), other.segments())
+        let (starts_held, boundaries) = self.turns();
+        let (other_starts_held, other_boundaries) = other.turns();
+        if starts_held == other_starts_held {
+            compare_boundaries(starts_held, boundaries, other_boundaries)
+        } else if starts_held {
+            compare_from_below(other_boundaries)
+        } else {
+            compare_from_below(boundaries).reverse()
+        }
     }
 }
 
-fn feed_bound<T: Hash, H: Hasher>(bound: &Bound<T>, state: &mut H)
-    ensures { state.new ≡ fold H.write state.old (bound_input T.hash_input bound.now) }
+fn feed_bound<T: Hash, H: Hasher>(bound: Bound<&T>, state: &mut H)
+    ensures { state.new ≡ fold H.write state.old (bound_input T.hash_input (bound_map (λ v. v.now) bound.entry)) }
 {
     match bound {
         Bound::Unbounded => state.write_u8(0),
@@ -76,23 +144,16 @@ fn feed_bound<T: Hash, H: Hasher>(bound: &Bound<T>, state: &mut H)
     }
 }
 
-fn feed_segments<T: Hash, H: Hasher>(segments: &[Segment<T>], state: &mut H)
-    ensures { state.new ≡ fold H.write state.old
-        (flat_map (λ segment. interval_input T.hash_input (bounds_of segment)) segments.now) }
-{
-    for segment in segments {
-        feed_bound(&segment.lower, state);
-        feed_bound(&segment.upper, state);
-    }
-}
-
 impl<T: RangeValue> Hash for Ranges<T> {
     ghost hash_input = { ranges_input T.hash_input };
 
     ghost respects_eq = { alike_ranges T.cmp T.eq T.hash_input T.matches_eq T.respects_eq };
 
     fn hash<H: Hasher>(&self, state: &mut H) {
-        feed_segments(self.segments(), state);
+        for (lower, upper) in self.iter() {
+            feed_bound(lower, state);
+            feed_bound(upper, state);
+        }
         state.write_u8(3);
     }
 }

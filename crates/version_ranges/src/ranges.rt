@@ -1,49 +1,103 @@
 //! Sets of intervals: makers, questions and combinations.
-ghost use Rattle.std.specs.Prelude.{◌≡◌, true, false, not, ◌&&◌, ◌||◌, ◌↔◌, IfOk, IsTrue, MatchOption};
+ghost use Rattle.std.specs.Prelude.{◌≡◌, true, false, not, ◌&&◌, ◌||◌, ◌↔◌, [], ◌∷◌, IfOk, IsTrue, MatchOption, map};
 ghost use Rattle.std.specs.Option.{option_map};
-ghost use Rattle.std.specs.declared.ops.Bound.TheVariants.{Included, Excluded};
+ghost use Rattle.std.specs.Cmp.Lexicographic.{slice_cmp};
+ghost use Rattle.std.specs.Range.Bound.{bound_map};
+ghost use Rattle.std.specs.declared.cmp.Ordering.TheVariants.{Less, Equal};
+ghost use Rattle.std.specs.declared.ops.Bound.TheVariants.{Included, Excluded, Unbounded};
 ghost use Rattle.version_ranges.specs.Point.{Point, At};
+ghost use Rattle.version_ranges.specs.Turns.{Rising};
 ghost use Rattle.version_ranges.specs.Held.{holds_at, HoldSamePoints, HoldsOnly, IsNormal};
-ghost use Rattle.version_ranges.specs.Bounds.{starts_by, goes_on_to, is_within, single_value, intervals, hull, lent_bounds};
-ghost use Rattle.version_ranges.specs.Segments.{turns_of, OnlyLastEndless};
+ghost use Rattle.version_ranges.specs.Bounds.{starts_by, goes_on_to, is_within, single_value, intervals, last_upper, hull, lent_bounds};
+ghost use Rattle.version_ranges.specs.Boundaries.{point_of, boundary_cmp, turns_of};
 
+use crate::boundary::Boundary;
 use crate::merge::{Combination, merged};
-use crate::segment::{Segment, any_contains, only_value};
 use crate::value::RangeValue;
 use std::alloc::{AllocError, Global};
 use std::marker::Model;
 use std::ops::Bound;
 
-/// A set of points of an order, kept as intervals.
+/// A set of points of an order, kept as the boundaries of its intervals.
 ///
 /// Clauses see a set as the list of its turns: the points, in rising order, from each of which on membership is the
 /// other way. `holds_at` tells which points a set holds; two sets that hold the same points are equal.
 #[derive(Drop)]
 pub struct Ranges<T: RangeValue> {
-    segments: Vec<Segment<T>>,
+    /// Whether the set holds the point below all.
+    pub(crate) starts_held: bool,
+    /// Where membership turns, in rising order.
+    pub(crate) boundaries: Vec<Boundary<T>>,
 }
 
 impl<T: RangeValue> Model for Ranges<T> {
     ghost use Rattle.std.specs.Prelude.{List};
     ghost use Rattle.version_ranges.specs.Point.{Point};
+    ghost use Rattle.version_ranges.specs.Held.{IsNormal};
+    ghost use Rattle.version_ranges.specs.Boundaries.{turns_of};
 
     ghost Value = { List (Point T) };
 
-    ghost use Rattle.version_ranges.specs.Segments.{turns_of, AreNormal};
+    ghost view = { λ set. turns_of set.starts_held set.boundaries.items };
 
-    ghost view = { λ set. turns_of set.segments.items };
-
-    ghost invariant = { λ set. AreNormal T.cmp set.segments.items };
+    ghost invariant = { λ set. IsNormal T.cmp (turns_of set.starts_held set.boundaries.items) };
 }
 
 impl<T: RangeValue> Ranges<T> {
-    /// The segments that the set is kept as.
-    pub(crate) fn segments(&self) -> &[Segment<T>]
-        ensures turns { turns_of result.now ≡ self.now }
-        ensures ended { OnlyLastEndless result.now }
+    /// Whether the set holds the point below all, and the boundaries, in rising order, at each of which membership
+    /// turns. It takes no memory and constant time.
+    pub fn turns(&self) -> (bool, &[Boundary<T>])
+        ensures turns { turns_of result.0 result.1.now ≡ self.now }
         ensures normal { IsNormal T.cmp self.now }
+        ensures rising { Rising (boundary_cmp T.cmp) result.1.now }
     {
-        &self.segments
+        (self.starts_held, &self.boundaries)
+    }
+
+    /// The set that turns at one boundary.
+    fn with_turn(
+        alloc: Global,
+        starts_held: bool,
+        boundary: Boundary<T>,
+    ) -> Result<Self, AllocError>
+        ensures { IfOk result (λ set. set ≡ turns_of starts_held (boundary ∷ [])) }
+    {
+        let mut boundaries = Vec::new(alloc);
+        boundaries.push(boundary)?;
+        Ok(Ranges {
+            starts_held,
+            boundaries,
+        })
+    }
+
+    /// The set that turns at copies of the boundaries. Each value is cloned once.
+    fn copied(
+        alloc: Global,
+        starts_held: bool,
+        boundaries: &[Boundary<T>],
+    ) -> Result<Self, AllocError>
+        requires { Rising (boundary_cmp T.cmp) boundaries.now }
+        ensures { IfOk result (λ set. HoldSamePoints T.cmp set (turns_of starts_held boundaries.now)) }
+    {
+        Ok(Ranges {
+            starts_held,
+            boundaries: copies(alloc, boundaries)?,
+        })
+    }
+
+    /// The set that is held from one boundary on, up to another.
+    fn between(alloc: Global, start: Boundary<T>, end: Boundary<T>) -> Result<Self, AllocError>
+        requires { boundary_cmp T.cmp start end ≡ Less }
+        ensures { IfOk result (λ set. set ≡ turns_of false (start ∷ end ∷ [])) }
+    {
+        let mut boundaries = Vec::with_capacity(alloc, 2)?;
+        boundaries.push(start)?;
+        boundaries.push(end)?;
+        let starts_held = false;
+        Ok(Ranges {
+            starts_held,
+            boundaries,
+        })
     }
 }
 
@@ -54,23 +108,27 @@ impl<T: RangeValue> Ranges<T> {
         ensures { (p : Point T) → holds_at T.cmp result p ≡ false }
     {
         Ranges {
-            segments: Vec::new(alloc),
+            starts_held: false,
+            boundaries: Vec::new(alloc),
         }
     }
 
-    /// The set of all points.
+    /// The set of all points. It takes no memory.
     pub fn full(alloc: Global) -> Result<Self, AllocError>
         ensures { IfOk result (λ set. (p : Point T) → holds_at T.cmp set p ≡ true) }
     {
-        Self::from_range_bounds(alloc, (Bound::Unbounded, Bound::Unbounded))
+        Ok(Ranges {
+            starts_held: true,
+            boundaries: Vec::new(alloc),
+        })
     }
 
     /// The set of one point, at the value. The value is cloned once, since it bounds the set on both sides.
     pub fn singleton(alloc: Global, value: T) -> Result<Self, AllocError>
         ensures { IfOk result (λ set. HoldsOnly T.cmp value set) }
     {
-        let upper = Bound::Included(value.try_clone(alloc)?);
-        Self::from_range_bounds(alloc, (Bound::Included(value), upper))
+        let copy = value.try_clone(alloc)?;
+        Self::between(alloc, Boundary::At(value), Boundary::JustAbove(copy))
     }
 
     /// What is at the value or above it.
@@ -108,86 +166,150 @@ impl<T: RangeValue> Ranges<T> {
     ) -> Result<Self, AllocError>
         ensures { IfOk result (λ set. (p : Point T) → holds_at T.cmp set p ≡ is_within T.cmp bounds p) }
     {
-        let mut segments = Vec::new(alloc);
         let (lower, upper) = bounds;
-        let segment = Segment { lower, upper };
-        if segment.holds_a_point() {
-            segments.push(segment)?;
+        match (
+            Boundary::from_lower_bound(lower),
+            Boundary::from_upper_bound(upper),
+        ) {
+            (None, None) => Self::full(alloc),
+            (Some(start), None) => Self::with_turn(alloc, false, start),
+            (None, Some(end)) => Self::with_turn(alloc, true, end),
+            (Some(start), Some(end)) => {
+                if start < end {
+                    Self::between(alloc, start, end)
+                } else {
+                    Ok(Self::empty(alloc))
+                }
+            }
         }
-        Ok(Ranges { segments })
     }
 
     /// A copy, which equals its source. Each value is cloned once.
     pub fn try_clone(&self, alloc: Global) -> Result<Self, AllocError>
         ensures { IfOk result (λ copy. HoldSamePoints T.cmp copy self.now) }
     {
-        Self::empty(alloc).union(alloc, self)
+        let (starts_held, boundaries) = self.turns();
+        Self::copied(alloc, starts_held, boundaries)
     }
 }
 
-/// Combinations: each takes one pass over its sets, and clones each value that the result keeps once.
+/// Combinations: each takes one pass over its sets, and clones each boundary that the result keeps once.
 impl<T: RangeValue> Ranges<T> {
-    /// The points that the set does not hold. Linear in the set's intervals.
+    /// The points that the set does not hold: one copy of the boundaries.
     pub fn complement(&self, alloc: Global) -> Result<Self, AllocError>
         ensures { IfOk result (λ set. (p : Point T) → holds_at T.cmp set p ≡ not (holds_at T.cmp self.now p)) }
     {
-        let all = Self::full(alloc)?;
-        Ok(Ranges {
-            segments: merged(alloc, Combination::FirstOnly, &all.segments, &self.segments)?,
-        })
+        let (starts_held, boundaries) = self.turns();
+        Self::copied(alloc, !starts_held, boundaries)
     }
 
-    /// The points that both sets hold. Linear in the intervals of the two.
+    /// The points that both sets hold. Linear in the boundaries of the two.
     pub fn intersection(&self, alloc: Global, other: &Self) -> Result<Self, AllocError>
         ensures { IfOk result (λ set. (p : Point T) →
             holds_at T.cmp set p ≡ (holds_at T.cmp self.now p && holds_at T.cmp other.now p)) }
     {
-        Ok(Ranges {
-            segments: merged(alloc, Combination::Both, &self.segments, &other.segments)?,
-        })
+        merged(alloc, Combination::Both, self, other)
     }
 
-    /// The points that either set holds. Linear in the intervals of the two.
+    /// The points that either set holds. Linear in the boundaries of the two.
     pub fn union(&self, alloc: Global, other: &Self) -> Result<Self, AllocError>
         ensures { IfOk result (λ set. (p : Point T) →
             holds_at T.cmp set p ≡ (holds_at T.cmp self.now p || holds_at T.cmp other.now p)) }
     {
-        Ok(Ranges {
-            segments: merged(alloc, Combination::Either, &self.segments, &other.segments)?,
-        })
+        merged(alloc, Combination::Either, self, other)
     }
 }
 
 /// Questions: none takes memory.
 impl<T: RangeValue> Ranges<T> {
-    /// Whether the set holds the point at the value. At most linear in the set's intervals.
+    /// Whether the set holds the point at the value. The boundaries are searched by halves.
     pub fn contains(&self, value: &T) -> bool
         ensures { result ≡ holds_at T.cmp self.now (At value.now) }
     {
-        any_contains(&self.segments, value)
+        let (starts_held, boundaries) = self.turns();
+        let reached = boundaries.partition_point(|boundary| boundary.reaches(value));
+        starts_held != (reached % 2 == 1)
     }
 
     /// Whether the set holds no point. A set may hold points and contain no value.
     pub fn is_empty(&self) -> bool
         ensures { IsTrue result ↔ ((p : Point T) → holds_at T.cmp self.now p ≡ false) }
     {
-        self.segments.is_empty()
+        let (starts_held, boundaries) = self.turns();
+        if starts_held {
+            return false;
+        }
+        boundaries.is_empty()
     }
 
     /// The value, where the set holds the point at one value and no other.
     pub fn as_singleton(&self) -> Option<&T>
         ensures value { option_map (λ v. v.now) result ≡ single_value T.cmp self.now }
-        ensures points { MatchOption result ((v : T) → ¬ (HoldsOnly T.cmp v self.now)) (λ v. HoldsOnly T.cmp v.now self.now) }
+        ensures points { MatchOption result
+            ((v : T) → ¬ (HoldsOnly T.cmp v self.now)) (λ v. HoldsOnly T.cmp v.now self.now) }
     {
-        only_value(&self.segments)
+        let (starts_held, boundaries) = self.turns();
+        if starts_held {
+            None
+        } else {
+            only_value(boundaries)
+        }
     }
 
     /// From the lower bound of the first interval to the upper bound of the last; `None` of the empty set.
     pub fn bounding_range(&self) -> Option<(Bound<&T>, Bound<&T>)>
         ensures { option_map lent_bounds result ≡ hull (intervals self.now) }
     {
-        let (first, _) = self.segments.split_first()?;
-        let (last, _) = self.segments.split_last()?;
-        Some((first.lower.as_ref(), last.upper.as_ref()))
+        let (starts_held, boundaries) = self.turns();
+        let (lower, _) = self.iter().next()?;
+        Some((lower, last_upper_bound(starts_held, boundaries)))
+    }
+}
+
+/// Copies, each of which equals its source.
+fn copies<T: RangeValue>(
+    alloc: Global,
+    boundaries: &[Boundary<T>],
+) -> Result<Vec<Boundary<T>>, AllocError>
+    ensures { IfOk result (λ copies. slice_cmp (boundary_cmp T.cmp) copies.items boundaries.now ≡ Equal) }
+{
+    let mut copies = Vec::with_capacity(alloc, boundaries.len())?;
+    for boundary in boundaries {
+        copies.push(boundary.try_clone(alloc)?)?;
+    }
+    Ok(copies)
+}
+
+/// The value, where there are two boundaries, at it and just above it.
+fn only_value<T: Ord>(boundaries: &[Boundary<T>]) -> Option<&T>
+    ensures { option_map (λ v. v.now) result ≡ single_value T.cmp (map point_of boundaries.now) }
+{
+    match boundaries {
+        [Boundary::At(value), Boundary::JustAbove(upper)] => {
+            if value.cmp(upper).is_eq() {
+                Some(value)
+            } else {
+                None
+            }
+        }
+        _ => None,
+    }
+}
+
+/// The upper bound of the last interval.
+fn last_upper_bound<T>(starts_held: bool, boundaries: &[Boundary<T>]) -> Bound<&T>
+    ensures { bound_map (λ v. v.now) result ≡
+        last_upper Unbounded (intervals (turns_of starts_held boundaries.now)) }
+{
+    match boundaries.split_last() {
+        None => Bound::Unbounded,
+        Some((last, _)) => {
+            let ends_held = starts_held != (boundaries.len() % 2 == 1);
+            if ends_held {
+                Bound::Unbounded
+            } else {
+                last.as_upper_bound()
+            }
+        }
     }
 }

@@ -1,4 +1,4 @@
-use Rattle.version_ranges.specs.Point.{points_total}
+use Rattle.version_ranges.specs.OrderLaws.{points_total}
 use Rattle.version_ranges.proofs.Membership.{canonical}
 use Rattle.version_ranges.proofs.laws.normal_form_is_unique.Goals as goal
 

@@ -1,4 +1,4 @@
-use Rattle.version_ranges.specs.Point.{points_total}
+use Rattle.version_ranges.specs.OrderLaws.{points_total}
 use Rattle.version_ranges.proofs.laws.points_are_ordered.Goals as goal
 
 pub returns : goal.returns

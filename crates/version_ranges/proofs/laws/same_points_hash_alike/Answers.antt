@@ -1,6 +1,6 @@
 use Rattle.std.proofs.Common.{ap}
 use Rattle.std.specs.Ordering.{is_eq}
-use Rattle.version_ranges.specs.Hashing.{alike_ranges}
+use Rattle.version_ranges.specs.HashingLaws.{alike_ranges}
 use Rattle.version_ranges.proofs.Comparing.{same_equal}
 use Rattle.version_ranges.proofs.laws.same_points_hash_alike.Goals as goal
 
