@@ -57,7 +57,7 @@ pub struct MarkerEnvironment {
 
 impl Model for MarkerEnvironment {
     ghost use Rattle.pep508_marker.specs.declared.EnvironmentMember.{EnvironmentMember};
-ghost use Rattle.pep508_marker.specs.Environment.{EnvironmentRecord};
+    ghost use Rattle.pep508_marker.specs.Environment.{EnvironmentRecord};
 
     ghost Value = { EnvironmentRecord };
 

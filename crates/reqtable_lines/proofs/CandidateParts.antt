@@ -69,8 +69,8 @@ pub parts_in_body : (text : List ℕ) → IsUtf8 text → parts_in (trim text) �
 parts_in_body text u =
     let body = body_of (chars text) in
     ap (λ cs. if list_any is_whitespace cs
-              then Some (encode_utf8_all (before_first is_whitespace cs), trim_start (encode_utf8_all (after_first is_whitespace cs)))
-              else None) (body_chars text u)
+    then Some (encode_utf8_all (before_first is_whitespace cs), trim_start (encode_utf8_all (after_first is_whitespace cs)))
+    else None) (body_chars text u)
     ∙ ap (λ bs. if list_any is_whitespace body then Some (encode_utf8_all (before_first is_whitespace body), bs) else None)
     (later_skipped body (body_scalars text u))
 
@@ -149,8 +149,7 @@ module _ (text : List ℕ) where
           front = skip_black version m.3;
           back = end_is_bare (name ++ between) version front_stays;
         };
-      } in
-      (
+      } in (
         name,
         version,
         are_parts,

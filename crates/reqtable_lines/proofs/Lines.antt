@@ -68,10 +68,10 @@ lines_split text parts part e h kept =
     let back = filter is_kept (map numbered rest) in (
       back,
       sym (ap (filter is_kept) (numbered_from 0 (slice_split (λ b. b == 10) text)))
-      ∙ ap (λ ps. filter is_kept (map numbered ps)) (split_all all (map seen parts) (seen part) (length parts) e h)
-      ∙ ap (filter is_kept) (map-append numbered (map seen parts) (seen part ∷ rest))
-      ∙ filter-append is_kept (map numbered (map seen parts)) (numbered (seen part) ∷ map numbered rest)
-      ∙ ap (λ b. lines_of parts ++ cond (not b) (numbered (seen part) ∷ back) back) kept,
+          ∙ ap (λ ps. filter is_kept (map numbered ps)) (split_all all (map seen parts) (seen part) (length parts) e h)
+          ∙ ap (filter is_kept) (map-append numbered (map seen parts) (seen part ∷ rest))
+          ∙ filter-append is_kept (map numbered (map seen parts)) (numbered (seen part) ∷ map numbered rest)
+          ∙ ap (λ b. lines_of parts ++ cond (not b) (numbered (seen part) ∷ back) back) kept,
     )
 
 with_found : {A E : Type 0} (read : Result A E) (others : Result (List A) E) (xs : List A) → with_first read others ≡ Ok xs → (y : A) × (ys : List A) × (read ≡ Ok y) × (others ≡ Ok ys) × (y ∷ ys ≡ xs)

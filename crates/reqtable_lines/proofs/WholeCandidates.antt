@@ -60,7 +60,7 @@ candidates_read law bytes candidates = (
   λ h. let t = text_found bytes (Ok candidates) h (λ offset e. cc) in (
     t.0,
     all_zip_along IsText IsRead IsNumberedCandidate (at_found law) (text_lines bytes) candidates (lines_utf8 bytes t.0)
-    (each_found candidate_at (text_lines bytes) candidates t.1),
+        (each_found candidate_at (text_lines bytes) candidates t.1),
   ),
   λ h. candidates_text bytes h.0
       ∙ each_again candidate_at (text_lines bytes) candidates

@@ -8,12 +8,11 @@ ghost use Rattle.std.specs.Str.{IsUtf8, trim};
 ghost use Rattle.reqtable_lines.specs.CandidateLine.{parts_in, has_name};
 ghost use Rattle.reqtable_lines.specs.Candidates.{candidate_at, candidates_of, told_candidates, IsNameReached};
 
-use crate::text_lines::{is_blank, line_text};
+use crate::text_lines::{as_text, is_blank, line_text};
 use pep440_rs::{Version, VersionParseError};
 use pep508_name::{PackageName, is_name};
 use std::alloc::{AllocError, AllocFailed, Global};
 use std::marker::Model;
-use std::str;
 
 /// A version of a package that may be taken.
 #[derive(Drop)]
@@ -97,13 +96,9 @@ impl Candidates {
         ensures answered { Answers (λ candidates. candidates) told_candidates result (candidates_of bytes.now) }
         ensures grown { result ≡ Err CandidatesError.Memory → IsUtf8 bytes.now × IsNameReached (text_lines bytes.now) }
     {
-        let text = match str::from_utf8(bytes) {
+        let text = match as_text(bytes) {
             Ok(text) => text,
-            Err(error) => {
-                return Err(CandidatesError::NotText {
-                    offset: error.valid_up_to(),
-                });
-            }
+            Err(offset) => return Err(CandidatesError::NotText { offset }),
         };
         let items = read_candidates(alloc, text)?;
         Ok(Candidates { items })

@@ -6,10 +6,9 @@ ghost use Rattle.reqtable_lines.specs.TextLines.{text_lines, each_line};
 ghost use Rattle.reqtable_lines.specs.Requirements.{requirement_at, requirements_of, told_requirements};
 
 use crate::requirement::RequirementLine;
-use crate::text_lines::{is_blank, line_text};
+use crate::text_lines::{as_text, is_blank, line_text};
 use std::alloc::{AllocError, AllocFailed, Global};
 use std::marker::Model;
-use std::str;
 
 /// Why bytes are no requirements text, or none of the kind that is read today.
 #[derive(Clone, Copy, Debug, PartialEq, Eq)]
@@ -70,13 +69,9 @@ impl Requirements {
     pub fn parse(alloc: Global, bytes: &[u8]) -> Result<Requirements, RequirementsError>
         ensures { Answers (λ lines. lines) told_requirements result (requirements_of bytes.now) }
     {
-        let text = match str::from_utf8(bytes) {
+        let text = match as_text(bytes) {
             Ok(text) => text,
-            Err(error) => {
-                return Err(RequirementsError::NotText {
-                    offset: error.valid_up_to(),
-                });
-            }
+            Err(offset) => return Err(RequirementsError::NotText { offset }),
         };
         let lines = read_lines(alloc, text)?;
         Ok(Requirements { lines })

@@ -1,8 +1,24 @@
 //! The lines of a list, without their ends and comments.
 
-ghost use Rattle.std.specs.Prelude.{◌≡◌};
+ghost use Rattle.std.specs.Prelude.{◌≡◌, IfOk, OnOk, IfErr};
+ghost use Rattle.std.specs.Str.{IsUtf8};
+ghost use Rattle.std.specs.Str.Lossy.{utf8_valid_len};
 ghost use Rattle.std.specs.Str.Lines.{strip_carriage_return};
 ghost use Rattle.reqtable_lines.specs.TextLines.{without_comment, is_blank};
+
+use std::str;
+
+/// The text that bytes are, or where they stop being UTF-8, counted from 0.
+pub(crate) fn as_text(bytes: &[u8]) -> Result<&str, usize>
+    ensures text { IfOk result (λ text. text.now ≡ bytes.now) }
+    ensures is_text { OnOk result (IsUtf8 bytes.now) }
+    ensures no_text { IfErr result (λ offset. (IsUtf8 bytes.now → ⊥) × (offset ≡ utf8_valid_len bytes.now)) }
+{
+    match str::from_utf8(bytes) {
+        Ok(text) => Ok(text),
+        Err(error) => Err(error.valid_up_to()),
+    }
+}
 
 /// What there is to read on a line.
 pub(crate) fn line_text(line: &str) -> &str

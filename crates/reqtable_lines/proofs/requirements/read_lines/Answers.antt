@@ -44,7 +44,7 @@ loop-index-preserved-in_ok-push c =
       search rules,
       tt,
       ap (each_line requirement_at) (lines_more_kept c.loop-index.yielded (c.in-Some.index, c.in-Some.line) (sym (ap is_blank c.line_text-line.ensures) ∙ kept))
-      ∙ each_more requirement_at (lines_of c.loop-index.yielded) c.loop-index.read.items (numbered (seen (c.in-Some.index, c.in-Some.line)))
-      c.in_ok-read_line.field-0 c.loop-index.invariant.2 read
-      ∙ sym (ap (λ items. Ok items) c.in_ok-push.ensures.items),
+          ∙ each_more requirement_at (lines_of c.loop-index.yielded) c.loop-index.read.items (numbered (seen (c.in-Some.index, c.in-Some.line)))
+          c.in_ok-read_line.field-0 c.loop-index.invariant.2 read
+          ∙ sym (ap (λ items. Ok items) c.in_ok-push.ensures.items),
     )

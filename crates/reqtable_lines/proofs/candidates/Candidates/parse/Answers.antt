@@ -5,10 +5,10 @@ use Rattle.reqtable_lines.proofs.candidates.Candidates.parse.Goals as goal
 
 pub returns-in-Err-clause-answered : goal.returns-in-Err-clause-answered
 returns-in-Err-clause-answered c =
-    candidates_no_text c.args.bytes.now c.in-Err.ensures.cases.0 ∙ ap (λ n. Err (NotText n)) (sym (c.valid_up_to.ensures ∙ c.in-Err.ensures.valid_len))
+    candidates_no_text c.args.bytes.now c.in-Err.ensures.no_text.0 ∙ ap (λ n. Err (NotText n)) (sym c.in-Err.ensures.no_text.1)
 
 pub returns-in_err-items-clause-answered : goal.returns-in_err-items-clause-answered
-returns-in_err-items-clause-answered c = rw (candidates_text c.args.bytes.now c.in-Ok.ensures.cases.1) (search rules)
+returns-in_err-items-clause-answered c = rw (candidates_text c.args.bytes.now c.in-Ok.ensures.is_text) (search rules)
 
 pub returns-clause-answered : goal.returns-clause-answered
-returns-clause-answered c = rw (candidates_text c.args.bytes.now c.in-Ok.ensures.cases.1) (search rules)
+returns-clause-answered c = rw (candidates_text c.args.bytes.now c.in-Ok.ensures.is_text) (search rules)

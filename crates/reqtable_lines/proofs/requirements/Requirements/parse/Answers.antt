@@ -5,10 +5,10 @@ use Rattle.reqtable_lines.proofs.requirements.Requirements.parse.Goals as goal
 
 pub returns-in-Err : goal.returns-in-Err
 returns-in-Err c =
-    requirements_no_text c.args.bytes.now c.in-Err.ensures.cases.0 ∙ ap (λ n. Err (NotText n)) (sym (c.valid_up_to.ensures ∙ c.in-Err.ensures.valid_len))
+    requirements_no_text c.args.bytes.now c.in-Err.ensures.no_text.0 ∙ ap (λ n. Err (NotText n)) (sym c.in-Err.ensures.no_text.1)
 
 pub returns-in_err-lines : goal.returns-in_err-lines
-returns-in_err-lines c = rw (requirements_text c.args.bytes.now c.in-Ok.ensures.cases.1) (search rules)
+returns-in_err-lines c = rw (requirements_text c.args.bytes.now c.in-Ok.ensures.is_text) (search rules)
 
 pub returns : goal.returns
-returns c = rw (requirements_text c.args.bytes.now c.in-Ok.ensures.cases.1) (search rules)
+returns c = rw (requirements_text c.args.bytes.now c.in-Ok.ensures.is_text) (search rules)
