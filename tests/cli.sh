@@ -141,6 +141,30 @@ for example in "$top"/examples/*/; do
     fi
 done
 
+# What is installed for the machine's own python3, and what is asked of it.
+if command -v python3 >/dev/null; then
+    mkdir installed
+    python3 "$top/examples/installed.py" installed >out 2>left </dev/null
+    status=$?
+    cp left err
+    wants "examples/installed.py" 0 "" ANYTHING
+    # Each installed release satisfies that it is there; a package that isn't installed has no candidate.
+    grep -E '^[^ ]+ [0-9]+(\.[0-9]+)*$' installed/candidates.txt >plain
+    { sed -E 's/ .*/>=0/' plain; echo 'not-installed>=0'; } >asked
+    run check asked installed/environment.json installed/candidates.txt
+    cp out rows
+    wants "what is installed satisfies a list" 0 SOMETHING ""
+    if [ "$(wc -l <rows)" -eq "$(wc -l <asked)" ] && [ "$(grep ' none$' rows)" = "not-installed none" ]; then
+        passed=$((passed + 1))
+    else
+        failed=$((failed + 1))
+        echo "FAILED: what is installed: $(wc -l <rows) rows of $(wc -l <asked), and $(grep -c ' none$' rows) none"
+    fi
+else
+    failed=$((failed + 1))
+    echo "FAILED: python3 is not on the PATH, and examples/installed.py needs it"
+fi
+
 # Inputs that are refused.
 printf 'foo-bar>=1.0\n\nfoo-bar ~= 1.0\n' >unread
 run check unread E C
@@ -221,6 +245,30 @@ printf 'foo-bar>=1.0\n' >'a b/é'
 run check 'a b/é' "$work/E" ./C
 wants "blanks and letters past ASCII in a path" 0 "foo-bar 2.0$n" ""
 
+# Standard input in place of a file.
+"$program" check - E C >out 2>err <R
+status=$?
+wants "requirements from standard input" 0 "foo-bar 1.19$n" ""
+"$program" check R - C >out 2>err <E
+status=$?
+wants "an environment from standard input" 0 "foo-bar 1.19$n" ""
+"$program" check R E - >out 2>err < <(cat C)
+status=$?
+wants "candidates from a pipe" 0 "foo-bar 1.19$n" ""
+"$program" check unread E - >out 2>err <C
+status=$?
+wants "a refused list beside standard input" 2 "" "reqs: unread: line 3: not yet read$n"
+"$program" check - E C >out 2>err <unread
+status=$?
+wants "a refused list from standard input" 2 "" "reqs: -: line 3: not yet read$n"
+run check - E -
+wants "standard input twice" 2 "" "reqs: standard input (-) can be one input alone$n"
+run check R - - dev
+wants "standard input twice, with an extra" 2 "" "reqs: standard input (-) can be one input alone$n"
+cp R ./-
+run check ./- E C
+wants "a file named -" 0 "foo-bar 1.19$n" ""
+
 # Outputs that can't be written.
 : >out
 "$program" check R E C >/dev/full 2>err </dev/null
@@ -229,6 +277,12 @@ wants "a full standard output" 3 "" "reqs: write fault$n"
 "$program" check R E C >&- 2>err </dev/null
 status=$?
 wants "a closed standard output" 3 "" "reqs: write fault$n"
+exec 3> >(exit 0)
+wait $!
+"$program" check R E C >&3 2>err </dev/null
+status=$?
+exec 3>&-
+wants "a closed pipe" 3 "" "reqs: write fault$n"
 "$program" check R E C </dev/null >/dev/full 2>&1
 status=$?
 : >err
@@ -247,6 +301,16 @@ run check --help
 wants "check --help" 0 SOMETHING ""
 run help
 wants "help" 0 SOMETHING ""
+run --version
+wants "--version" 0 "reqs 0.1.0$n" ""
+built=$top/crates/reqs_cli/out/reqs_cli
+(exec -a /else/where "$built" check --help) 2>err </dev/null | sed -n 's/^Usage: //p' >out
+status=${PIPESTATUS[0]}
+wants "help under another name" 0 "reqs check <REQS> <ENV> <CANDIDATES> [EXTRA]...$n" ""
+run check R E $'caf\xe9'
+wants "a path that isn't UTF-8" 2 "" "reqs: argument caf"$'\xef\xbf\xbd'" is not UTF-8$n"
+run check R E "$(printf 'x%.0s' {1..3000})"
+wants "a long path" 3 "" SOMETHING
 run
 wants "no words" 2 "" SOMETHING
 run frobnicate

@@ -2,14 +2,16 @@
 
 ghost use Rattle.std.specs.Prelude.{◌≡◌, length};
 
+use crate::source::Source;
+use crate::words::{WordsFault, words};
 use clap::error::ErrorKind;
 use clap::{Arg, ArgMatches, Command, Error};
 use reqs::{Input, RunFault, Status, Vars, check};
 use std::alloc::Global;
 use std::fs::File;
+use std::io;
 use std::process::ExitCode;
 use std::rt::Runtime;
-use std::{env, io};
 
 /// The exit status of a command line that is refused.
 const USAGE_STATUS: u8 = 2;
@@ -17,11 +19,18 @@ const USAGE_STATUS: u8 = 2;
 /// The exit status where memory is refused.
 const MEMORY_STATUS: u8 = 3;
 
+/// What `--version` says beside the program's name.
+const VERSION: &str = "0.1.0";
+
+/// The path that stands for standard input.
+const STANDARD_INPUT: &str = "-";
+
 /// Runs the command that the process was started with.
 pub fn run<R: Runtime + AllocGlobal>(rt: &R) -> ExitCode {
-    let words = match words(rt) {
+    let words = match words(rt, rt.alloc()) {
         Ok(words) => words,
-        Err(_) => return end(rt, USAGE_STATUS, "the arguments can't be read as text"),
+        Err(WordsFault::NotText(word)) => return refuse_word(rt, word.as_str()),
+        Err(WordsFault::Memory) => return end(rt, MEMORY_STATUS, "out of memory"),
     };
     match matches(rt.alloc(), words.as_slice()) {
         Ok(matches) => match matches.subcommand_matches("check") {
@@ -32,16 +41,12 @@ pub fn run<R: Runtime + AllocGlobal>(rt: &R) -> ExitCode {
     }
 }
 
-/// The words of the command line, the program's name first.
-fn words<R: Runtime + AllocGlobal>(rt: &R) -> io::Result<Vec<String>> {
-    let words = env::args(rt)?.collect(rt.alloc())?;
-    Ok(words)
-}
-
 /// What the words ask for.
 fn matches<'a>(alloc: Global, words: &'a [String]) -> Result<ArgMatches<'a>, Error> {
     let requirements = Arg::new(alloc, "REQS")
-        .help("The requirement lines, a file")
+        .help(
+            "The requirement lines, a file; - is standard input, here or in place of another file",
+        )
         .required(true);
     let environment = Arg::new(alloc, "ENV")
         .help("The environment, a JSON object in a file")
@@ -59,10 +64,17 @@ fn matches<'a>(alloc: Global, words: &'a [String]) -> Result<ArgMatches<'a>, Err
         .arg(candidates)?
         .arg(extras)?;
     let reqs = Command::new(alloc, "reqs")
+        .version(VERSION)
         .about("Judges lists of Python requirements")
         .subcommand_required(true)
         .subcommand(check)?;
     reqs.try_get_matches_from(words)
+}
+
+/// Names the word of the command line that is no text.
+fn refuse_word<R: Eprint>(rt: &R, word: &str) -> ExitCode {
+    let _ = eprintln!(rt; "reqs: argument {word} is not UTF-8");
+    ExitCode::from(USAGE_STATUS)
 }
 
 /// Says what is wrong with the words, or prints the help that they ask for.
@@ -87,6 +99,13 @@ fn run_check<R: Runtime + AllocGlobal>(rt: &R, given: &ArgMatches<'_>) -> ExitCo
         given.get_str("ENV").unwrap_or(""),
         given.get_str("CANDIDATES").unwrap_or(""),
     ];
+    if paths.iter().filter(|path| **path == STANDARD_INPUT).count() > 1 {
+        return end(
+            rt,
+            USAGE_STATUS,
+            "standard input (-) can be one input alone",
+        );
+    }
     let extras = given.get_strs("EXTRA").unwrap_or(&[]);
     match check_files(rt, &paths, extras) {
         Ok(status) => ExitCode::from(status.code()),
@@ -120,9 +139,16 @@ fn check_files<R: Runtime + AllocGlobal>(
 }
 
 /// Opens an input.
-fn open<R: Runtime>(rt: &R, input: Input, path: &str) -> Result<R::File, RunFault> {
+fn open<R: Runtime>(
+    rt: &R,
+    input: Input,
+    path: &str,
+) -> Result<Source<R::File, R::Reader>, RunFault> {
+    if path == STANDARD_INPUT {
+        return Ok(Source::Standard(rt.reader()));
+    }
     match File::open(rt, path) {
-        Ok(file) => Ok(file),
+        Ok(file) => Ok(Source::File(file)),
         Err(_) => Err(RunFault::Read { input }),
     }
 }

@@ -2,6 +2,8 @@
 #![tactic(auto)]
 
 mod command;
+mod source;
+mod words;
 
 use std::process::ExitCode;
 

@@ -1,0 +1,96 @@
+#!/usr/bin/env python3
+"""Writes what `reqs check` asks of a Python interpreter, for the one that runs this.
+
+    installed.py [FOLDER]
+
+FOLDER, here where none is named, gets `environment.json`, the values that markers are held against, and
+`candidates.txt`, the name and version of each distribution that is installed, as `pip list` shows them. What PEP 440
+or PEP 508 can't read is left out, with a word on standard error.
+"""
+
+import importlib.metadata
+import json
+import os
+import platform
+import re
+import sys
+
+NAME = re.compile(r"[A-Z0-9](?:[A-Z0-9._-]*[A-Z0-9])?", re.I | re.A)
+
+# PEP 440, Appendix B.
+VERSION = re.compile(
+    r"""v?(?:[0-9]+!)?[0-9]+(?:\.[0-9]+)*
+    (?:[-_.]?(?:alpha|a|beta|b|preview|pre|c|rc)[-_.]?[0-9]*)?
+    (?:-[0-9]+|[-_.]?(?:post|rev|r)[-_.]?[0-9]*)?
+    (?:[-_.]?dev[-_.]?[0-9]*)?
+    (?P<local>\+[a-z0-9]+(?:[-_.][a-z0-9]+)*)?""",
+    re.I | re.A | re.X,
+)
+
+
+def is_version(text):
+    """Whether it is a version whose numbers fit into 64 bits, as `reqs` wants them."""
+    found = VERSION.fullmatch(text)
+    if not found:
+        return False
+    public = text[: found.start("local")] if found["local"] else text
+    return all(int(number) < 2**64 for number in re.findall("[0-9]+", public))
+
+
+def environment():
+    """The members of PEP 508, "Environment Markers"."""
+    implementation = sys.implementation
+    version = implementation.version
+    full = "%d.%d.%d" % version[:3]
+    if version[3] != "final":
+        full += version[3][0] + str(version[4])
+    python = platform.python_version()
+    if not is_version(python):
+        # As `3.14.0a0+`, of an interpreter from a development tree.
+        print(f"installed.py: {python} is no version, {python.rstrip('+')} is written", file=sys.stderr)
+        python = python.rstrip("+")
+    return {
+        "implementation_name": implementation.name,
+        "implementation_version": full,
+        "os_name": os.name,
+        "platform_machine": platform.machine(),
+        "platform_python_implementation": platform.python_implementation(),
+        "platform_release": platform.release(),
+        "platform_system": platform.system(),
+        "platform_version": platform.version(),
+        "python_full_version": python,
+        "python_version": ".".join(platform.python_version_tuple()[:2]),
+        "sys_platform": sys.platform,
+    }
+
+
+def candidates():
+    """A line for each distribution; of two of one name the first that the interpreter finds."""
+    lines = {}
+    for found in importlib.metadata.distributions():
+        try:
+            name, version = found.metadata["Name"], found.version
+        except (AttributeError, KeyError, TypeError):
+            name, version = None, None  # its metadata can't be read
+        key = re.sub("[-_.]+", "-", str(name)).lower()
+        if key in lines:
+            continue
+        if name and version and NAME.fullmatch(name) and is_version(version):
+            lines[key] = f"{name} {version}\n"
+        else:
+            print(f"installed.py: {name} {version} is left out", file=sys.stderr)
+    return [lines[key] for key in sorted(lines)]
+
+
+def main():
+    if len(sys.argv) > 2:
+        sys.exit(__doc__)
+    folder = sys.argv[1] if len(sys.argv) == 2 else "."
+    with open(os.path.join(folder, "environment.json"), "w", encoding="utf-8") as file:
+        json.dump(environment(), file, indent=2)
+        file.write("\n")
+    with open(os.path.join(folder, "candidates.txt"), "w", encoding="utf-8") as file:
+        file.writelines(candidates())
+
+
+main()
