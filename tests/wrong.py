@@ -342,17 +342,22 @@ def try_edits(tried, crates, lines, runs):
     needed = []
     for crate in tried:
         needed += [it for it in below(crate, crates) if it not in needed]
-    with tempfile.TemporaryDirectory(prefix="reqs-wrong-", ignore_cleanup_errors=True) as room:
+    room = tempfile.mkdtemp(prefix="reqs-wrong-")
+    try:
         base = os.path.join(room, "base")
         os.mkdir(base)
         lost = build_libraries(base, needed, lines, runs)
         for crate in [it for it in tried if lost & {*it.uses}]:
-            print(f"FAILED: {crate.name}: its {len(crate.edits)} edits were not tried, since a library below it isn't proved")
+            print(f"FAILED: {crate.name}: its {len(crate.edits)} edits were not tried, since a library below isn't proved")
             failed += len(crate.edits)
             tried = [it for it in tried if it is not crate]
         groups = in_groups([it for it in tried if it.edits], lanes)
         trial = Trial(groups, base, os.path.join(room, "rooms"), crates, lines, runs)
         good, bad = trial.run(lanes)
+    finally:
+        # (what still runs is told to end first, so that nothing is written any more)
+        runs.end()
+        shutil.rmtree(room, ignore_errors=True)
     return good, failed + bad
 
 
