@@ -182,13 +182,16 @@ class Runs:
     """Runs commands, each in a session of its own, and ends those that run when it is told to."""
 
     def __init__(self):
-        self.running, self.turn, self.is_over = set(), threading.Lock(), False
+        # (a signal may come where its thread holds the lock)
+        self.running, self.turn, self.is_over, self.room = set(), threading.RLock(), False, None
 
     def run(self, words, folder):
         with self.turn:
             if self.is_over:
                 return 1, ""
             how = {"stdin": subprocess.DEVNULL, "stdout": subprocess.PIPE, "stderr": subprocess.STDOUT}
+            # What rt keeps meanwhile goes with the room, however rt ends.
+            how["env"] = {**os.environ, "TMPDIR": self.room}
             process = subprocess.Popen(words, cwd=folder, errors="replace", start_new_session=True, **how)
             self.running.add(process)
         said, _ = process.communicate()
@@ -202,6 +205,8 @@ class Runs:
             self.is_over = True
             for process in self.running:
                 process.kill()
+            if self.running:
+                time.sleep(0.5)
 
 
 class Group:
@@ -342,7 +347,7 @@ def try_edits(tried, crates, lines, runs):
     needed = []
     for crate in tried:
         needed += [it for it in below(crate, crates) if it not in needed]
-    room = tempfile.mkdtemp(prefix="reqs-wrong-")
+    room = runs.room = tempfile.mkdtemp(prefix="reqs-wrong-")
     try:
         base = os.path.join(room, "base")
         os.mkdir(base)
