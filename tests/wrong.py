@@ -182,13 +182,16 @@ class Runs:
     """Runs commands, each in a session of its own, and ends those that run when it is told to."""
 
     def __init__(self):
-        self.running, self.turn, self.is_over = set(), threading.Lock(), False
+        # (a signal may come where its thread holds the lock)
+        self.running, self.turn, self.is_over, self.room = set(), threading.RLock(), False, None
 
     def run(self, words, folder):
         with self.turn:
             if self.is_over:
                 return 1, ""
             how = {"stdin": subprocess.DEVNULL, "stdout": subprocess.PIPE, "stderr": subprocess.STDOUT}
+            # What rt keeps meanwhile goes with the room, however rt ends.
+            how["env"] = {**os.environ, "TMPDIR": self.room}
             process = subprocess.Popen(words, cwd=folder, errors="replace", start_new_session=True, **how)
             self.running.add(process)
         said, _ = process.communicate()
@@ -202,6 +205,8 @@ class Runs:
             self.is_over = True
             for process in self.running:
                 process.kill()
+            if self.running:
+                time.sleep(0.5)
 
 
 class Group:
@@ -342,17 +347,22 @@ def try_edits(tried, crates, lines, runs):
     needed = []
     for crate in tried:
         needed += [it for it in below(crate, crates) if it not in needed]
-    with tempfile.TemporaryDirectory(prefix="reqs-wrong-", ignore_cleanup_errors=True) as room:
+    room = runs.room = tempfile.mkdtemp(prefix="reqs-wrong-")
+    try:
         base = os.path.join(room, "base")
         os.mkdir(base)
         lost = build_libraries(base, needed, lines, runs)
         for crate in [it for it in tried if lost & {*it.uses}]:
-            print(f"FAILED: {crate.name}: its {len(crate.edits)} edits were not tried, since a library below it isn't proved")
+            print(f"FAILED: {crate.name}: its {len(crate.edits)} edits were not tried, since a library below isn't proved")
             failed += len(crate.edits)
             tried = [it for it in tried if it is not crate]
         groups = in_groups([it for it in tried if it.edits], lanes)
         trial = Trial(groups, base, os.path.join(room, "rooms"), crates, lines, runs)
         good, bad = trial.run(lanes)
+    finally:
+        # (what still runs is told to end first, so that nothing is written any more)
+        runs.end()
+        shutil.rmtree(room, ignore_errors=True)
     return good, failed + bad
 
 
