@@ -9,7 +9,8 @@ use Rattle.pep440_text.specs.Reading.{leading_digits, behind_digits}
 digit_below : (b : ℕ) → is_ascii_digit b ≡ true → digit_value b < 10
 digit_below b d = grind (arith, nat_tests)
 
-all_by : (b : ℕ) (bs : List ℕ) (t : Bool) → is_ascii_digit b ≡ t → AllDigits 10 (leading_digits bs) → AllDigits 10 (cond t (b ∷ leading_digits bs) [])
+all_by : (b : ℕ) (bs : List ℕ) (t : Bool) → is_ascii_digit b ≡ t → AllDigits 10 (leading_digits bs)
+    → AllDigits 10 (cond t (b ∷ leading_digits bs) [])
 all_by b bs true e a = (digit_below b e, a)
 all_by b bs false e a = tt
 
@@ -32,7 +33,8 @@ pub digits_alone : (text : List ℕ) → all_ascii_digits text ≡ eqb (length (
 digits_alone [] = refl
 digits_alone (b ∷ bs) = alone_by b bs (is_ascii_digit b) (digits_alone bs)
 
-whole_cut : (b : ℕ) (bs : List ℕ) (t : Bool) → (length (behind_digits bs) ≡ 0 → leading_digits bs ≡ bs) → length (cond t (behind_digits bs) (b ∷ bs)) ≡ 0 → cond t (b ∷ leading_digits bs) [] ≡ b ∷ bs
+whole_cut : (b : ℕ) (bs : List ℕ) (t : Bool) → (length (behind_digits bs) ≡ 0 → leading_digits bs ≡ bs)
+    → length (cond t (behind_digits bs) (b ∷ bs)) ≡ 0 → cond t (b ∷ leading_digits bs) [] ≡ b ∷ bs
 whole_cut b bs true f h = ap (λ ds. b ∷ ds) (f h)
 whole_cut b bs false f h = absurd (omega (arith, h))
 
@@ -46,17 +48,29 @@ fitting digits = if nat_lt (digits_value 10 digits) (2 ^ 64) then Some (digits_v
 
 -- the number that a text is
 abbrev pub whole_number_of : List ℕ → Option ℕ
-whole_number_of text = cond (all_ascii_digits text) (cond (nat_lt (digits_value 10 text) (2 ^ 64)) (Some (digits_value 10 text)) None) None
+whole_number_of text =
+    if all_ascii_digits text && nat_lt (digits_value 10 text) (2 ^ 64) then Some
+    (digits_value 10 text) else None
 
-whole_by_test : (text : List ℕ) (t : Bool) → all_ascii_digits text ≡ t → cond t (fitting text) None ≡ whole_number_of text
-whole_by_test text t e = ap (λ u. cond u (fitting text) None) (sym e)
+-- what the test on digits makes of it
+abbrev whole_if : List ℕ → Bool → Option ℕ
+whole_if text t = if t && nat_lt (digits_value 10 text) (2 ^ 64) then Some (digits_value 10 text) else None
+
+whole_by_test : (text : List ℕ) (t : Bool) → all_ascii_digits text ≡ t
+    → whole_if text t ≡ whole_number_of text
+whole_by_test text t e = ap (whole_if text) (sym e)
 
 -- where nothing follows the digits at the front, and where something does
-pub is_whole : (text digits rest : List ℕ) (found : Option ℕ) → digits ≡ leading_digits text → rest ≡ behind_digits text → length rest ≡ 0
-    → found ≡ (if nat_lt (digits_value 10 digits) (2 ^ 64) then Some (digits_value 10 digits) else None) → found ≡ whole_number_of text
+pub is_whole : (text digits rest : List ℕ) (found : Option ℕ) → digits ≡ leading_digits text
+    → rest ≡ behind_digits text → length rest ≡ 0
+    → found ≡
+    (if nat_lt (digits_value 10 digits) (2 ^ 64) then Some (digits_value 10 digits) else None) → found ≡ whole_number_of text
 is_whole text digits rest found d r n f =
     let none : length (behind_digits text) ≡ 0 = ap length (sym r) ∙ n in
-    f ∙ ap fitting (d ∙ digits_whole text none) ∙ whole_by_test text true (digits_alone text ∙ ap (λ m. eqb m 0) none)
+    f ∙ ap fitting (d ∙ digits_whole text none) ∙ whole_by_test text true
+    (digits_alone text ∙ ap (λ m. eqb m 0) none)
 
-pub is_not_whole : (text rest : List ℕ) → rest ≡ behind_digits text → eqb (length rest) 0 ≡ false → None ≡ whole_number_of text
-is_not_whole text rest r n = whole_by_test text false (digits_alone text ∙ ap (λ bs. eqb (length bs) 0) (sym r) ∙ n)
+pub is_not_whole : (text rest : List ℕ) → rest ≡ behind_digits text → eqb (length rest) 0 ≡ false
+    → None ≡ whole_number_of text
+is_not_whole text rest r n =
+    whole_by_test text false (digits_alone text ∙ ap (λ bs. eqb (length bs) 0) (sym r) ∙ n)

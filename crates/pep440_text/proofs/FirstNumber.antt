@@ -17,7 +17,9 @@ GoesOn (Err fault) = fault.kind ≢ NoLeadingNumber
 
 has : {A : Type 0} (read : Result A TextFault) → GoesOn read → HasNumber read
 has (Ok x) g = λ left e. cc
-has (Err fault) g = λ left e. let same : fault ≡ record { kind = NoLeadingNumber; left = left } = cc in g (ap (λ (f : TextFault). f.kind) same)
+has (Err fault) g =
+    λ left e. let same : fault ≡ record { kind = NoLeadingNumber; left = left } = cc in g
+    (ap (λ (f : TextFault). f.kind) same)
 
 then_more : {A B : Type 0} (read : Result A TextFault) (more : A → Result B TextFault) → GoesOn read
     → ((x : A) → GoesOn (more x)) → GoesOn (read >>= more)
@@ -26,17 +28,21 @@ then_more (Err fault) more g m = g
 
 -- ---- numbers
 
-value_by : (bytes : List ℕ) (number : ℕ) (t : Bool) → GoesOn (if t then Ok (Some number) else at_left NumberTooBig bytes)
+value_by : (bytes : List ℕ) (number : ℕ) (t : Bool)
+    → GoesOn (if t then Ok (Some number) else at_left NumberTooBig bytes)
 value_by bytes number true = tt
 value_by bytes number false = λ e. cc
 
 value_goes : (bytes digits : List ℕ) → GoesOn (number_of bytes digits)
 value_goes bytes [] = tt
-value_goes bytes (d ∷ ds) = value_by bytes (digits_value 10 (d ∷ ds)) (nat_lt (digits_value 10 (d ∷ ds)) (2 ^ 64))
+value_goes bytes (d ∷ ds) =
+    value_by bytes (digits_value 10 (d ∷ ds)) (nat_lt (digits_value 10 (d ∷ ds)) (2 ^ 64))
 
 number_goes : (bytes : List ℕ) → GoesOn (number_at bytes)
 unfolding number_at
-number_goes bytes = then_more (number_of bytes (leading_digits bytes)) _ (value_goes bytes (leading_digits bytes)) (λ number. tt)
+number_goes bytes =
+    then_more (number_of bytes (leading_digits bytes)) _ (value_goes bytes (leading_digits bytes))
+    (λ number. tt)
 
 mark_by : (b : ℕ) (bs : List ℕ) (t : Bool)
     → GoesOn (if t then (number_at bs >>= λ found. Ok (or_none (b ∷ bs) found)) else Ok (None, b ∷ bs))
@@ -48,7 +54,8 @@ unfolding marked_number_at
 marked_goes mark [] = tt
 marked_goes mark (b ∷ bs) = mark_by b bs (eqb b mark)
 
-front_goes : {A : Type 0} (front : List A) (read : Result (List A × List ℕ) TextFault) → GoesOn read → GoesOn (with_front front read)
+front_goes : {A : Type 0} (front : List A) (read : Result (List A × List ℕ) TextFault) → GoesOn read
+    → GoesOn (with_front front read)
 front_goes front read g = then_more read _ g (λ found. tt)
 
 more_go : (more : List ℕ → Result (List ℕ × List ℕ) TextFault) (found : Option ℕ × List ℕ)
@@ -63,17 +70,21 @@ numbers_go (suc count) bytes =
     (λ found. more_go (numbers_at count) found (numbers_go count))
 
 -- a release that begins by a number
-pub release_begun : (bytes rest : List ℕ) (first : ℕ) → number_at bytes ≡ Ok (Some first, rest) → HasNumber (release_at bytes)
+pub release_begun : (bytes rest : List ℕ) (first : ℕ) → number_at bytes ≡ Ok (Some first, rest)
+    → HasNumber (release_at bytes)
 unfolding release_at
 release_begun bytes rest first e =
-    let goes : GoesOn (release_by bytes (Some first, rest)) = front_goes (first ∷ []) (numbers_at (length rest) rest) (numbers_go (length rest) rest) in
-    subst (λ (read : Result (Option ℕ × List ℕ) TextFault). HasNumber (read >>= release_by bytes)) (sym e) (has (release_by bytes (Some first, rest)) goes)
+    let goes : GoesOn (release_by bytes (Some first, rest)) =
+    front_goes (first ∷ []) (numbers_at (length rest) rest) (numbers_go (length rest) rest) in
+    subst (λ (read : Result (Option ℕ × List ℕ) TextFault). HasNumber (read >>= release_by bytes)) (sym e)
+    (has (release_by bytes (Some first, rest)) goes)
 
 -- ---- suffixes
 
 suffix_by_goes : {A : Type 0} (bytes : List ℕ) (found : Option (A × List ℕ)) → GoesOn (suffix_by bytes found)
 suffix_by_goes bytes None = tt
-suffix_by_goes bytes (Some (meaning, rest)) = then_more (number_at (after_separator rest)) _ (number_goes (after_separator rest)) (λ found. tt)
+suffix_by_goes bytes (Some (meaning, rest)) =
+    then_more (number_at (after_separator rest)) _ (number_goes (after_separator rest)) (λ found. tt)
 
 suffix_goes : {A : Type 0} (words : List (List ℕ × A)) (bytes : List ℕ) → GoesOn (suffix_at words bytes)
 unfolding suffix_at
@@ -92,7 +103,8 @@ post_by_goes bytes (None, rest) = plain_goes post_words bytes
 
 post_goes : (bytes : List ℕ) → GoesOn (post_at bytes)
 unfolding post_at
-post_goes bytes = then_more (marked_number_at 45 bytes) (post_by bytes) (marked_goes 45 bytes) (post_by_goes bytes)
+post_goes bytes =
+    then_more (marked_number_at 45 bytes) (post_by bytes) (marked_goes 45 bytes) (post_by_goes bytes)
 
 dev_goes : (bytes : List ℕ) → GoesOn (dev_at bytes)
 unfolding dev_at
@@ -111,7 +123,8 @@ segment_goes bytes =
     (letters_go bytes (take_while is_ascii_alphanumeric bytes)) (λ segment. tt)
 
 separated_goes : (more : List ℕ → Result (List Segment × List ℕ) TextFault) (segment : Segment) (b : ℕ) (rest : List ℕ) (t : Bool)
-    → ((bytes : List ℕ) → GoesOn (more bytes)) → GoesOn (if t then with_front (segment ∷ []) (more rest) else Ok (segment ∷ [], b ∷ rest))
+    → ((bytes : List ℕ) → GoesOn (more bytes)) → GoesOn
+    (if t then with_front (segment ∷ []) (more rest) else Ok (segment ∷ [], b ∷ rest))
 separated_goes more segment b rest true g = front_goes (segment ∷ []) (more rest) (g rest)
 separated_goes more segment b rest false g = tt
 
@@ -123,10 +136,12 @@ more_segments_go more segment (b ∷ rest) g = separated_goes more segment b res
 segments_go : (count : ℕ) (bytes : List ℕ) → GoesOn (segments_at count bytes)
 segments_go zero bytes = λ e. cc
 segments_go (suc count) bytes =
-    then_more (segment_at bytes) (λ found. more_segments (segments_at count) found.0 found.1) (segment_goes bytes)
+    then_more (segment_at bytes) (λ found. more_segments (segments_at count) found.0 found.1)
+    (segment_goes bytes)
     (λ found. more_segments_go (segments_at count) found.0 found.1 (segments_go count))
 
-plus_goes : (b : ℕ) (rest : List ℕ) (t : Bool) → GoesOn (if t then segments_at (length rest) rest else Ok ([], b ∷ rest))
+plus_goes : (b : ℕ) (rest : List ℕ) (t : Bool)
+    → GoesOn (if t then segments_at (length rest) rest else Ok ([], b ∷ rest))
 plus_goes b rest true = segments_go (length rest) rest
 plus_goes b rest false = tt
 
@@ -152,12 +167,14 @@ suffixed_goes said bytes =
     (λ post. then_more (dev_at post.1) _ (dev_goes post.1) (λ dev. then_more (local_at dev.1) _ (local_goes dev.1)
     (λ local. then_more (end_at local.1) _ (end_goes local.1) (λ end. tt)))))
 
-version_by : (head : (ℕ × List ℕ) × List ℕ) (t : Bool) → GoesOn (if t then at_left Wildcard head.1 else suffixed head.0 head.1)
+version_by : (head : (ℕ × List ℕ) × List ℕ) (t : Bool)
+    → GoesOn (if t then at_left Wildcard head.1 else suffixed head.0 head.1)
 version_by head true = λ e. cc
 version_by head false = suffixed_goes head.0 head.1
 
 pattern_by : (head : (ℕ × List ℕ) × List ℕ) (t : Bool)
-    → GoesOn {A = PatternRecord} (if t then Ok (record { version = epoch_record head.0.0 head.0.1; wildcard = true })
+    → GoesOn {A = PatternRecord}
+    (if t then Ok (record { version = epoch_record head.0.0 head.0.1; wildcard = true })
     else (suffixed head.0 head.1 >>= λ version. Ok (record { version = version; wildcard = false })))
 pattern_by head true = tt
 pattern_by head false = then_more (suffixed head.0 head.1) _ (suffixed_goes head.0 head.1) (λ version. tt)
@@ -166,7 +183,11 @@ behind_goes : {A B : Type 0} (read : Result A TextFault) (more : A → Result B 
     → ((x : A) → GoesOn (more x)) → HasNumber (read >>= more)
 behind_goes (Ok x) more h g = has (more x) (g x)
 behind_goes (Err fault) more h g = λ left e.
-    let same : fault ≡ record { kind = NoLeadingNumber; left = left } = cc in h left (ap (λ (f : TextFault). Err f) same)
+    let same : fault ≡ record {
+      kind =
+          NoLeadingNumber;
+      left = left;
+    } = cc in h left (ap (λ (f : TextFault). Err f) same)
 
 pub version_has : (text : List ℕ) → HasNumber (head_at text) → HasNumber (read_version text)
 unfolding read_version

@@ -1,5 +1,5 @@
 -- The print of a segment that was read is read as that segment, and so with the whole local part.
-use Rattle.std.proofs.Common.{◌≡◌, ℕ, ◌<◌, ◌≤◌, ◌^◌, ◌&&◌, Bool, true, false, cond, nat_lt, length, map, List, [], ◌∷◌, refl, ap, sym, subst, ◌∙◌, arith}
+use Rattle.std.proofs.Common.{◌≡◌, ℕ, ◌<◌, ◌≤◌, ◌^◌, ◌&&◌, Bool, true, false, if◌then◌else◌, nat_lt, length, map, List, [], ◌∷◌, refl, ap, sym, subst, ◌∙◌, arith}
 use Rattle.std.proofs.lemmas.Bool.{false≢true}
 use Rattle.std.proofs.lemmas.Bool.Decides.{nat_tests}
 use Rattle.std.proofs.lemmas.Fmt.{decimal_is_IsNumeral}
@@ -46,9 +46,12 @@ lower_digits (c ∷ cs) = (λ z. lower_digit c z && lower_digits cs z)
 
 digits_lower : (text : List ℕ) → all_ascii_digits text ≡ true → lower text ≡ text
 digits_lower [] e = refl
-digits_lower (c ∷ cs) e = let k = and_both (is_ascii_digit c) (all_ascii_digits cs) e in (λ z. digit_lower c k.0 z ∷ digits_lower cs k.1 z)
+digits_lower (c ∷ cs) e =
+    let k = and_both (is_ascii_digit c) (all_ascii_digits cs) e in
+    (λ z. digit_lower c k.0 z ∷ digits_lower cs k.1 z)
 
-lower_letters : (text : List ℕ) → Passes is_ascii_alphanumeric text → Passes is_ascii_alphanumeric (lower text)
+lower_letters : (text : List ℕ) → Passes is_ascii_alphanumeric text
+    → Passes is_ascii_alphanumeric (lower text)
 lower_letters [] a = tt
 lower_letters (c ∷ cs) a = (lower_letter c a.0, lower_letters cs a.1)
 
@@ -67,9 +70,10 @@ digits_are (d ∷ ds) a =
 
 -- what the tests on digits and their value make of a text
 abbrev said : List ℕ → Bool → Bool → Segment
-said text digits small = cond digits (cond small (Number (digits_value 10 text)) (Text (lower text))) (Text (lower text))
+said text digits small = if digits && small then Number (digits_value 10 text) else Text (lower text)
 
-said_is : (text : List ℕ) (digits small : Bool) → all_ascii_digits text ≡ digits → nat_lt (digits_value 10 text) (2 ^ 64) ≡ small → segment_said text ≡ said text digits small
+said_is : (text : List ℕ) (digits small : Bool) → all_ascii_digits text ≡ digits
+    → nat_lt (digits_value 10 text) (2 ^ 64) ≡ small → segment_said text ≡ said text digits small
 said_is text digits small e f = (λ z. said text (e z) (f z))
 
 number_printed : (n : ℕ) → n < 2 ^ 64 → IsSegment (decimal n) (Number n)
@@ -80,7 +84,8 @@ number_printed n h =
     record {
       nonempty = i.0.0;
       letters = a.1;
-      says = sym (said_is (decimal n) true true a.0 (ap (λ m. nat_lt m (2 ^ 64)) i.1 ∙ small) ∙ ap Number i.1);
+      says = sym
+          (said_is (decimal n) true true a.0 (ap (λ m. nat_lt m (2 ^ 64)) i.1 ∙ small) ∙ ap Number i.1);
     }
 
 small_value : (n : ℕ) → nat_lt n (2 ^ 64) ≡ true → n < 2 ^ 64
@@ -92,7 +97,8 @@ large_value n e = grind (arith, nat_tests)
 -- ---- what a text says is printable
 
 lowered : (text : List ℕ) → 0 < length text → Passes is_ascii_alphanumeric text
-    → (all_ascii_digits (lower text) ≡ true → 2 ^ 64 ≤ digits_value 10 (lower text)) → IsPrintableText (lower text)
+    → (all_ascii_digits (lower text) ≡ true → 2 ^ 64 ≤ digits_value 10 (lower text)) → IsPrintableText
+    (lower text)
 lowered text h a no_number = record {
   nonempty = omega (arith, lower_length text);
   letters = lower_letters text a;
@@ -105,13 +111,16 @@ said_printable : (text : List ℕ) (digits small : Bool) → all_ascii_digits te
     → IsPrintableSegment (said text digits small)
 said_printable text true true e f h a = small_value (digits_value 10 text) f
 said_printable text true false e f h a =
-    lowered text h a (λ d. subst (λ t. 2 ^ 64 ≤ digits_value 10 t) (sym (digits_lower text e)) (large_value (digits_value 10 text) f))
+    lowered text h a
+    (λ d. subst (λ t. 2 ^ 64 ≤ digits_value 10 t) (sym (digits_lower text e)) (large_value (digits_value 10 text) f))
 said_printable text false small e f h a =
     lowered text h a (λ d. absurd (false≢true (sym e ∙ sym (lower_digits text) ∙ d)))
 
 segment_printable : (text : List ℕ) (segment : Segment) → IsSegment text segment → IsPrintableSegment segment
 segment_printable text segment i =
-    let p = said_printable text (all_ascii_digits text) (nat_lt (digits_value 10 text) (2 ^ 64)) refl refl i.nonempty i.letters in
+    let p =
+    said_printable text (all_ascii_digits text)
+    (nat_lt (digits_value 10 text) (2 ^ 64)) refl refl i.nonempty i.letters in
     subst IsPrintableSegment (sym i.says) p
 
 segments_printable : (text : List ℕ) (segments : List Segment) → AreSegments text segments
@@ -129,7 +138,8 @@ local_printable local (segment ∷ segments) i = segments_printable i.0 (segment
 -- ---- what is printable is read as it is
 
 text_said : (bytes : List ℕ) (digits small : Bool) → all_ascii_digits bytes ≡ digits
-    → nat_lt (digits_value 10 bytes) (2 ^ 64) ≡ small → IsPrintableText bytes → Text bytes ≡ said bytes digits small
+    → nat_lt (digits_value 10 bytes)
+    (2 ^ 64) ≡ small → IsPrintableText bytes → Text bytes ≡ said bytes digits small
 text_said bytes true true e f p =
     let large : 2 ^ 64 ≤ digits_value 10 bytes = p.no_number e in
     let less : digits_value 10 bytes < 2 ^ 64 = small_value (digits_value 10 bytes) f in
@@ -145,7 +155,8 @@ segment_printed (Text bytes) p = record {
 }
 segment_printed (Number number) p = number_printed number p
 
-segments_printed : (segment : Segment) (segments : List Segment) → AllByRecursion IsPrintableSegment (segment ∷ segments)
+segments_printed : (segment : Segment) (segments : List Segment)
+    → AllByRecursion IsPrintableSegment (segment ∷ segments)
     → AreSegments (join_with_byte 46 (map segment_text (segment ∷ segments))) (segment ∷ segments)
 segments_printed segment [] a = segment_printed segment a.0
 segments_printed segment (next ∷ segments) a = (

@@ -20,15 +20,20 @@ behind version = behind_release version.pre version.post version.dev version.loc
 regrouped : (a b c d e f : List ℕ) → ((((a ++ b) ++ c) ++ d) ++ e) ++ f ≡ a ++ (b ++ (c ++ (d ++ (e ++ f))))
 regrouped a b c d e f = simp append_assoc
 
-print_regrouped : (version : VersionRecord) → version_text version ≡ epoch_text version.epoch ++ (release_text version.release ++ behind version)
+print_regrouped : (version : VersionRecord)
+    → version_text version ≡ epoch_text version.epoch ++ (release_text version.release ++ behind version)
 unfolding version_text
 print_regrouped version = regrouped (epoch_text version.epoch) (release_text version.release) _ _ _ _
 
-suffixed_printed : (version : VersionRecord) → IsPrintable version → suffixed (version.epoch, version.release) (behind version) ≡ Ok version
+suffixed_printed : (version : VersionRecord) → IsPrintable version
+    → suffixed (version.epoch, version.release) (behind version) ≡ Ok version
 suffixed_printed version i =
     let printed = local_text version.local in
-    let local = ap local_at (sym (append-nil printed)) ∙ local_again printed version.local [] (local_printed version.local i.segments) tt in
-    suffixed_chain version (behind version) (behind_pre version.post version.dev version.local) (behind_post version.dev version.local) printed []
+    let local =
+    ap local_at (sym (append-nil printed)) ∙ local_again printed version.local []
+    (local_printed version.local i.segments) tt in
+    suffixed_chain version (behind version) (behind_pre version.post version.dev version.local)
+    (behind_post version.dev version.local) printed []
     (pre_printed version.pre version.post version.dev version.local i.fits.pre)
     (post_printed version.post version.dev version.local i.fits.post)
     (dev_printed version.dev version.local i.fits.dev)
@@ -38,14 +43,17 @@ suffixed_printed version i =
     i.no_most
 
 -- the print of a printable version is read as that version
-pub printable_read : (version : VersionRecord) → IsPrintable version → version_of (version_text version) ≡ Some version
+pub printable_read : (version : VersionRecord) → IsPrintable version
+    → version_of (version_text version) ≡ Some version
 printable_read version i =
     let head = head_printed version.epoch version.release (behind version) i.fits.epoch i.some_number
-      (by_recursion version.release i.fits.release) (release_stops version.pre version.post version.dev version.local)
-      (no_mark version.pre version.post version.dev version.local)
-      (no_more_numbers version.pre version.post version.dev version.local) in
+    (by_recursion version.release i.fits.release)
+    (release_stops version.pre version.post version.dev version.local)
+    (no_mark version.pre version.post version.dev version.local)
+    (no_more_numbers version.pre version.post version.dev version.local) in
     ap version_of (print_regrouped version)
-    ∙ version_from (epoch_text version.epoch ++ (release_text version.release ++ behind version)) version (behind version) head
+    ∙ version_from (epoch_text version.epoch ++ (release_text version.release ++ behind version)) version
+    (behind version) head
     (suffixed_printed version i)
 
 text_printable : (text : List ℕ) (version : VersionRecord) → IsVersionText text version → IsPrintable version
@@ -58,5 +66,6 @@ text_printable text version i = record {
 }
 
 -- a version that was read is printable
-pub read_printable : (text : List ℕ) (version : VersionRecord) → version_of text ≡ Some version → IsPrintable version
+pub read_printable : (text : List ℕ) (version : VersionRecord) → version_of text ≡ Some version
+    → IsPrintable version
 read_printable text version e = text_printable text version (version_found text version e)

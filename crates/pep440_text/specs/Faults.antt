@@ -1,5 +1,5 @@
 -- What readers tell of the faults of a text.
-use Rattle.std.specs.Prelude.{◌≡◌, ◌≢◌, ℕ, ◌≤◌, ◌-◌, List, length, Option, Some, None, Result, Err}
+use Rattle.std.specs.Prelude.{◌≢◌, ℕ, ◌≤◌, ◌-◌, List, length, Option, Some, None, Result, Err}
 use Rattle.std.specs.Str.{IsCharBoundary}
 use Rattle.pep440_text.specs.declared.FaultKind.TheVariants.{NoLeadingNumber}
 use Rattle.pep440_text.specs.declared.TextFault.{TextFault}

@@ -56,5 +56,5 @@ local_text (segment ∷ segments) = codes "+" ++ join_with_byte 46 (map segment_
 -- the print of a version; `least` and `most` don't show
 unfoldable pub version_text : VersionRecord → List ℕ
 version_text version =
-    epoch_text version.epoch ++ release_text version.release ++ pre_text version.pre ++ numbered_text (codes ".post") version.post
-    ++ numbered_text (codes ".dev") version.dev ++ local_text version.local
+    epoch_text version.epoch ++ release_text version.release ++ pre_text version.pre
+    ++ numbered_text (codes ".post") version.post ++ numbered_text (codes ".dev") version.dev ++ local_text version.local

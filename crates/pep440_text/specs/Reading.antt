@@ -1,5 +1,5 @@
 -- What is read of the text of a version, from its front on: a value and what follows it, or the first fault.
-use Rattle.std.specs.Prelude.{ℕ, zero, suc, ◌^◌, ◌==◌, Bool, true, false, cond, nat_lt, if◌then◌else◌, List, [], ◌∷◌, ◌++◌, length, drop, Option, Some, None, unwrap_or, option_map, Result, Ok, Err}
+use Rattle.std.specs.Prelude.{ℕ, zero, suc, ◌^◌, ◌==◌, Bool, true, false, nat_lt, if◌then◌else◌, List, [], ◌∷◌, ◌++◌, length, drop, Option, Some, None, unwrap_or, option_map, Result, Ok, Err}
 use Rattle.std.specs.Char.{is_ascii_digit, is_ascii_whitespace, is_ascii_alphanumeric, to_ascii_lowercase}
 use Rattle.std.specs.List.{prefix_len, take_while, list_all}
 use Rattle.std.specs.Result.{result_ok}
@@ -40,17 +40,19 @@ after_separator (byte ∷ bytes) = if is_separator byte then bytes else byte ∷
 -- the digits at the front of a text
 abbrev pub leading_digits : List ℕ → List ℕ
 leading_digits [] = []
-leading_digits (byte ∷ bytes) = cond (is_ascii_digit byte) (byte ∷ leading_digits bytes) []
+leading_digits (byte ∷ bytes) = if is_ascii_digit byte then byte ∷ leading_digits bytes else []
 
 -- what follows them
 abbrev pub behind_digits : List ℕ → List ℕ
 behind_digits [] = []
-behind_digits (byte ∷ bytes) = cond (is_ascii_digit byte) (behind_digits bytes) (byte ∷ bytes)
+behind_digits (byte ∷ bytes) = if is_ascii_digit byte then behind_digits bytes else byte ∷ bytes
 
 -- the value of digits, where there are any; `bytes` is left where they stand
 abbrev pub number_of : List ℕ → List ℕ → Result (Option ℕ) TextFault
 number_of bytes [] = Ok None
-number_of bytes (digit ∷ digits) = if nat_lt (digits_value 10 (digit ∷ digits)) (2 ^ 64) then Ok (Some (digits_value 10 (digit ∷ digits))) else at_left NumberTooBig bytes
+number_of bytes (digit ∷ digits) =
+    let value = digits_value 10 (digit ∷ digits) in
+    if nat_lt value (2 ^ 64) then Ok (Some value) else at_left NumberTooBig bytes
 
 -- a number, where there is one
 unfoldable pub number_at : List ℕ → Result (Option ℕ × List ℕ) TextFault
@@ -64,7 +66,8 @@ or_none bytes (Some value, rest) = (Some value, rest)
 -- a number behind a byte
 abbrev pub behind_mark : ℕ → List ℕ → List ℕ → Result (Option ℕ × List ℕ) TextFault
 behind_mark mark bytes [] = Ok (None, bytes)
-behind_mark mark bytes (byte ∷ rest) = if byte == mark then (number_at rest >>= λ found. Ok (or_none bytes found)) else Ok (None, bytes)
+behind_mark mark bytes (byte ∷ rest) =
+    if byte == mark then (number_at rest >>= λ found. Ok (or_none bytes found)) else Ok (None, bytes)
 
 -- a byte and a number, where there are both
 unfoldable pub marked_number_at : ℕ → List ℕ → Result (Option ℕ × List ℕ) TextFault
@@ -76,17 +79,20 @@ marked_number_at mark bytes = behind_mark mark bytes bytes
 abbrev pub epoch_by : List ℕ → List ℕ → List ℕ → Result (Option ℕ × List ℕ) TextFault
 epoch_by bytes digits [] = Ok (None, bytes)
 epoch_by bytes [] (byte ∷ rest) = Ok (None, bytes)
-epoch_by bytes (digit ∷ digits) (byte ∷ rest) = if byte == 33 then (number_of bytes (digit ∷ digits) >>= λ number. Ok (number, rest)) else Ok (None, bytes)
+epoch_by bytes (digit ∷ digits) (byte ∷ rest) =
+    if byte == 33 then (number_of bytes (digit ∷ digits) >>= λ number. Ok (number, rest)) else Ok (None, bytes)
 
 -- an epoch, where there is one
 unfoldable pub epoch_at : List ℕ → Result (Option ℕ × List ℕ) TextFault
 epoch_at bytes = epoch_by bytes (leading_digits bytes) (behind_digits bytes)
 
 -- what was read, behind a front
-abbrev pub with_front : {A : Type 0} → List A → Result (List A × List ℕ) TextFault → Result (List A × List ℕ) TextFault
+abbrev pub with_front : {A : Type 0} → List A → Result (List A × List ℕ) TextFault
+    → Result (List A × List ℕ) TextFault
 with_front front read = read >>= λ found. Ok (front ++ found.0, found.1)
 
-abbrev pub more_numbers : (List ℕ → Result (List ℕ × List ℕ) TextFault) → Option ℕ × List ℕ → Result (List ℕ × List ℕ) TextFault
+abbrev pub more_numbers : (List ℕ → Result (List ℕ × List ℕ) TextFault) → Option ℕ × List ℕ
+    → Result (List ℕ × List ℕ) TextFault
 more_numbers more (None, rest) = Ok ([], rest)
 more_numbers more (Some number, rest) = with_front (number ∷ []) (more rest)
 
@@ -105,7 +111,9 @@ release_at bytes = number_at bytes >>= release_by bytes
 
 -- white space, `v`, the epoch and the release, and what follows them
 unfoldable pub head_at : List ℕ → Result ((ℕ × List ℕ) × List ℕ) TextFault
-head_at bytes = epoch_at (after_v (after_white bytes)) >>= λ epoch. release_at epoch.1 >>= λ release. Ok ((unwrap_or epoch.0 0, release.0), release.1)
+head_at bytes =
+    epoch_at (after_v (after_white bytes)) >>= λ epoch. release_at epoch.1 >>= λ release.
+    Ok ((unwrap_or epoch.0 0, release.0), release.1)
 
 -- ---- suffixes
 
@@ -113,7 +121,8 @@ head_at bytes = epoch_at (after_v (after_white bytes)) >>= λ epoch. release_at 
 abbrev pub behind_word : List ℕ → List ℕ → Option (List ℕ)
 behind_word [] bytes = Some bytes
 behind_word (letter ∷ letters) [] = None
-behind_word (letter ∷ letters) (byte ∷ bytes) = if to_ascii_lowercase byte == letter then behind_word letters bytes else None
+behind_word (letter ∷ letters) (byte ∷ bytes) =
+    if to_ascii_lowercase byte == letter then behind_word letters bytes else None
 
 abbrev pub or_word : {A : Type 0} → A → Option (List ℕ) → Option (A × List ℕ) → Option (A × List ℕ)
 or_word meaning (Some rest) others = Some (meaning, rest)
@@ -124,21 +133,27 @@ unfoldable pub word_at : {A : Type 0} → List (List ℕ × A) → List ℕ → 
 word_at [] bytes = None
 word_at (word ∷ words) bytes = or_word word.1 (behind_word word.0 bytes) (word_at words bytes)
 
-abbrev pub suffix_by : {A : Type 0} → List ℕ → Option (A × List ℕ) → Result (Option (A × ℕ) × List ℕ) TextFault
+abbrev pub suffix_by : {A : Type 0} → List ℕ → Option (A × List ℕ)
+    → Result (Option (A × ℕ) × List ℕ) TextFault
 suffix_by bytes None = Ok (None, bytes)
-suffix_by bytes (Some (meaning, rest)) = number_at (after_separator rest) >>= λ found. Ok (Some (meaning, unwrap_or found.0 0), found.1)
+suffix_by bytes (Some (meaning, rest)) =
+    number_at (after_separator rest) >>= λ found. Ok (Some (meaning, unwrap_or found.0 0), found.1)
 
 -- a suffix, where there is one
-unfoldable pub suffix_at : {A : Type 0} → List (List ℕ × A) → List ℕ → Result (Option (A × ℕ) × List ℕ) TextFault
+unfoldable pub suffix_at : {A : Type 0} → List (List ℕ × A) → List ℕ
+    → Result (Option (A × ℕ) × List ℕ) TextFault
 suffix_at words bytes = suffix_by bytes (word_at words (after_separator bytes))
 
 -- a pre-release, where there is one
 unfoldable pub pre_at : List ℕ → Result (Option Prerelease × List ℕ) TextFault
-pre_at bytes = suffix_at pre_words bytes >>= λ found. Ok (option_map (λ said. record { kind = said.0; number = said.1 }) found.0, found.1)
+pre_at bytes =
+    suffix_at pre_words bytes >>= λ found.
+    Ok (option_map (λ said. record { kind = said.0; number = said.1 }) found.0, found.1)
 
 -- the number of a suffix whose word says nothing
 abbrev pub plain_suffix_at : List (List ℕ × Unit {0}) → List ℕ → Result (Option ℕ × List ℕ) TextFault
-plain_suffix_at words bytes = suffix_at words bytes >>= λ found. Ok (option_map (λ said. said.1) found.0, found.1)
+plain_suffix_at words bytes =
+    suffix_at words bytes >>= λ found. Ok (option_map (λ said. said.1) found.0, found.1)
 
 abbrev pub post_by : List ℕ → Option ℕ × List ℕ → Result (Option ℕ × List ℕ) TextFault
 post_by bytes (Some number, rest) = Ok (Some number, rest)
@@ -161,16 +176,20 @@ segment_by bytes (letter ∷ letters) = Ok (segment_said (letter ∷ letters))
 -- the letters and digits at the front, of which there have to be some, and what follows them
 unfoldable pub segment_at : List ℕ → Result (Segment × List ℕ) TextFault
 segment_at bytes =
-    segment_by bytes (take_while is_ascii_alphanumeric bytes) >>= λ segment. Ok (segment, drop (prefix_len is_ascii_alphanumeric bytes) bytes)
+    segment_by bytes (take_while is_ascii_alphanumeric bytes) >>= λ segment.
+    Ok (segment, drop (prefix_len is_ascii_alphanumeric bytes) bytes)
 
-abbrev pub more_segments : (List ℕ → Result (List Segment × List ℕ) TextFault) → Segment → List ℕ → Result (List Segment × List ℕ) TextFault
+abbrev pub more_segments : (List ℕ → Result (List Segment × List ℕ) TextFault) → Segment → List ℕ
+    → Result (List Segment × List ℕ) TextFault
 more_segments more segment [] = Ok (segment ∷ [], [])
-more_segments more segment (byte ∷ rest) = if is_separator byte then with_front (segment ∷ []) (more rest) else Ok (segment ∷ [], byte ∷ rest)
+more_segments more segment (byte ∷ rest) =
+    if is_separator byte then with_front (segment ∷ []) (more rest) else Ok (segment ∷ [], byte ∷ rest)
 
 -- at most so many segments, with separators between them; behind a separator there has to be one
 abbrev pub segments_at : ℕ → List ℕ → Result (List Segment × List ℕ) TextFault
 segments_at zero bytes = at_left LocalEmpty bytes
-segments_at (suc count) bytes = segment_at bytes >>= λ found. more_segments (segments_at count) found.0 found.1
+segments_at (suc count) bytes =
+    segment_at bytes >>= λ found. more_segments (segments_at count) found.0 found.1
 
 abbrev pub local_by : List ℕ → Result (List Segment × List ℕ) TextFault
 local_by [] = Ok ([], [])
@@ -193,14 +212,16 @@ end_at bytes = end_by (after_white bytes)
 -- the version of an epoch, a release and the parts behind it
 unfoldable pub suffixed : ℕ × List ℕ → List ℕ → Result VersionRecord TextFault
 suffixed said bytes =
-    pre_at bytes >>= λ pre. post_at pre.1 >>= λ post. dev_at post.1 >>= λ dev. local_at dev.1 >>= λ local. end_at local.1 >>= λ end.
-    Ok (record { epoch = said.0; release = said.1; pre = pre.0; post = post.0; dev = dev.0; local = local.0; least = None; most = None })
+    pre_at bytes >>= λ pre. post_at pre.1 >>= λ post. dev_at post.1 >>= λ dev. local_at dev.1 >>= λ local.
+    end_at local.1 >>= λ end.
+    Ok (record (epoch_record said.0 said.1) { pre = pre.0; post = post.0; dev = dev.0; local = local.0 })
 
 -- whether this is `.*` and white space alone
 abbrev pub is_star : List ℕ → Bool
 is_star [] = false
 is_star (dot ∷ []) = false
-is_star (dot ∷ star ∷ rest) = cond (dot == 46) (cond (star == 42) (list_all is_ascii_whitespace rest) false) false
+is_star (dot ∷ star ∷ rest) =
+    if dot == 46 then (if star == 42 then list_all is_ascii_whitespace rest else false) else false
 
 abbrev pub version_behind : (ℕ × List ℕ) × List ℕ → Result VersionRecord TextFault
 version_behind head = if is_star head.1 then at_left Wildcard head.1 else suffixed head.0 head.1

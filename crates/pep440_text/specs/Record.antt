@@ -25,7 +25,16 @@ pub record VersionRecord : Type 0 where
 -- a version of release numbers alone (PEP 440, "Final releases")
 abbrev pub release_record : List ℕ → VersionRecord
 release_record numbers =
-    record { epoch = 0; release = numbers; pre = None; post = None; dev = None; local = []; least = None; most = None }
+    record {
+      epoch = 0;
+      release = numbers;
+      pre = None;
+      post = None;
+      dev = None;
+      local = [];
+      least = None;
+      most = None;
+    }
 
 -- the version without its local part (PEP 440, "Local version identifiers")
 abbrev pub without_local : VersionRecord → VersionRecord
@@ -52,4 +61,9 @@ epoch_record epoch numbers = record (release_record numbers) { epoch = epoch }
 -- what the parts of a text say
 abbrev pub said : VersionParts → VersionRecord
 said parts =
-    record { epoch = parts.epoch; release = parts.release.items; pre = parts.pre; post = parts.post; dev = parts.dev; local = map segment_of parts.local.items; least = None; most = None }
+    record (epoch_record parts.epoch parts.release.items) {
+      pre = parts.pre;
+      post = parts.post;
+      dev = parts.dev;
+      local = map segment_of parts.local.items;
+    }

@@ -1,6 +1,6 @@
 -- The text of a version: what its parts are, and what they say (PEP 440, "Version scheme" and Appendix B).
 -- Letters stand in either case. A part that may be there is there wherever it can be, and is as long as it can be.
-use Rattle.std.specs.Prelude.{◌≡◌, ℕ, ◌<◌, ◌≤◌, ◌^◌, ◌==◌, ◌||◌, ◌⊎◌, Bool, cond, nat_lt, IsTrue, IfSome, All, List, [], ◌∷◌, ◌++◌, length, map, codes, Option, Some, None, unwrap_or}
+use Rattle.std.specs.Prelude.{◌≡◌, ℕ, ◌<◌, ◌≤◌, ◌^◌, ◌==◌, ◌||◌, ◌&&◌, ◌⊎◌, Bool, cond, if◌then◌else◌, nat_lt, IsTrue, IfSome, All, List, [], ◌∷◌, ◌++◌, length, map, codes, Option, Some, None, unwrap_or}
 use Rattle.std.specs.Char.{is_ascii_whitespace, is_ascii_alphanumeric, to_ascii_lowercase}
 use Rattle.std.specs.List.{AllZip, AllByRecursion, join_with_byte}
 use Rattle.std.specs.Str.{all_ascii_digits}
@@ -13,15 +13,18 @@ use Rattle.pep440_text.specs.Record.{Segment, Text, Number, VersionRecord, Patte
 -- ---- parts in general
 
 -- the longest front of a text that is a part of a kind, and what follows it
-pub record Front {A : Type 0} (Is : List ℕ → A → Type 0) (text : List ℕ) (value : A) (rest : List ℕ) : Type 0 where
+pub record Front {A : Type 0} (Is : List ℕ → A → Type 0) (text : List ℕ) (value : A) (rest : List ℕ)
+    : Type 0 where
   pub front : List ℕ
   pub split : text ≡ front ++ rest
   pub is_part : Is front value
-  pub longest : (other : List ℕ) (more : List ℕ) (another : A) → text ≡ other ++ more → Is other another → length other ≤ length front
+  pub longest : (other : List ℕ) (more : List ℕ) (another : A) → text ≡ other ++ more → Is other another
+      → length other ≤ length front
 
 -- no front of a text is such a part
 abbrev pub HasNoFront : {A : Type 0} → (List ℕ → A → Type 0) → List ℕ → Type 0
-HasNoFront {A} Is text = (front : List ℕ) (rest : List ℕ) (value : A) → text ≡ front ++ rest → Is front value → ⊥
+HasNoFront {A} Is text =
+    (front : List ℕ) (rest : List ℕ) (value : A) → text ≡ front ++ rest → Is front value → ⊥
 
 -- a part that may be there, and what follows it
 abbrev pub Optional : {A : Type 0} → (List ℕ → A → Type 0) → List ℕ → Option A → List ℕ → Type 0
@@ -69,7 +72,8 @@ IsNumberOrNone text number = ((text ≡ []) × (number ≡ 0)) ⊎ IsNumber text
 -- one of some words, and what it means
 abbrev pub IsOneOf : {A : Type 0} → List (List ℕ × A) → List ℕ → A → Type 0
 IsOneOf [] text meaning = ⊥
-IsOneOf (word ∷ words) text meaning = ((map to_ascii_lowercase text ≡ word.0) × (meaning ≡ word.1)) ⊎ IsOneOf words text meaning
+IsOneOf (word ∷ words) text meaning =
+    ((map to_ascii_lowercase text ≡ word.0) × (meaning ≡ word.1)) ⊎ IsOneOf words text meaning
 
 -- one of some words with a number, each with a separator before it or none
 pub record IsSuffix {A : Type 0} (words : List (List ℕ × A)) (text : List ℕ) (said : A × ℕ) : Type 0 where
@@ -86,8 +90,8 @@ pub record IsSuffix {A : Type 0} (words : List (List ℕ × A)) (text : List ℕ
 -- the words of pre-releases, a longer one before its own front (PEP 440, "Pre-release spelling")
 abbrev pub pre_words : List (List ℕ × PrereleaseKind)
 pre_words =
-    (codes "alpha", Alpha) ∷ (codes "a", Alpha) ∷ (codes "beta", Beta) ∷ (codes "b", Beta) ∷ (codes "preview", Rc) ∷ (codes "pre", Rc) ∷ (codes "rc", Rc)
-    ∷ (codes "c", Rc) ∷ []
+    (codes "alpha", Alpha) ∷ (codes "a", Alpha) ∷ (codes "beta", Beta) ∷ (codes "b", Beta)
+    ∷ (codes "preview", Rc) ∷ (codes "pre", Rc) ∷ (codes "rc", Rc) ∷ (codes "c", Rc) ∷ []
 
 -- the words of post-releases (PEP 440, "Post release spelling")
 abbrev pub post_words : List (List ℕ × Unit {0})
@@ -115,7 +119,9 @@ IsDev text number = IsSuffix dev_words text (tt, number)
 
 -- what letters and digits say: digits up to 2 ^ 64 - 1 are a number, others a text in lower case
 abbrev pub segment_said : List ℕ → Segment
-segment_said text = cond (all_ascii_digits text) (cond (nat_lt (digits_value 10 text) (2 ^ 64)) (Number (digits_value 10 text)) (Text (map to_ascii_lowercase text))) (Text (map to_ascii_lowercase text))
+segment_said text =
+    if all_ascii_digits text && nat_lt (digits_value 10 text) (2 ^ 64) then Number (digits_value 10 text)
+    else Text (map to_ascii_lowercase text)
 
 -- one or more letters and digits (PEP 440, "Local version identifiers")
 pub record IsSegment (text : List ℕ) (segment : Segment) : Type 0 where
@@ -128,13 +134,14 @@ abbrev pub AreSegments : List ℕ → List Segment → Type 0
 AreSegments text [] = ⊥
 AreSegments text (segment ∷ []) = IsSegment text segment
 AreSegments text (segment ∷ next ∷ segments) =
-    (front : List ℕ) × (separator : ℕ) × (rest : List ℕ) × (text ≡ front ++ (separator ∷ rest)) × IsTrue (is_separator separator) × IsSegment front segment
-    × AreSegments rest (next ∷ segments)
+    (front : List ℕ) × (separator : ℕ) × (rest : List ℕ) × (text ≡ front ++ (separator ∷ rest))
+    × IsTrue (is_separator separator) × IsSegment front segment × AreSegments rest (next ∷ segments)
 
 -- a local part, or nothing, which has no segments
 abbrev pub IsLocalOrNone : List ℕ → List Segment → Type 0
 IsLocalOrNone text [] = text ≡ []
-IsLocalOrNone text (segment ∷ segments) = (rest : List ℕ) × (text ≡ 43 ∷ rest) × AreSegments rest (segment ∷ segments)
+IsLocalOrNone text (segment ∷ segments) =
+    (rest : List ℕ) × (text ≡ 43 ∷ rest) × AreSegments rest (segment ∷ segments)
 
 -- ---- the whole
 
@@ -192,4 +199,5 @@ pub record IsStarText (text : List ℕ) (version : VersionRecord) : Type 0 where
 
 -- the text of a pattern: a star's, or a version's
 abbrev pub IsPatternText : List ℕ → PatternRecord → Type 0
-IsPatternText text pattern = cond pattern.wildcard (IsStarText text pattern.version) (IsVersionText text pattern.version)
+IsPatternText text pattern =
+    cond pattern.wildcard (IsStarText text pattern.version) (IsVersionText text pattern.version)

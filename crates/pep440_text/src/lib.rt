@@ -11,8 +11,6 @@ use std::alloc::{AllocError, AllocFailed, Global};
 pub mod laws;
 mod print;
 mod reading;
-#[cfg(test)]
-mod tests;
 
 pub use reading::{read_pattern, read_version};
 

@@ -57,7 +57,8 @@ fn skip_v(bytes: &[u8]) -> &[u8]
 /// White space, `v`, the epoch and the release, and what follows them.
 #[tactic(auto, unfolding(crate::specs::Reading::head_at))]
 fn read_head(alloc: Global, bytes: &[u8]) -> Result<(Head, &[u8]), ReadError>
-    ensures head { Answers (λ found. ((found.0.epoch, found.0.release.items), found.1.now)) told_read result (head_at bytes.now) }
+    ensures head { Answers (λ found. ((found.0.epoch, found.0.release.items), found.1.now)) told_read result
+        (head_at bytes.now) }
     ensures numbers { IfOk result (λ found. 0 < length found.0.release.items) }
     ensures grown { result ≡ Err errors.Memory → HasNumber (head_at bytes.now) }
 {
@@ -156,7 +157,8 @@ pub fn read_version(alloc: Global, text: &[u8]) -> Result<VersionParts, ReadErro
 /// Costs and faults are those of `read_version`.
 #[tactic(auto, unfolding(crate::specs::Reading::read_pattern))]
 pub fn read_pattern(alloc: Global, text: &[u8]) -> Result<(VersionParts, bool), ReadError>
-    ensures parts { Answers (λ found. record { version = said found.0; wildcard = found.1 }) told_read result (read_pattern text.now) }
+    ensures parts { Answers (λ found. record { version = said found.0; wildcard = found.1 }) told_read result
+        (read_pattern text.now) }
     ensures numbers { IfOk result (λ found. 0 < length found.0.release.items) }
     ensures grown { result ≡ Err errors.Memory → HasNumber (read_pattern text.now) }
 {

@@ -1,6 +1,6 @@
 //! Local parts.
 
-ghost use Rattle.std.specs.Prelude.{◌≡◌, ◌^◌, ◌∷◌, [], cond, nat_lt, length, drop, map, IfOk, Some, None};
+ghost use Rattle.std.specs.Prelude.{◌≡◌, ◌^◌, ◌∷◌, [], ◌&&◌, if◌then◌else◌, nat_lt, length, drop, map, IfOk, Some, None};
 ghost use Rattle.std.specs.Char.{is_ascii_alphanumeric, to_ascii_lowercase};
 ghost use Rattle.std.specs.List.{prefix_len, take_while};
 ghost use Rattle.std.specs.String.{string_bytes};
@@ -33,7 +33,8 @@ fn split_letters(bytes: &[u8]) -> (&[u8], &[u8])
 
 /// The number that letters and digits are, if 64 bits hold it.
 fn whole_number(letters: &[u8]) -> Option<u64>
-    ensures { result ≡ cond (all_ascii_digits letters.now) (cond (nat_lt (digits_value 10 letters.now) (2 ^ 64)) (Some (digits_value 10 letters.now)) None) None }
+    ensures { result ≡ (if all_ascii_digits letters.now && nat_lt (digits_value 10 letters.now) (2 ^ 64)
+        then Some (digits_value 10 letters.now) else None) }
 {
     let (digits, rest) = split_digits(letters);
     if rest.is_empty() { value(digits) } else { None }
@@ -70,7 +71,8 @@ fn segment(alloc: Global, bytes: &[u8]) -> Result<(LocalSegment, &[u8]), ReadErr
 
 /// Segments with separators between them.
 fn segments(alloc: Global, bytes: &[u8]) -> Result<(Vec<LocalSegment>, &[u8]), ReadError>
-    ensures { Answers (λ found. (map segment_of found.0.items, found.1.now)) told_read result (segments_at (length bytes.now) bytes.now) }
+    ensures { Answers (λ found. (map segment_of found.0.items, found.1.now)) told_read result
+        (segments_at (length bytes.now) bytes.now) }
 {
     let mut segments = Vec::new(alloc);
     let mut rest = bytes;
@@ -97,7 +99,8 @@ fn segments(alloc: Global, bytes: &[u8]) -> Result<(Vec<LocalSegment>, &[u8]), R
 /// The segments of a local part, none where there is no `+`.
 #[tactic(auto, unfolding(crate::specs::Reading::local_at))]
 pub(super) fn local(alloc: Global, bytes: &[u8]) -> Result<(Vec<LocalSegment>, &[u8]), ReadError>
-    ensures { Answers (λ found. (map segment_of found.0.items, found.1.now)) told_read result (local_at bytes.now) }
+    ensures { Answers (λ found. (map segment_of found.0.items, found.1.now)) told_read result
+        (local_at bytes.now) }
 {
     match bytes.split_first() {
         Some((b'+', rest)) => segments(alloc, rest),

@@ -27,7 +27,8 @@ pub(super) fn split_digits(bytes: &[u8]) -> (&[u8], &[u8])
 /// The value of digits, where 64 bits hold it.
 pub(super) fn value(digits: &[u8]) -> Option<u64>
     requires { AllDigits 10 digits.now }
-    ensures { result ≡ (if nat_lt (digits_value 10 digits.now) (2 ^ 64) then Some (digits_value 10 digits.now) else None) }
+    ensures { result ≡ (if nat_lt (digits_value 10 digits.now) (2 ^ 64)
+        then Some (digits_value 10 digits.now) else None) }
 {
     let mut total = 0u64;
     for digit in digits {
@@ -100,7 +101,8 @@ pub(super) fn epoch(bytes: &[u8]) -> Result<(Option<u64>, &[u8]), TextFault>
 
 /// A first number, and those behind dots as long as there are any.
 fn numbers(alloc: Global, first: u64, bytes: &[u8]) -> Result<(Vec<u64>, &[u8]), ReadError>
-    ensures { Answers (λ found. (found.0.items, found.1.now)) told_read result (with_front (first ∷ []) (numbers_at (length bytes.now) bytes.now)) }
+    ensures { Answers (λ found. (found.0.items, found.1.now)) told_read result
+        (with_front (first ∷ []) (numbers_at (length bytes.now) bytes.now)) }
 {
     let dots = bytes.iter().filter(|byte| **byte == b'.').count();
     let mut numbers = Vec::with_capacity(alloc, dots + 1)?;
@@ -122,7 +124,8 @@ fn numbers(alloc: Global, first: u64, bytes: &[u8]) -> Result<(Vec<u64>, &[u8]),
 /// The numbers of a release.
 #[tactic(auto, unfolding(crate::specs::Reading::release_at))]
 pub(super) fn release(alloc: Global, bytes: &[u8]) -> Result<(Vec<u64>, &[u8]), ReadError>
-    ensures release { Answers (λ found. (found.0.items, found.1.now)) told_read result (release_at bytes.now) }
+    ensures release { Answers (λ found. (found.0.items, found.1.now)) told_read result
+        (release_at bytes.now) }
     ensures numbers { IfOk result (λ found. 0 < length found.0.items) }
     ensures grown { result ≡ Err errors.Memory → HasNumber (release_at bytes.now) }
 {

@@ -47,7 +47,8 @@ fn strip_word<'a>(word: &[u8], bytes: &'a [u8]) -> Option<&'a [u8]>
 
 /// What the first of some words that stands at the front means, and what follows it.
 fn find_word<'a, A: Copy>(words: &[(&str, A)], bytes: &'a [u8]) -> Option<(A, &'a [u8])>
-    ensures { option_map (λ found. (found.0, found.1.now)) result ≡ word_at (map (λ word. (word.0.now, word.1)) words.now) bytes.now }
+    ensures { option_map (λ found. (found.0, found.1.now)) result
+        ≡ word_at (map (λ word. (word.0.now, word.1)) words.now) bytes.now }
 {
     for (word, meaning) in words {
         if let Some(rest) = strip_word(word.as_bytes(), bytes) {
@@ -63,7 +64,8 @@ fn suffix<'a, A: Copy>(
     words: &[(&str, A)],
     bytes: &'a [u8],
 ) -> Result<(Option<(A, u64)>, &'a [u8]), TextFault>
-    ensures { Answers (λ found. (found.0, found.1.now)) Some result (suffix_at (map (λ word. (word.0.now, word.1)) words.now) bytes.now) }
+    ensures { Answers (λ found. (found.0, found.1.now)) Some result
+        (suffix_at (map (λ word. (word.0.now, word.1)) words.now) bytes.now) }
 {
     match find_word(words, skip_separator(bytes)) {
         None => Ok((None, bytes)),
