@@ -1,5 +1,5 @@
 -- What a marker environment is as a JSON value, and what refuses one (PEP 508, "Environment Markers").
-use Rattle.std.specs.Prelude.{◌≡◌, ℕ, ◌&&◌, Bool, true, false, not, if◌then◌else◌, List, [], ◌∷◌, ◌++◌, codes, Option, Some, None, is_some, option_and_then, Result, Ok, Err}
+use Rattle.std.specs.Prelude.{◌≡◌, ℕ, ◌&&◌, Bool, IsTrue, true, false, not, if◌then◌else◌, List, [], ◌∷◌, ◌++◌, codes, Option, Some, None, is_some, option_and_then, Result, Ok, Err}
 use Rattle.std.specs.List.{filter_map}
 use Rattle.serde_json.specs.Data.{Data}
 use Rattle.serde_json.specs.Find.{get, as_str, as_object}
@@ -78,6 +78,17 @@ unfoldable pub environment_of : Data → Result EnvironmentRecord EnvironmentErr
 environment_of value =
     if has_float value then Err Float
     else (if not (is_some (as_object value)) then Err Shape else first_fault_or (faults value) (member_version value PythonFullVersion))
+
+-- the text of this member is looked at: there is an object without floats, the members before this one are right, and it
+-- is a text
+pub record IsReached (value : Data) (member : EnvironmentMember) : Type 0 where
+  pub no_float : has_float value ≡ false
+  pub is_object : IsTrue (is_some (as_object value))
+  pub before : List EnvironmentMember
+  pub after : List EnvironmentMember
+  pub in_order : members ≡ before ++ member ∷ after
+  pub are_right : filter_map (member_fault value) before ≡ []
+  pub is_text : IsTrue (is_some (member_text value member))
 
 -- what an error says of a value, if it is not want of memory
 abbrev pub told_environment : EnvironmentError → Option EnvironmentError

@@ -1,10 +1,11 @@
 //! Environments.
 
-ghost use Rattle.std.specs.Prelude.{◌≡◌, ◌⊎◌, IfOk, IfErr, IfSome, OnOk, None, Some, Err, IsTrue, false, true, option_and_then, option_copied, option_map};
+ghost use Rattle.std.specs.Prelude.{◌≡◌, ◌⊎◌, IfOk, IfErr, IfSome, OnOk, None, Some, Err, IsTrue, is_some, false, true, option_and_then, option_copied, option_map};
 ghost use Rattle.serde_json.specs.View.{view};
 ghost use Rattle.pep440_rs.specs.Reading.{version_of};
 ghost use Rattle.read_outcome.specs.Outcome.{Answers};
-ghost use Rattle.pep508_marker.specs.Environment.{EnvironmentRecord, member_text, member_version, member_fault, is_version, environment_of, told_environment};
+ghost use Rattle.pep508_marker.specs.declared.EnvironmentMember.{EnvironmentMember};
+ghost use Rattle.pep508_marker.specs.Environment.{EnvironmentRecord, member_text, member_version, member_fault, is_version, environment_of, told_environment, IsReached};
 
 use crate::floats::has_float;
 use crate::{EnvironmentError, EnvironmentMember};
@@ -19,6 +20,7 @@ fn text<'a>(value: &'a Value, member: EnvironmentMember) -> Result<&'a str, Envi
     ensures ok { IfOk result (λ text. member_text (view value.entry.now) member ≡ Some text.now) }
     ensures fine { OnOk result (is_version member ≡ false → member_fault (view value.entry.now) member ≡ None) }
     ensures fault { IfErr result (λ fault. member_fault (view value.entry.now) member ≡ Some fault) }
+    ensures named { IfErr result (λ fault. fault ≡ EnvironmentError.Member member) }
 {
     match value.get(member.name()).and_then(Value::as_str) {
         Some(text) => Ok(text),
@@ -38,6 +40,7 @@ fn version(
     ensures fine { OnOk result (member_fault (view value.now) member ≡ None) }
     ensures fault { IfErr result (λ error.
         IfSome (told_environment error) (λ fault. member_fault (view value.now) member ≡ Some fault)) }
+    ensures grown { result ≡ Err EnvironmentError.Memory → IsTrue (is_some (member_text (view value.now) member)) }
 {
     match Version::from_str(alloc, text(value, member)?) {
         Ok(version) => Ok(version),
@@ -53,7 +56,8 @@ pub struct MarkerEnvironment {
 }
 
 impl Model for MarkerEnvironment {
-    ghost use Rattle.pep508_marker.specs.Environment.{EnvironmentRecord};
+    ghost use Rattle.pep508_marker.specs.declared.EnvironmentMember.{EnvironmentMember};
+ghost use Rattle.pep508_marker.specs.Environment.{EnvironmentRecord};
 
     ghost Value = { EnvironmentRecord };
 
@@ -68,7 +72,8 @@ impl MarkerEnvironment {
     /// is wrong. Goes once through the value, as deep as it nests.
     #[tactic(auto, unfolding(crate::specs::Environment::environment_of))]
     pub fn from_value(alloc: Global, value: &Value) -> Result<MarkerEnvironment, EnvironmentError>
-        ensures { Answers (λ environment. environment) told_environment result (environment_of (view value.now)) }
+        ensures answered { Answers (λ environment. environment) told_environment result (environment_of (view value.now)) }
+        ensures grown { result ≡ Err EnvironmentError.Memory → (member : EnvironmentMember) × IsReached (view value.now) member }
     {
         if has_float(value) {
             return Err(EnvironmentError::Float);

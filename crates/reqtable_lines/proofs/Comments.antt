@@ -1,5 +1,5 @@
 -- Lines without their ends and comments.
-use Rattle.std.proofs.Common.{suc, subst, drop-cons, ◌≡◌, ℕ, ◌+◌, ◌-◌, ◌<◌, ◌==◌, ◌&&◌, ◌≢◌, Bool, true, false, cond, if◌then◌else◌, List, [], ◌∷◌, ◌++◌, length, get_or, take, drop, Option, Some, None, refl, ap, sym, ◌∙◌, append_assoc, length-append, arith}
+use Rattle.std.proofs.Common.{suc, subst, drop-cons, ◌≡◌, ℕ, ◌+◌, ◌-◌, ◌<◌, ◌==◌, ◌&&◌, ◌≢◌, Bool, true, false, cond, if◌then◌else◌, List, [], ◌∷◌, ◌++◌, length, get_or, take, drop, not, map, Option, Some, None, refl, ap, sym, ◌∙◌, append_assoc, length-append, arith}
 use Rattle.std.proofs.lemmas.Grind.{common_steps}
 use Rattle.std.proofs.lemmas.Bool.Decides.{nat_tests}
 use Rattle.std.proofs.lemmas.List.{append-nil, take-append-drop, drop_all}
@@ -8,12 +8,37 @@ use Rattle.std.proofs.lemmas.Str.{chars-nil, chars_past_char, chars_from_encodes
 use Rattle.std.proofs.lemmas.Str.Pattern.{strip_suffix_char}
 use Rattle.std.specs.Borrow.{Bor}
 use Rattle.std.specs.Char.{encode_utf8, is_whitespace}
-use Rattle.std.specs.List.{list_all}
-use Rattle.std.specs.Option.{MatchOption, unwrap_or}
+use Rattle.std.specs.List.{list_all, position_or_len, zip}
+use Rattle.std.specs.Option.{MatchOption, unwrap_or, option_map_or}
 use Rattle.std.specs.Str.{chars, encode_utf8_all, IsUtf8, IsCharBoundary, NonePass, skip_leading_whitespace, trim_start}
 use Rattle.std.specs.Str.Lines.{strip_carriage_return}
 use Rattle.std.specs.Str.Pattern.{FindsCharSuffix, StripsSuffix}
-use Rattle.reqtable_lines.specs.TextLines.{before_comment, without_comment, is_blank}
+use Rattle.reqtable_lines.specs.TextLines.{begins_comment, without_comment, is_blank}
+
+-- the characters before a comment, where the truth says whether a `#` here begins one
+abbrev pub scanned : Bool → List ℕ → List ℕ
+scanned begins [] = []
+scanned begins (c ∷ cs) = if begins && c == 35 then [] else c ∷ scanned (is_whitespace c) cs
+
+-- the place of the first that begins a comment, behind another character
+abbrev comment_at : Option ℕ → List ℕ → ℕ
+comment_at before cs = position_or_len begins_comment (zip (before ∷ map Some cs) cs)
+
+scanned_by : (t : Bool) (c : ℕ) (cs : List ℕ) (n : ℕ) → scanned (is_whitespace c) cs ≡ take n cs
+    → (if t then [] else c ∷ scanned (is_whitespace c) cs) ≡ take (cond (not t) (1 + n) 0) (c ∷ cs)
+scanned_by true c cs n e = refl
+scanned_by false c cs n e =
+    let next : suc n ≡ 1 + n = omega arith in
+    ap (λ ds. c ∷ ds) e ∙ ap (λ k. take k (c ∷ cs)) next
+
+scanned_is : (before : Option ℕ) (cs : List ℕ)
+    → scanned (option_map_or is_whitespace before true) cs ≡ take (comment_at before cs) cs
+scanned_is before [] = refl
+scanned_is before (c ∷ cs) = scanned_by (begins_comment (before, c)) c cs (comment_at (Some c) cs) (scanned_is (Some c) cs)
+
+whole_scanned : (line : List ℕ) → encode_utf8_all (scanned true (chars line)) ≡ without_comment line
+unfolding without_comment
+whole_scanned line = ap encode_utf8_all (scanned_is None (chars line))
 
 -- a scan for a comment that has come to an offset, with the rest still to come
 pub record Scan (line : List ℕ) (begins : Bool) (offset : ℕ) (rest : List ℕ) : Type 0 where
@@ -21,32 +46,31 @@ pub record Scan (line : List ℕ) (begins : Bool) (offset : ℕ) (rest : List �
   split : line ≡ front ++ rest
   long : length front ≡ offset
   is_text : IsUtf8 rest
-  whole : front ++ encode_utf8_all (before_comment begins (chars rest)) ≡ without_comment line
+  whole : front ++ encode_utf8_all (scanned begins (chars rest)) ≡ without_comment line
 
 pub scan_none : (line rest : List ℕ) → IsUtf8 line → rest ≡ line → Scan line true 0 rest
-unfolding without_comment
 scan_none line rest u e = record {
   front = [];
   split = sym e;
   long = refl;
   is_text = rw e u;
-  whole = ap (λ bs. encode_utf8_all (before_comment true (chars bs))) e;
+  whole = ap (λ bs. encode_utf8_all (scanned true (chars bs))) e ∙ whole_scanned line;
 }
 
-goes_on : (begins : Bool) (c : ℕ) (cs : List ℕ) → (begins && c == 35) ≡ false → before_comment begins (c ∷ cs) ≡ c ∷ before_comment (is_whitespace c) cs
-goes_on begins c cs h = ap (λ b. if b then [] else c ∷ before_comment (is_whitespace c) cs) h
+goes_on : (begins : Bool) (c : ℕ) (cs : List ℕ) → (begins && c == 35) ≡ false → scanned begins (c ∷ cs) ≡ c ∷ scanned (is_whitespace c) cs
+goes_on begins c cs h = ap (λ b. if b then [] else c ∷ scanned (is_whitespace c) cs) h
 
 pub scan_more : (line rest later : List ℕ) (begins : Bool) (offset c : ℕ) → Scan line begins offset rest → rest ≡ encode_utf8 c ++ later → (begins && c == 35) ≡ false
     → Scan line (is_whitespace c) (offset + length (encode_utf8 c)) later
 scan_more line rest later begins offset c s e h =
     let e1 : chars rest ≡ c ∷ chars later = chars_past_char rest later c s.is_text e in
-    let e2 : before_comment begins (chars rest) ≡ c ∷ before_comment (is_whitespace c) (chars later) = ap (before_comment begins) e1 ∙ goes_on begins c (chars later) h in
+    let e2 : scanned begins (chars rest) ≡ c ∷ scanned (is_whitespace c) (chars later) = ap (scanned begins) e1 ∙ goes_on begins c (chars later) h in
     record {
       front = s.front ++ encode_utf8 c;
       split = s.split ∙ ap (λ bs. s.front ++ bs) e ∙ sym (append_assoc s.front (encode_utf8 c) later);
       long = length-append s.front (encode_utf8 c) ∙ ap (λ n. n + length (encode_utf8 c)) s.long;
       is_text = IsUtf8-past_char rest later c s.is_text e;
-      whole = append_assoc s.front (encode_utf8 c) (encode_utf8_all (before_comment (is_whitespace c) (chars later)))
+      whole = append_assoc s.front (encode_utf8 c) (encode_utf8_all (scanned (is_whitespace c) (chars later)))
           ∙ ap (λ cs. s.front ++ encode_utf8_all cs) (sym e2) ∙ s.whole;
     }
 
@@ -56,26 +80,27 @@ scan_cut line rest begins offset s = let P : ℕ → Type 0 = λ n. IsCharBounda
 pub scan_stop : (line rest later : List ℕ) (begins : Bool) (offset c : ℕ) → Scan line begins offset rest → rest ≡ encode_utf8 c ++ later → (begins && c == 35) ≡ true → take offset line ≡ without_comment line
 scan_stop line rest later begins offset c s e h =
     let e1 : chars rest ≡ c ∷ chars later = chars_past_char rest later c s.is_text e in
-    let e2 : before_comment begins (chars rest) ≡ [] = ap (before_comment begins) e1 ∙ ap (λ b. if b then [] else c ∷ before_comment (is_whitespace c) (chars later)) h in
+    let e2 : scanned begins (chars rest) ≡ [] = ap (scanned begins) e1 ∙ ap (λ b. if b then [] else c ∷ scanned (is_whitespace c) (chars later)) h in
     let e3 : s.front ++ [] ≡ without_comment line = ap (λ cs. s.front ++ encode_utf8_all cs) (sym e2) ∙ s.whole in
     let e4 : take (length s.front) (s.front ++ rest) ≡ s.front = grind (arith, common_steps) in
     ap (λ n. take n line) (sym s.long) ∙ ap (take (length s.front)) s.split ∙ e4 ∙ sym (append-nil s.front) ∙ e3
 
 pub scan_end : (line rest : List ℕ) (begins : Bool) (offset : ℕ) → Scan line begins offset rest → length rest ≡ 0 → line ≡ without_comment line
-scan_end line [] begins offset s h = s.split ∙ ap (λ cs. s.front ++ encode_utf8_all (before_comment begins cs)) (sym chars-nil) ∙ s.whole
+scan_end line [] begins offset s h = s.split ∙ ap (λ cs. s.front ++ encode_utf8_all (scanned begins cs)) (sym chars-nil) ∙ s.whole
 scan_end line (b ∷ bs) begins offset s h = absurd (omega arith)
 
 -- without the character there is no comment
-keeps_all : (begins : Bool) (cs : List ℕ) → NonePass (λ c. c == 35) cs → before_comment begins cs ≡ cs
+keeps_all : (begins : Bool) (cs : List ℕ) → NonePass (λ c. c == 35) cs → scanned begins cs ≡ cs
 keeps_all begins [] h = refl
 keeps_all true (c ∷ cs) h = goes_on true c cs h.0 ∙ ap (λ ds. c ∷ ds) (keeps_all (is_whitespace c) cs h.1)
 keeps_all false (c ∷ cs) h = ap (λ ds. c ∷ ds) (keeps_all (is_whitespace c) cs h.1)
 
-pub no_comment : (line cs : List ℕ) → IsUtf8 line → encode_utf8_all cs ≡ line → NonePass (λ c. c == 35) cs → line ≡ without_comment line
-unfolding without_comment
+pub no_comment : (line cs : List ℕ) → IsUtf8 line → encode_utf8_all cs ≡ line → NonePass (λ c. c == 35) cs
+    → line ≡ without_comment line
 no_comment line cs u e h =
     let k : cs ≡ chars line = chars_from_encodes cs line u e in
-    sym (ap (λ ds. encode_utf8_all (before_comment true ds)) (sym k) ∙ ap encode_utf8_all (keeps_all true cs h) ∙ e)
+    sym (ap (λ ds. encode_utf8_all (scanned true ds)) (sym k) ∙ ap encode_utf8_all (keeps_all true cs h) ∙ e)
+    ∙ whole_scanned line
 
 -- blank is what trims to nothing
 empty_by : (c : ℕ) (bs : List ℕ) → (length (encode_utf8 c ++ bs) == 0) ≡ false

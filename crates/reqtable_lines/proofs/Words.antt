@@ -14,7 +14,7 @@ none_any : (p : ℕ → Bool) (cs : List ℕ) → NonePass p cs → list_any p c
 none_any p [] h = refl
 none_any p (c ∷ cs) h = ap (λ b. b || list_any p cs) h.0 ∙ none_any p cs h.1
 
-some_any : (p : ℕ → Bool) (cs : List ℕ) (c : ℕ) (ds : List ℕ) → NonePass p cs → p c ≡ true → list_any p (cs ++ c ∷ ds) ≡ true
+pub some_any : (p : ℕ → Bool) (cs : List ℕ) (c : ℕ) (ds : List ℕ) → NonePass p cs → p c ≡ true → list_any p (cs ++ c ∷ ds) ≡ true
 some_any p [] c ds h t = ap (λ b. b || list_any p ds) t
 some_any p (d ∷ cs) c ds h t = ap (λ b. b || list_any p (cs ++ c ∷ ds)) h.0 ∙ some_any p cs c ds h.1 t
 

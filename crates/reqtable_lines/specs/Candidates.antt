@@ -1,13 +1,13 @@
 -- A candidate list: UTF-8, with a candidate line on each line that is not blank.
-use Rattle.std.specs.Prelude.{ℕ, List, Option, Some, None, Result, Ok, Err, if◌then◌else◌}
-use Rattle.std.specs.Str.{is_utf8}
+use Rattle.std.specs.Prelude.{◌≡◌, ℕ, IsTrue, List, ◌∷◌, ◌++◌, Option, Some, None, Result, Ok, Err, if◌then◌else◌}
+use Rattle.std.specs.Str.{is_utf8, trim}
 use Rattle.std.specs.Str.Lossy.{utf8_valid_len}
 use Rattle.reqtable_lines.specs.declared.candidates.Candidate.{Candidate}
 use Rattle.reqtable_lines.specs.declared.candidates.CandidateFault.{CandidateFault}
 use Rattle.reqtable_lines.specs.declared.candidates.CandidatesError.{CandidatesError}
 use Rattle.reqtable_lines.specs.declared.candidates.CandidatesError.TheVariants.{NotText, Line, Memory}
 use Rattle.reqtable_lines.specs.TextLines.{text_lines, each_line}
-use Rattle.reqtable_lines.specs.CandidateLine.{candidate_of}
+use Rattle.reqtable_lines.specs.CandidateLine.{has_name, candidate_of}
 
 abbrev pub at_line : ℕ → Result Candidate CandidateFault → Result Candidate CandidatesError
 at_line number (Ok candidate) = Ok candidate
@@ -25,3 +25,14 @@ abbrev pub told_candidates : CandidatesError → Option CandidatesError
 told_candidates (NotText offset) = Some (NotText offset)
 told_candidates (Line number cause) = Some (Line number cause)
 told_candidates Memory = None
+
+-- a line with a name is reached: the lines before it are candidates'
+pub record IsNameReached (lines : List (ℕ × List ℕ)) : Type 0 where
+  pub front : List (ℕ × List ℕ)
+  pub candidates : List Candidate
+  pub number : ℕ
+  pub line : List ℕ
+  pub back : List (ℕ × List ℕ)
+  pub split : lines ≡ front ++ (number, line) ∷ back
+  pub are_candidates : each_line candidate_at front ≡ Ok candidates
+  pub is_named : IsTrue (has_name (trim line))

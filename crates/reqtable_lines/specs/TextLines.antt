@@ -1,18 +1,23 @@
 -- The lines of a list: which there are, where each ends, and which are skipped.
-use Rattle.std.specs.Prelude.{ℕ, ◌==◌, ◌&&◌, Bool, true, not, List, [], ◌∷◌, map, if◌then◌else◌, Result, Ok, Err}
-use Rattle.std.specs.List.{filter, slice_split, enumerate_from, list_all}
+use Rattle.std.specs.Prelude.{ℕ, ◌==◌, ◌&&◌, Bool, true, not, List, [], ◌∷◌, map, take, Option, Some, None, Result, Ok, Err}
+use Rattle.std.specs.Option.{option_map_or}
+use Rattle.std.specs.List.{filter, slice_split, enumerate_from, list_all, position_or_len, zip}
 use Rattle.std.specs.Char.{is_whitespace}
 use Rattle.std.specs.Str.{chars, encode_utf8_all}
 use Rattle.std.specs.Str.Lines.{strip_carriage_return}
 
--- the characters before a comment; the truth says whether a `#` here begins one
-abbrev pub before_comment : Bool → List ℕ → List ℕ
-before_comment begins [] = []
-before_comment begins (c ∷ cs) = if begins && c == 35 then [] else c ∷ before_comment (is_whitespace c) cs
+-- each character with the one that stands before it, none before the first
+abbrev pub with_before : List ℕ → List (Option ℕ × ℕ)
+with_before cs = zip (None ∷ map Some cs) cs
 
--- a line without its comment, which a `#` begins that stands first or after white space
+-- whether a comment begins at a character: a `#` that stands first or after white space
+abbrev pub begins_comment : Option ℕ × ℕ → Bool
+begins_comment (before, c) = option_map_or is_whitespace before true && c == 35
+
+-- a line without its comment: the characters before the first that begins one, or all
 unfoldable pub without_comment : List ℕ → List ℕ
-without_comment line = encode_utf8_all (before_comment true (chars line))
+without_comment line =
+    let cs = chars line in encode_utf8_all (take (position_or_len begins_comment (with_before cs)) cs)
 
 -- white space alone
 unfoldable pub is_blank : List ℕ → Bool
@@ -22,7 +27,8 @@ is_blank line = list_all is_whitespace (chars line)
 -- and its comment; blank ones are counted and left out
 unfoldable pub text_lines : List ℕ → List (ℕ × List ℕ)
 text_lines bytes =
-    filter (λ l. not (is_blank l.1)) (enumerate_from 1 (map (λ l. without_comment (strip_carriage_return l)) (slice_split (λ b. b == 10) bytes)))
+    filter (λ l. not (is_blank l.1))
+    (enumerate_from 1 (map (λ l. without_comment (strip_carriage_return l)) (slice_split (λ b. b == 10) bytes)))
 
 -- a first value before others, or the first fault
 abbrev pub with_first : {A E : Type 0} → Result A E → Result (List A) E → Result (List A) E

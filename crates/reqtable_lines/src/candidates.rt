@@ -1,14 +1,14 @@
 //! A candidate list: one candidate after another.
 
-ghost use Rattle.std.specs.Prelude.{◌≡◌, IsTrue, Err, map};
+ghost use Rattle.std.specs.Prelude.{◌≡◌, IsTrue, OnOk, Err};
 ghost use Rattle.read_outcome.specs.Outcome.{Answers};
-ghost use Rattle.reqtable_lines.specs.TextLines.{each_line};
+ghost use Rattle.reqtable_lines.specs.TextLines.{text_lines, each_line};
 ghost use Rattle.std.specs.Option.{option_map};
-ghost use Rattle.std.specs.Str.{trim};
+ghost use Rattle.std.specs.Str.{IsUtf8, trim};
 ghost use Rattle.reqtable_lines.specs.CandidateLine.{parts_in, has_name};
-ghost use Rattle.reqtable_lines.specs.Candidates.{candidate_at, candidates_of, told_candidates};
+ghost use Rattle.reqtable_lines.specs.Candidates.{candidate_at, candidates_of, told_candidates, IsNameReached};
 
-use crate::text_lines::{TextLine, text_lines};
+use crate::text_lines::{is_blank, line_text};
 use pep440_rs::{Version, VersionParseError};
 use pep508_name::{PackageName, is_name};
 use std::alloc::{AllocError, AllocFailed, Global};
@@ -94,7 +94,8 @@ impl Candidates {
     /// The first line of another kind ends the reading, with the first thing that is wrong of its shape, its name and its
     /// version. Time and memory grow with the length of the bytes.
     pub fn parse(alloc: Global, bytes: &[u8]) -> Result<Candidates, CandidatesError>
-        ensures { Answers (λ candidates. candidates) told_candidates result (candidates_of bytes.now) }
+        ensures answered { Answers (λ candidates. candidates) told_candidates result (candidates_of bytes.now) }
+        ensures grown { result ≡ Err CandidatesError.Memory → IsUtf8 bytes.now × IsNameReached (text_lines bytes.now) }
     {
         let text = match str::from_utf8(bytes) {
             Ok(text) => text,
@@ -104,7 +105,7 @@ impl Candidates {
                 });
             }
         };
-        let items = read_candidates(alloc, &text_lines(alloc, text)?)?;
+        let items = read_candidates(alloc, text)?;
         Ok(Candidates { items })
     }
 
@@ -127,6 +128,7 @@ fn split_at_white(text: &str) -> Option<(&str, &str)>
 #[tactic(auto, unfolding(crate::specs::CandidateLine::candidate_of, pep508_name::specs::Name::name_of))]
 fn read_candidate(alloc: Global, number: usize, text: &str) -> Result<Candidate, CandidatesError>
     ensures answered { Answers (λ candidate. candidate) told_candidates result (candidate_at number text.now) }
+    ensures named { OnOk result (IsTrue (has_name (trim text.now))) }
     ensures grown { result ≡ Err CandidatesError.Memory → IsTrue (has_name (trim text.now)) }
 {
     let Some((name, version)) = split_at_white(text.trim()) else {
@@ -151,13 +153,16 @@ fn fault(number: usize, cause: CandidateFault) -> CandidatesError
     CandidatesError::Line { number, cause }
 }
 
-fn read_candidates(alloc: Global, lines: &[TextLine<'_>]) -> Result<Vec<Candidate>, CandidatesError>
-    ensures { Answers (λ read. read.items) told_candidates result
-        (each_line candidate_at (map (λ l. (l.number, l.text.now)) lines.now)) }
+fn read_candidates(alloc: Global, text: &str) -> Result<Vec<Candidate>, CandidatesError>
+    ensures answered { Answers (λ read. read.items) told_candidates result (each_line candidate_at (text_lines text.now)) }
+    ensures grown { result ≡ Err CandidatesError.Memory → IsNameReached (text_lines text.now) }
 {
     let mut read = Vec::new(alloc);
-    for line in lines {
-        read.push(read_candidate(alloc, line.number, line.text)?)?;
+    for (index, line) in text.split('\n').enumerate() {
+        let line = line_text(line);
+        if !is_blank(line) {
+            read.push(read_candidate(alloc, index + 1, line)?)?;
+        }
     }
     Ok(read)
 }

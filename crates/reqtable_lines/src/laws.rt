@@ -9,33 +9,75 @@ ghost use Rattle.reqtable_lines.specs.TextLines.{text_lines};
 ghost use Rattle.reqtable_lines.specs.RequirementLine.{IsRequirementLine, IsNumberedLine, IsFirstUnread};
 ghost use Rattle.reqtable_lines.specs.Reading.{requirement_of};
 ghost use Rattle.reqtable_lines.specs.Requirements.{requirements_of};
+ghost use Rattle.reqtable_lines.specs.declared.candidates.Candidate.{Candidate};
+ghost use Rattle.reqtable_lines.specs.declared.candidates.CandidateFault.{CandidateFault};
+ghost use Rattle.reqtable_lines.specs.declared.candidates.CandidatesError.TheVariants.{Line};
+ghost use Rattle.reqtable_lines.specs.CandidateLine.{candidate_of};
+ghost use Rattle.reqtable_lines.specs.CandidateText.{IsCandidateLine, IsNumberedCandidate, IsFirstFault};
+ghost use Rattle.reqtable_lines.specs.Candidates.{candidates_of};
 
 use pep440_rs::laws::version_text_is_read;
 
 /// A text is read as a requirement line exactly where the grammar says that it is that line's.
 pub fn requirement_line_is_read()
-    ensures { (number : ℕ) (text : List ℕ) (line : RequirementLine) → (requirement_of number text ≡ Some line) ↔ (IsRequirementLine text line × (line.number ≡ number)) }
+    ensures { (number : ℕ) (text : List ℕ) (line : RequirementLine) →
+        (requirement_of number text ≡ Some line) ↔ (IsRequirementLine text line × (line.number ≡ number)) }
 {
     version_text_is_read();
 }
 
 /// A text is that of at most one requirement line, its number apart.
 pub fn text_is_one_requirement_line()
-    ensures { (text : List ℕ) (line other : RequirementLine) → IsRequirementLine text line → IsRequirementLine text other → line.number ≡ other.number → line ≡ other }
+    ensures { (text : List ℕ) (line other : RequirementLine) →
+        IsRequirementLine text line → IsRequirementLine text other → line.number ≡ other.number → line ≡ other }
 {
     version_text_is_read();
 }
 
 /// A requirements text is UTF-8 of which each line that is not blank is a requirement line; these are what is read, in order.
 pub fn requirements_are_their_lines()
-    ensures { (bytes : List ℕ) (lines : List RequirementLine) → (requirements_of bytes ≡ Ok lines) ↔ (IsUtf8 bytes × AllZip IsNumberedLine (text_lines bytes) lines) }
+    ensures { (bytes : List ℕ) (lines : List RequirementLine) →
+        (requirements_of bytes ≡ Ok lines) ↔ (IsUtf8 bytes × AllZip IsNumberedLine (text_lines bytes) lines) }
 {
     version_text_is_read();
 }
 
 /// `NotYet` has the number of the first line that is no requirement line.
 pub fn first_line_not_read_is_named()
-    ensures { (bytes : List ℕ) (number : ℕ) → (requirements_of bytes ≡ Err (NotYet number)) ↔ (IsUtf8 bytes × IsFirstUnread (text_lines bytes) number) }
+    ensures { (bytes : List ℕ) (number : ℕ) →
+        (requirements_of bytes ≡ Err (NotYet number)) ↔ (IsUtf8 bytes × IsFirstUnread (text_lines bytes) number) }
+{
+    version_text_is_read();
+}
+
+/// A text is read as a candidate exactly where the grammar says that it is that candidate's line.
+pub fn candidate_line_is_read()
+    ensures { (line : List ℕ) (candidate : Candidate) → IsUtf8 line →
+        (candidate_of line ≡ Ok candidate) ↔ IsCandidateLine line candidate }
+{
+    version_text_is_read();
+}
+
+/// A text is the line of at most one candidate.
+pub fn text_is_one_candidate_line()
+    ensures { (line : List ℕ) (candidate other : Candidate) → IsUtf8 line →
+        IsCandidateLine line candidate → IsCandidateLine line other → candidate ≡ other }
+{
+    version_text_is_read();
+}
+
+/// A candidate list is UTF-8 of which each line that is not blank is a candidate's; these are what is read, in order.
+pub fn candidates_are_their_lines()
+    ensures { (bytes : List ℕ) (candidates : List Candidate) →
+        (candidates_of bytes ≡ Ok candidates) ↔ (IsUtf8 bytes × AllZip IsNumberedCandidate (text_lines bytes) candidates) }
+{
+    version_text_is_read();
+}
+
+/// `Line` has the number of the first line that is no candidate's, and what is wrong with it.
+pub fn first_line_at_fault_is_named()
+    ensures { (bytes : List ℕ) (number : ℕ) (cause : CandidateFault) →
+        (candidates_of bytes ≡ Err (Line number cause)) ↔ (IsUtf8 bytes × IsFirstFault (text_lines bytes) number cause) }
 {
     version_text_is_read();
 }

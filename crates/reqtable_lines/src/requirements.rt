@@ -1,12 +1,12 @@
 //! A requirements text: one requirement line after another.
 
-ghost use Rattle.std.specs.Prelude.{◌≡◌, map};
+ghost use Rattle.std.specs.Prelude.{◌≡◌};
 ghost use Rattle.read_outcome.specs.Outcome.{Answers};
-ghost use Rattle.reqtable_lines.specs.TextLines.{each_line};
+ghost use Rattle.reqtable_lines.specs.TextLines.{text_lines, each_line};
 ghost use Rattle.reqtable_lines.specs.Requirements.{requirement_at, requirements_of, told_requirements};
 
 use crate::requirement::RequirementLine;
-use crate::text_lines::{TextLine, text_lines};
+use crate::text_lines::{is_blank, line_text};
 use std::alloc::{AllocError, AllocFailed, Global};
 use std::marker::Model;
 use std::str;
@@ -78,7 +78,7 @@ impl Requirements {
                 });
             }
         };
-        let lines = read_lines(alloc, &text_lines(alloc, text)?)?;
+        let lines = read_lines(alloc, text)?;
         Ok(Requirements { lines })
     }
 
@@ -99,16 +99,15 @@ fn read_line(alloc: Global, number: usize, text: &str) -> Result<RequirementLine
     }
 }
 
-fn read_lines(
-    alloc: Global,
-    lines: &[TextLine<'_>],
-) -> Result<Vec<RequirementLine>, RequirementsError>
-    ensures { Answers (λ read. read.items) told_requirements result
-        (each_line requirement_at (map (λ l. (l.number, l.text.now)) lines.now)) }
+fn read_lines(alloc: Global, text: &str) -> Result<Vec<RequirementLine>, RequirementsError>
+    ensures { Answers (λ read. read.items) told_requirements result (each_line requirement_at (text_lines text.now)) }
 {
     let mut read = Vec::new(alloc);
-    for line in lines {
-        read.push(read_line(alloc, line.number, line.text)?)?;
+    for (index, line) in text.split('\n').enumerate() {
+        let line = line_text(line);
+        if !is_blank(line) {
+            read.push(read_line(alloc, index + 1, line)?)?;
+        }
     }
     Ok(read)
 }

@@ -1,34 +1,14 @@
 //! The lines of a list, without their ends and comments.
 
-ghost use Rattle.std.specs.Prelude.{◌≡◌, map, IfOk};
+ghost use Rattle.std.specs.Prelude.{◌≡◌};
 ghost use Rattle.std.specs.Str.Lines.{strip_carriage_return};
-ghost use Rattle.reqtable_lines.specs.TextLines.{without_comment, is_blank, text_lines};
+ghost use Rattle.reqtable_lines.specs.TextLines.{without_comment, is_blank};
 
-use std::alloc::{AllocError, Global};
-
-/// A line with something to read on it.
-#[derive(Clone, Copy)]
-pub(crate) struct TextLine<'a> {
-    /// From 1, blank lines counted.
-    pub(crate) number: usize,
-    pub(crate) text: &'a str,
-}
-
-/// The lines that are not blank, in order, each a part of the text itself.
-pub(crate) fn text_lines<'a>(alloc: Global, text: &'a str) -> Result<Vec<TextLine<'a>>, AllocError>
-    ensures { IfOk result (λ lines. map (λ l. (l.number, l.text.now)) lines.items ≡ text_lines text.now) }
+/// What there is to read on a line.
+pub(crate) fn line_text(line: &str) -> &str
+    ensures { result.now ≡ without_comment (strip_carriage_return line.now) }
 {
-    let mut lines = Vec::new(alloc);
-    for (index, line) in text.split('\n').enumerate() {
-        let text = without_comment(strip_carriage_return(line));
-        if !is_blank(text) {
-            lines.push(TextLine {
-                number: index + 1,
-                text,
-            })?;
-        }
-    }
-    Ok(lines)
+    without_comment(strip_carriage_return(line))
 }
 
 fn strip_carriage_return(line: &str) -> &str
@@ -37,7 +17,7 @@ fn strip_carriage_return(line: &str) -> &str
     line.strip_suffix('\r').unwrap_or(line)
 }
 
-fn is_blank(line: &str) -> bool
+pub(crate) fn is_blank(line: &str) -> bool
     ensures { result ≡ is_blank line.now }
 {
     line.trim_start().is_empty()
