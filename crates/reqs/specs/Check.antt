@@ -22,24 +22,24 @@ abbrev pub AnswersText : {Y : Type 0} → Result (String Y) RunFault → Result 
 AnswersText (Ok text) inputs = IsAnswerText inputs (string_bytes text)
 AnswersText (Err fault) inputs = Tells (told_run fault) inputs
 
--- How `check` ends, by what its inputs are, and by the writer as it was and as it is then:
--- where it answers, the answer's text was written, and no write was made for an empty one; a write fault left a front
--- of it; a reader that failed was asked after the inputs before its own, within their limit; any other fault is that
--- of the inputs, or one of memory, which may come whatever they are
+-- How `check` ends, by what its inputs are, and by the writer as it was and as it is then.
+-- Where it answers, the answer's text was written, and no write was made for an empty one. A write fault
+-- left a front of it. A reader that failed was asked after the inputs before its own, which were within
+-- their limit. Any other fault is that of the inputs, or one of memory, which may come whatever they are.
 abbrev pub EndsAs : {W : Type 0} → List (List ℕ) → List ℕ → List ℕ → List ℕ → (W → Option (List ℕ)) → W → W
     → Result Status RunFault → Type 0
-EndsAs extras first second third contents old new (Ok status) =
+EndsAs extras x y z contents old new (Ok status) =
     (status ≡ Answered)
-    × ((text : List ℕ) × IsAnswerText (check_inputs extras first second third) text × WritesWhole contents old new text)
-EndsAs extras first second third contents old new (Err (Read input)) = AreWithinBefore input first second
-EndsAs extras first second third contents old new (Err Write) =
+    × ((text : List ℕ) × IsAnswerText (check_inputs extras x y z) text × WritesWhole contents old new text)
+EndsAs extras x y z contents old new (Err (Read input)) = AreWithinBefore input x y
+EndsAs extras x y z contents old new (Err Write) =
     (text : List ℕ)
-    × IsAnswerText (check_inputs extras first second third) text × AppendsFront (contents old) (contents new) text
-EndsAs extras first second third contents old new (Err fault) =
-    Tells (told_run fault) (check_inputs extras first second third)
+    × IsAnswerText (check_inputs extras x y z) text × AppendsFront (contents old) (contents new) text
+EndsAs extras x y z contents old new (Err fault) = Tells (told_run fault) (check_inputs extras x y z)
 
 -- `check` ends so for some bytes of its inputs, those of each reader that tells them
-pub record RunsCheck {W : Type 0} (extras : List (List ℕ)) (requirements environment candidates : Option (List ℕ))
+pub record RunsCheck {W : Type 0} (extras : List (List ℕ))
+    (requirements environment candidates : Option (List ℕ))
     (contents : W → Option (List ℕ)) (old new : W) (result : Result Status RunFault) : Type 0 where
   pub first : List ℕ
   pub second : List ℕ

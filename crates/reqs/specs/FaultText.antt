@@ -7,8 +7,9 @@ use Rattle.reqtable_lines.specs.declared.candidates.CandidateFault.TheVariants a
 use Rattle.reqs.specs.declared.fault.Input.{Input}
 use Rattle.reqs.specs.declared.fault.Input.TheVariants.{First, Second, Third}
 use Rattle.reqs.specs.declared.fault.RunFault.{RunFault}
-use Rattle.reqs.specs.declared.fault.RunFault.TheVariants.{Read, Write, Memory, TooLong, NotText, Extra, NotYet}
-use Rattle.reqs.specs.declared.fault.RunFault.TheVariants.{Json, Float, Shape, Member, Version, Candidate}
+use Rattle.reqs.specs.declared.fault.RunFault.TheVariants.{Read, Write, Memory, TooLong, NotText, Extra}
+use Rattle.reqs.specs.declared.fault.RunFault.TheVariants.{NotYet, Json, Float, Shape, Member}
+use Rattle.reqs.specs.declared.fault.RunFault.TheVariants.{Version, Candidate}
 
 -- the path of an input, by its place on the command line
 abbrev pub path_of : List (List ℕ) → Input → List ℕ
@@ -41,7 +42,8 @@ fault_text paths (Read input) = input_text (path_of paths input) (codes "read fa
 fault_text paths Write = codes "write fault"
 fault_text paths Memory = codes "out of memory"
 fault_text paths (TooLong input) = input_text (path_of paths input) (codes "longer than 16777216 bytes")
-fault_text paths (NotText input offset) = path_of paths input ++ codes ": not UTF-8 at byte " ++ decimal offset
+fault_text paths (NotText input offset) =
+    path_of paths input ++ codes ": not UTF-8 at byte " ++ decimal offset
 fault_text paths (Extra word) = codes "extra " ++ word ++ codes " is no name"
 fault_text paths (NotYet input number) = line_text (path_of paths input) number (codes "not yet read")
 fault_text paths (Json input) = input_text (path_of paths input) (codes "not JSON")

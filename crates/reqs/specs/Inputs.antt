@@ -67,8 +67,8 @@ pub record CheckInputs : Type 0 where
   pub environment : EnvironmentRecord
   pub candidates : List Candidate
 
--- what three texts and some extras are, or the first fault: that of the extras before that of the requirements,
--- and so on in the order of the command line
+-- what three texts and some extras are, or the first fault: that of the extras before that of the
+-- requirements, and so on in the order of the command line
 unfoldable pub texts_of : List (List ℕ) → List ℕ → List ℕ → List ℕ → Result CheckInputs RunFault
 texts_of extras requirements environment candidates = do
   names ← extras_of extras

@@ -240,7 +240,8 @@ impl RunFault {
     /// order of the command line. Linear in the text.
     pub fn text(&self, alloc: Global, paths: &[&str]) -> Result<String, AllocError>
         requires { length paths.now ≡ 3 }
-        ensures { IfOk result (λ text. string_bytes text ≡ fault_text (map (λ p. p.now) paths.now) self.now) }
+        ensures { IfOk result (λ text.
+            string_bytes text ≡ fault_text (map (λ p. p.now) paths.now) self.now) }
     {
         match self {
             RunFault::Read { input } => at(alloc, input.path(paths), "read fault"),
@@ -303,7 +304,8 @@ fn at_member(
     name: EnvironmentMember,
     fault: &str,
 ) -> Result<String, AllocError>
-    ensures { IfOk result (λ text. string_bytes text ≡ member_text path.now index (member_name name) fault.now) }
+    ensures { IfOk result (λ text.
+        string_bytes text ≡ member_text path.now index (member_name name) fault.now) }
 {
     format!(in alloc; "{path}: environment {index}: member {name} is {fault}")
 }

@@ -34,7 +34,8 @@ pub fn read_input<R: Read>(alloc: Global, input: Input, reader: &mut R) -> Resul
 /// Tests that each extra is a name, and takes memory only for one that is none. Nothing more is
 /// made of them yet, since no line that is read today asks for an extra.
 pub fn test_extras(alloc: Global, extras: &[&str]) -> Result<(), RunFault>
-    ensures answered { Answers (λ _. map (λ e. e.now) extras.now) told_run result (extras_of (map (λ e. e.now) extras.now)) }
+    ensures answered { let words = map (λ e. e.now) extras.now in
+        Answers (λ _. words) told_run result (extras_of words) }
     ensures grown { result ≡ Err RunFault.Memory → IsErr (extras_of (map (λ e. e.now) extras.now)) }
 {
     for extra in extras {

@@ -27,12 +27,12 @@ pub returns-in-Err-parse : goal.returns-in-Err-parse
 unfolding texts_of
 returns-in-Err-parse c =
     rw (c.of_candidates.ensures, c.in_ok-test_extras.ensures.answered, c.in-Ok.ensures, c.in_ok-environment.ensures)
-    (tells_rest _ _ _ (candidates_tell _ _ c.in-Err-parse.ensures))
+    (tells_rest _ _ _ (candidates_tell _ _ c.in-Err-parse.ensures.answered))
 
 pub returns : goal.returns
 unfolding texts_of
 returns c = record {
   read = record { lines = c.in-Ok.requirements; environment = c.in_ok-environment.environment; candidates = c.in-Ok-parse.candidates };
-  is_read = rw (c.in_ok-test_extras.ensures.answered, c.in-Ok.ensures, c.in_ok-environment.ensures, c.in-Ok-parse.ensures) refl;
+  is_read = rw (c.in_ok-test_extras.ensures.answered, c.in-Ok.ensures, c.in_ok-environment.ensures, c.in-Ok-parse.ensures.answered) refl;
   is_text = (map row_seen c.in_ok-answer.answer.rows.items, c.in_ok-answer.ensures, c.in_ok-text.ensures);
 }
