@@ -66,7 +66,7 @@ def ran(library, words, folder, first, last):
 def try_command(library, kind, words, folder, wanted=None):
     """Tries a command with each of its requests refused. What is wanted is what it does with ample memory."""
     tally = Tally(kind)
-    label = " ".join([kind, *words[1:]])
+    label = ascii(" ".join([kind, *words[1:]]))[1:-1]
     ample, _ = ran(library, words, folder, 0, 0)
     if wanted is not None and ample != wanted:
         tally.faults.append(f"{label}: with ample memory: {ample}, not {wanted}")
@@ -126,7 +126,10 @@ def commands(room):
     yield "no environment:", ["check", files[0], "absent", files[2]], room, None
     yield "extras:", ["check", *files, "Dev_Extra", "tests"], room, None
     yield "a wrong extra:", ["check", *files, "dev-"], room, None
+    yield "standard input:", ["check", *files[:2], "-"], room, None
+    yield "a path that is no text:", ["check", *files[:2], os.fsdecode(b"\xff\xfe")], room, None
     yield "help:", ["--help"], room, None
+    yield "version:", ["--version"], room, None
     yield "a wrong word:", ["judge"], room, None
 
 
