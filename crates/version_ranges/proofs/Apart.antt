@@ -47,16 +47,20 @@ module _ {T : Type 0} (cmp : T → T → Ordering) (o : IsTotalOrder cmp) where
   behind_turn turn p (x ∷ []) (k ∷ []) after i a e w = absurd (cc)
   behind_turn turn p (x ∷ []) (k ∷ l ∷ before) after i a e w = absurd (cc)
   behind_turn turn p (x ∷ y ∷ later) [] after i a e w = behind_start turn x p i (upper_bound_at y) a.0 (cc) w
-  behind_turn turn p (x ∷ y ∷ later) (k ∷ before) after i a e w = behind_turn turn p later before after i a.1.1 (cc) w
+  behind_turn turn p (x ∷ y ∷ later) (k ∷ before) after i a e w =
+      behind_turn turn p later before after i a.1.1 (cc) w
 
   -- an interval that ends at a turn lies before it
-  before_turn : (x y p : Point T) (i : Interval) → point_cmp cmp x y ≡ Less → (lower_bound_at x, upper_bound_at y) ≡ i →
+  before_turn : (x y p : Point T) (i : Interval) → point_cmp cmp x y ≡ Less →
+      (lower_bound_at x, upper_bound_at y) ≡ i →
       IsTrue (is_within cmp i p) → reaches (point_cmp cmp) y p ≡ false
   before_turn x y p i h e w =
       not_true cmp o (reaches (point_cmp cmp) y p)
-      (sym (goes_to cmp o y p (above_another cmp o x y h)) ∙ ap (λ (j : Interval). goes_on_to cmp j.1 p) e ∙ goes_on i p w)
+      (sym (goes_to cmp o y p (above_another cmp o x y h)) ∙ ap (λ (j : Interval). goes_on_to cmp j.1 p) e
+      ∙ goes_on i p w)
 
-  pub intervals_apart : (set : List (Point T)) (before between after : List Interval) (i j : Interval) (p : Point T) →
+  pub intervals_apart : (set : List (Point T)) (before between after : List Interval) (i j : Interval)
+      (p : Point T) →
       IsNormal cmp set → intervals set ≡ before ++ i ∷ between ++ j ∷ after → IsTrue (is_within cmp i p) →
       ¬ (IsTrue (is_within cmp j p))
   intervals_apart [] [] between after i j p n e w = λ v. cc
@@ -66,7 +70,8 @@ module _ {T : Type 0} (cmp : T → T → Ordering) (o : IsTotalOrder cmp) where
   intervals_apart (x ∷ []) (k ∷ []) between after i j p n e w = λ v. cc
   intervals_apart (x ∷ []) (k ∷ l ∷ before) between after i j p n e w = λ v. cc
   intervals_apart (x ∷ y ∷ later) [] between after i j p n e w = λ v.
-      let reached : reaches (point_cmp cmp) y p ≡ true = behind_turn y p later between after j n.1.0 (cc) v in
+      let reached : reaches (point_cmp cmp) y p ≡ true =
+      behind_turn y p later between after j n.1.0 (cc) v in
       let unreached : reaches (point_cmp cmp) y p ≡ false = before_turn x y p i n.0.0 (cc) w in cc
   intervals_apart (x ∷ y ∷ later) (k ∷ before) between after i j p n e w =
       intervals_apart later before between after i j p n.1.1 (cc) w

@@ -33,30 +33,39 @@ module _ {T : Type 0} (cmp : T → T → Ordering) (o : IsTotalOrder cmp) where
   points : IsTotalOrder (point_cmp cmp)
   points = points_total cmp o
 
-  lowers_alike : (a b : Bound T) (p : Point T) → lower_cmp cmp a b ≡ Equal → starts_by cmp a p ≡ starts_by cmp b p
-  lowers_alike a b p h = starts_by_reaches cmp o a p ∙ like (point_cmp cmp) points (start_point a) (start_point b) p h ∙ sym (starts_by_reaches cmp o b p)
+  lowers_alike : (a b : Bound T) (p : Point T) → lower_cmp cmp a b ≡ Equal →
+      starts_by cmp a p ≡ starts_by cmp b p
+  lowers_alike a b p h =
+      starts_by_reaches cmp o a p ∙ like (point_cmp cmp) points (start_point a) (start_point b) p h
+      ∙ sym (starts_by_reaches cmp o b p)
 
-  uppers_alike : (a b : Bound T) (p : Point T) → upper_cmp cmp a b ≡ Equal → goes_on_to cmp a p ≡ goes_on_to cmp b p
+  uppers_alike : (a b : Bound T) (p : Point T) → upper_cmp cmp a b ≡ Equal →
+      goes_on_to cmp a p ≡ goes_on_to cmp b p
   uppers_alike Unbounded Unbounded p h = refl
   uppers_alike Unbounded (Included w) p h = absurd (cc)
   uppers_alike Unbounded (Excluded w) p h = absurd (cc)
   uppers_alike (Included v) Unbounded p h = absurd (cc)
-  uppers_alike (Included v) (Included w) p h = ap (λ r. not (is_gt r)) (alike_right points (At v) (At w) p (then_equal (cmp v w) Equal h).0)
+  uppers_alike (Included v) (Included w) p h =
+      ap (λ r. not (is_gt r)) (alike_right points (At v) (At w) p (then_equal (cmp v w) Equal h).0)
   uppers_alike (Included v) (Excluded w) p h =
-      let l : ordering_then (cmp v w) Greater ≡ Equal = (then_equal (ordering_then (cmp v w) Greater) Equal h).0 in
+      let l : ordering_then (cmp v w) Greater ≡ Equal =
+      (then_equal (ordering_then (cmp v w) Greater) Equal h).0 in
       let k : Greater ≡ Equal = (then_equal (cmp v w) Greater l).1 in absurd (cc)
   uppers_alike (Excluded v) Unbounded p h = absurd (cc)
   uppers_alike (Excluded v) (Included w) p h =
       let l : ordering_then (cmp v w) Less ≡ Equal = (then_equal (ordering_then (cmp v w) Less) Equal h).0 in
       let k : Less ≡ Equal = (then_equal (cmp v w) Less l).1 in absurd (cc)
-  uppers_alike (Excluded v) (Excluded w) p h = ap is_lt (alike_right points (At v) (At w) p (then_equal (cmp v w) Equal h).0)
+  uppers_alike (Excluded v) (Excluded w) p h =
+      ap is_lt (alike_right points (At v) (At w) p (then_equal (cmp v w) Equal h).0)
 
-  within_alike : (i j : Bound T × Bound T) (p : Point T) → interval_cmp cmp i j ≡ Equal → is_within cmp i p ≡ is_within cmp j p
+  within_alike : (i j : Bound T × Bound T) (p : Point T) → interval_cmp cmp i j ≡ Equal →
+      is_within cmp i p ≡ is_within cmp j p
   within_alike i j p h =
       let both = then_equal (lower_cmp cmp i.0 j.0) (upper_cmp cmp i.1 j.1) h in
       (λ k. lowers_alike i.0 j.0 p both.0 k && uppers_alike i.1 j.1 p both.1 k)
 
-  any_alike : (is js : List (Bound T × Bound T)) (p : Point T) → slice_cmp (interval_cmp cmp) is js ≡ Equal → list_any (λ i. is_within cmp i p) is ≡ list_any (λ i. is_within cmp i p) js
+  any_alike : (is js : List (Bound T × Bound T)) (p : Point T) → slice_cmp (interval_cmp cmp) is js ≡ Equal →
+      list_any (λ i. is_within cmp i p) is ≡ list_any (λ i. is_within cmp i p) js
   any_alike [] [] p h = refl
   any_alike [] (j ∷ js) p h = absurd (cc)
   any_alike (i ∷ is) [] p h = absurd (cc)
@@ -64,18 +73,23 @@ module _ {T : Type 0} (cmp : T → T → Ordering) (o : IsTotalOrder cmp) where
       let both = then_equal (interval_cmp cmp i j) (slice_cmp (interval_cmp cmp) is js) h in
       (λ k. within_alike i j p both.0 k || any_alike is js p both.1 k)
 
-  pub equal_holds : (a b : List (Point T)) → IsNormal cmp a → IsNormal cmp b → ranges_cmp cmp a b ≡ Equal → HoldSamePoints cmp a b
-  equal_holds a b r s h p = sym (held_in_intervals cmp o a p r) ∙ any_alike (intervals a) (intervals b) p h ∙ held_in_intervals cmp o b p s
+  pub equal_holds : (a b : List (Point T)) → IsNormal cmp a → IsNormal cmp b → ranges_cmp cmp a b ≡ Equal →
+      HoldSamePoints cmp a b
+  equal_holds a b r s h p =
+      sym (held_in_intervals cmp o a p r) ∙ any_alike (intervals a) (intervals b) p h
+      ∙ held_in_intervals cmp o b p s
 
   start_back : (p : Point T) → start_point (lower_bound_at p) ≡ p
   start_back BelowAll = refl
   start_back (At v) = refl
   start_back (JustAbove v) = refl
 
-  starts_tied : (x y : Point T) → point_cmp cmp x y ≡ Equal → lower_cmp cmp (lower_bound_at x) (lower_bound_at y) ≡ Equal
+  starts_tied : (x y : Point T) → point_cmp cmp x y ≡ Equal →
+      lower_cmp cmp (lower_bound_at x) (lower_bound_at y) ≡ Equal
   starts_tied x y h = (λ i. point_cmp cmp (start_back x i) (start_back y i)) ∙ h
 
-  ends_tied : (x y : Point T) → point_cmp cmp x y ≡ Equal → upper_cmp cmp (upper_bound_at x) (upper_bound_at y) ≡ Equal
+  ends_tied : (x y : Point T) → point_cmp cmp x y ≡ Equal →
+      upper_cmp cmp (upper_bound_at x) (upper_bound_at y) ≡ Equal
   ends_tied BelowAll BelowAll h = refl
   ends_tied BelowAll (At w) h = absurd (cc)
   ends_tied BelowAll (JustAbove w) h = absurd (cc)
@@ -93,25 +107,33 @@ module _ {T : Type 0} (cmp : T → T → Ordering) (o : IsTotalOrder cmp) where
   turns_tied (x ∷ []) (y ∷ []) h =
       let e = starts_tied x y (then_equal (point_cmp cmp x y) Equal h).0 in
       ap (λ r. ordering_then (ordering_then r Equal) Equal) e
-  turns_tied (x ∷ []) (y ∷ z ∷ b) h = let l : Less ≡ Equal = (then_equal (point_cmp cmp x y) Less h).1 in absurd (cc)
-  turns_tied (x ∷ w ∷ a) (y ∷ []) h = let l : Greater ≡ Equal = (then_equal (point_cmp cmp x y) Greater h).1 in absurd (cc)
+  turns_tied (x ∷ []) (y ∷ z ∷ b) h = let l : Less ≡ Equal =
+      (then_equal (point_cmp cmp x y) Less h).1 in absurd (cc)
+  turns_tied (x ∷ w ∷ a) (y ∷ []) h = let l : Greater ≡ Equal =
+      (then_equal (point_cmp cmp x y) Greater h).1 in absurd (cc)
   turns_tied (x ∷ w ∷ a) (y ∷ z ∷ b) h =
-      let first = then_equal (point_cmp cmp x y) (ordering_then (point_cmp cmp w z) (slice_cmp (point_cmp cmp) a b)) h in
+      let first = then_equal (point_cmp cmp x y)
+      (ordering_then (point_cmp cmp w z) (slice_cmp (point_cmp cmp) a b)) h in
       let second = then_equal (point_cmp cmp w z) (slice_cmp (point_cmp cmp) a b) first.1 in
-      (λ i. ordering_then (ordering_then (starts_tied x y first.0 i) (ends_tied w z second.0 i)) (turns_tied a b second.1 i))
+      (λ i. ordering_then (ordering_then (starts_tied x y first.0 i) (ends_tied w z second.0 i))
+      (turns_tied a b second.1 i))
 
-  pub same_equal : (a b : List (Point T)) → IsNormal cmp a → IsNormal cmp b → HoldSamePoints cmp a b → ranges_cmp cmp a b ≡ Equal
+  pub same_equal : (a b : List (Point T)) → IsNormal cmp a → IsNormal cmp b → HoldSamePoints cmp a b →
+      ranges_cmp cmp a b ≡ Equal
   same_equal a b r s h = turns_tied a b (canonical points a b r s h)
 
-  pub equal_when : (x y : List (Point T)) → IsNormal cmp x → IsNormal cmp y → (r : Ordering) → r ≡ ranges_cmp cmp x y → (r ≡ Equal → HoldSamePoints cmp x y) × (HoldSamePoints cmp x y → r ≡ Equal)
+  pub equal_when : (x y : List (Point T)) → IsNormal cmp x → IsNormal cmp y → (r : Ordering) →
+      r ≡ ranges_cmp cmp x y → (r ≡ Equal → HoldSamePoints cmp x y) × (HoldSamePoints cmp x y → r ≡ Equal)
   equal_when x y h k r e = (λ t. equal_holds x y h k (sym e ∙ t), λ s. e ∙ same_equal x y h k s)
 
   -- equality by signs and boundaries is that of points
   lists_equal : (s t : Bool) (a b : List (Boundary T)) →
       (beq s t && pointwise (eq_by_cmp (boundary_cmp cmp)) a b)
       ≡ eq_by_cmp (slice_cmp (point_cmp cmp)) (turns_of s a) (turns_of t b)
-  lists_equal true true a b = lists_ties (boundary_cmp cmp) (λ x y. refl) a b ∙ ap is_eq (sym (turns_cmp cmp true a b))
-  lists_equal false false a b = lists_ties (boundary_cmp cmp) (λ x y. refl) a b ∙ ap is_eq (sym (turns_cmp cmp false a b))
+  lists_equal true true a b =
+      lists_ties (boundary_cmp cmp) (λ x y. refl) a b ∙ ap is_eq (sym (turns_cmp cmp true a b))
+  lists_equal false false a b =
+      lists_ties (boundary_cmp cmp) (λ x y. refl) a b ∙ ap is_eq (sym (turns_cmp cmp false a b))
   lists_equal true false a [] = refl
   lists_equal true false a (boundary.At w ∷ b) = refl
   lists_equal true false a (boundary.JustAbove w ∷ b) = refl
@@ -119,7 +141,8 @@ module _ {T : Type 0} (cmp : T → T → Ordering) (o : IsTotalOrder cmp) where
   lists_equal false true (boundary.At v ∷ a) b = refl
   lists_equal false true (boundary.JustAbove v ∷ a) b = refl
 
-  pub equal_lists : (s t : Bool) (a b : List (Boundary T)) (x y : List (Point T)) (r : Bool) → turns_of s a ≡ x →
+  pub equal_lists : (s t : Bool) (a b : List (Boundary T)) (x y : List (Point T)) (r : Bool) →
+      turns_of s a ≡ x →
       turns_of t b ≡ y → IsNormal cmp x → IsNormal cmp y →
       r ≡ (beq s t && pointwise (eq_by_cmp (boundary_cmp cmp)) a b) →
       (r ≡ eq_by_cmp (ranges_cmp cmp) x y)
@@ -161,7 +184,8 @@ module _ {T : Type 0} (cmp : T → T → Ordering) where
       ordering_then (ordering_then r (upper_cmp cmp (upper_bound_at x) Unbounded))
       (slice_cmp (interval_cmp cmp) (intervals a) [])
   behind_lower r (x ∷ a) (y ∷ b) =
-      ordering_then (ordering_then r (upper_cmp cmp (upper_bound_at x) (upper_bound_at y))) (ranges_cmp cmp a b)
+      ordering_then (ordering_then r (upper_cmp cmp (upper_bound_at x) (upper_bound_at y)))
+      (ranges_cmp cmp a b)
 
   by_lower : (x y : Point T) (a b : List (Point T)) →
       ranges_cmp cmp (x ∷ a) (y ∷ b) ≡ behind_lower (lower_cmp cmp (lower_bound_at x) (lower_bound_at y)) a b
@@ -203,7 +227,8 @@ module _ {T : Type 0} (cmp : T → T → Ordering) where
       ∙ sym (by_lower BelowAll BelowAll (map point_of a) (map point_of b))
 
   -- equal boundaries leave the comparison to those behind them
-  pub compare_behind : (held : Bool) (x y : Boundary T) (a b left right : List (Boundary T)) → left ≡ x ∷ a → right ≡ y ∷ b →
+  pub compare_behind : (held : Bool) (x y : Boundary T) (a b left right : List (Boundary T)) → left ≡ x ∷ a →
+      right ≡ y ∷ b →
       boundary_cmp cmp x y ≡ Equal →
       ranges_cmp cmp (turns_of (not held) a) (turns_of (not held) b)
       ≡ ranges_cmp cmp (turns_of held left) (turns_of held right)
@@ -211,7 +236,8 @@ module _ {T : Type 0} (cmp : T → T → Ordering) where
       sym (behind_equal held x y a b h)
       ∙ (λ i. ranges_cmp cmp (turns_first held left a x d i) (turns_first held right b y e i))
 
-  at_first : (held : Bool) (x y : Boundary T) (a b : List (Boundary T)) → (boundary_cmp cmp x y ≡ Equal → ⊥) →
+  at_first : (held : Bool) (x y : Boundary T) (a b : List (Boundary T)) →
+      (boundary_cmp cmp x y ≡ Equal → ⊥) →
       ranges_cmp cmp (turns_of held (x ∷ a)) (turns_of held (y ∷ b)) ≡ boundary_cmp cmp x y
   at_first true x y a b h =
       ap (λ r. ordering_then r (ranges_cmp cmp (map point_of a) (map point_of b))) (level_upper x y)
@@ -222,7 +248,8 @@ module _ {T : Type 0} (cmp : T → T → Ordering) where
       ∙ lower_decides (boundary_cmp cmp x y) h (map point_of a) (map point_of b)
 
   -- the first that differ decide
-  pub compare_first : (held : Bool) (x y : Boundary T) (a b left right : List (Boundary T)) → left ≡ x ∷ a → right ≡ y ∷ b →
+  pub compare_first : (held : Bool) (x y : Boundary T) (a b left right : List (Boundary T)) → left ≡ x ∷ a →
+      right ≡ y ∷ b →
       (r : Ordering) → r ≡ boundary_cmp cmp x y → (r ≡ Equal → ⊥) →
       r ≡ ranges_cmp cmp (turns_of held left) (turns_of held right)
   compare_first held x y a b left right d e r f h =
@@ -237,7 +264,8 @@ module _ {T : Type 0} (cmp : T → T → Ordering) where
   ends_first false y (z ∷ b) = refl
 
   -- one ends first
-  pub compare_end : (held : Bool) (y : Boundary T) (b left right : List (Boundary T)) → length left ≡ 0 → right ≡ y ∷ b →
+  pub compare_end : (held : Bool) (y : Boundary T) (b left right : List (Boundary T)) → length left ≡ 0 →
+      right ≡ y ∷ b →
       cond held Greater Less ≡ ranges_cmp cmp (turns_of held left) (turns_of held right)
   compare_end held y b left right d e =
       ends_first held y b

@@ -11,7 +11,8 @@ use Rattle.version_ranges.specs.Merging.{Takes, Adds, IsFirst}
 use Rattle.version_ranges.proofs.Membership.{is_held_beyond, Below, flips_comm, is_held_beyond-append, all_weaker, step_at, rising_append, below_like, below_step, before_head}
 
 -- what two lists of turns are joined to, as far as they are read
-pub record Joined {K : Type 0} (R : K → K → Ordering) (f : Bool → Bool → Bool) (a b out left_a left_b : List K)
+pub record Joined {K : Type 0} (R : K → K → Ordering) (f : Bool → Bool → Bool)
+    (a b out left_a left_b : List K)
     (in_a in_b : Bool) : Type 0 where
   pub read_a : List K
   pub read_b : List K
@@ -31,18 +32,26 @@ pub record Joined {K : Type 0} (R : K → K → Ordering) (f : Bool → Bool →
   pub out_a : Below R out left_a
   pub out_b : Below R out left_b
 
-module _ {K : Type 0} {R : K → K → Ordering} (o : IsTotalOrder R) {f : Bool → Bool → Bool} {a b out : List K} {in_a in_b : Bool} where
+module _ {K : Type 0} {R : K → K → Ordering} (o : IsTotalOrder R) {f : Bool → Bool → Bool} {a b out : List K}
+    {in_a in_b : Bool} where
   -- the turn t is read, from either list or both, and copied or not
-  pub joined_step : (t : K) (ta ra tb rb to : List K) → (j : Joined R f a b out (ta ++ ra) (tb ++ rb) in_a in_b)
-      → AllByRecursion (λ x. R x t ≡ Equal) ta → AllByRecursion (λ x. R x t ≡ Equal) tb → AllByRecursion (λ x. R x t ≡ Equal) to
+  pub joined_step : (t : K) (ta ra tb rb to : List K) →
+      (j : Joined R f a b out (ta ++ ra) (tb ++ rb) in_a in_b)
+      → AllByRecursion (λ x. R x t ≡ Equal) ta → AllByRecursion (λ x. R x t ≡ Equal) tb →
+      AllByRecursion (λ x. R x t ≡ Equal) to
       → Rising R to → Rising R ra → Rising R rb
-      → AllByRecursion (λ x. R x t ≡ Less) j.read_a → AllByRecursion (λ x. R x t ≡ Less) j.read_b → AllByRecursion (λ x. R x t ≡ Less) out
+      → AllByRecursion (λ x. R x t ≡ Less) j.read_a → AllByRecursion (λ x. R x t ≡ Less) j.read_b →
+      AllByRecursion (λ x. R x t ≡ Less) out
       → AllByRecursion (λ y. R t y ≡ Less) ra → AllByRecursion (λ y. R t y ≡ Less) rb
       → is_held_beyond (out ++ to) ≡ f (flips (is_held_beyond ta) in_a) (flips (is_held_beyond tb) in_b)
       → Joined R f a b (out ++ to) ra rb (flips (is_held_beyond ta) in_a) (flips (is_held_beyond tb) in_b)
   joined_step t ta ra tb rb to j ea eb eo ro rra rrb la lb lo ga gb e =
-      let na : flips (is_held_beyond ta) in_a ≡ is_held_beyond (j.read_a ++ ta) = ap (flips (is_held_beyond ta)) j.end_a ∙ flips_comm (is_held_beyond ta) (is_held_beyond j.read_a) ∙ sym (is_held_beyond-append j.read_a ta) in
-      let nb : flips (is_held_beyond tb) in_b ≡ is_held_beyond (j.read_b ++ tb) = ap (flips (is_held_beyond tb)) j.end_b ∙ flips_comm (is_held_beyond tb) (is_held_beyond j.read_b) ∙ sym (is_held_beyond-append j.read_b tb) in
+      let na : flips (is_held_beyond ta) in_a ≡ is_held_beyond (j.read_a ++ ta) =
+      ap (flips (is_held_beyond ta)) j.end_a ∙ flips_comm (is_held_beyond ta) (is_held_beyond j.read_a)
+      ∙ sym (is_held_beyond-append j.read_a ta) in
+      let nb : flips (is_held_beyond tb) in_b ≡ is_held_beyond (j.read_b ++ tb) =
+      ap (flips (is_held_beyond tb)) j.end_b ∙ flips_comm (is_held_beyond tb) (is_held_beyond j.read_b)
+      ∙ sym (is_held_beyond-append j.read_b tb) in
       record {
         read_a = j.read_a ++ ta;
         read_b = j.read_b ++ tb;
@@ -51,8 +60,12 @@ module _ {K : Type 0} {R : K → K → Ordering} (o : IsTotalOrder R) {f : Bool 
         end_a = na;
         end_b = nb;
         end_out = e;
-        points = λ p. step_at R o f t j.read_a ta j.read_b tb out to p (is_gt (R t p)) refl la ea lb eb lo eo (e ∙ (λ i. f (na i) (nb i))) (j.points p);
-        rising_out = rising_append R out to j.rising_out ro (all_weaker _ (λ y. AllByRecursion (λ x. R x y ≡ Less) out) (λ y h. below_like R o t y out (tied_back o y t h) lo) to eo);
+        points = λ p. step_at R o f t j.read_a ta j.read_b tb out to p (is_gt (R t p)) refl la ea lb eb lo eo
+            (e ∙ (λ i. f (na i) (nb i))) (j.points p);
+        rising_out =
+            rising_append R out to j.rising_out ro
+            (all_weaker _ (λ y. AllByRecursion (λ x. R x y ≡ Less) out)
+            (λ y h. below_like R o t y out (tied_back o y t h) lo) to eo);
         rising_a = rra;
         rising_b = rrb;
         a_a = below_step R o t j.read_a ta ra la ea ga;
@@ -72,7 +85,8 @@ record IsAtMostOne {K : Type 0} (R : K → K → Ordering) (t : K) (there : Bool
 module _ {K : Type 0} (R : K → K → Ordering) where
   taken_front : (t : K) (there : Bool) (list left : List K) → Takes R t there list left →
       (xs : List K) × (list ≡ xs ++ left) × IsAtMostOne R t there xs
-  taken_front t true list left h = (h.0 ∷ [], h.1, record { like = (h.2, tt); end_is = refl; rising = (tt, tt) })
+  taken_front t true list left h =
+      (h.0 ∷ [], h.1, record { like = (h.2, tt); end_is = refl; rising = (tt, tt) })
   taken_front t false list left h = ([], h, record { like = tt; end_is = refl; rising = tt })
 
   added_end : (t : K) (there : Bool) (old new : List K) → Adds R t there old new →
@@ -81,7 +95,8 @@ module _ {K : Type 0} (R : K → K → Ordering) where
   added_end t false old new h =
       ([], h ∙ sym (append-nil old), record { like = tt; end_is = refl; rising = tt })
 
-  rising_left : (t : K) (there : Bool) (list left : List K) → Takes R t there list left → Rising R list → Rising R left
+  rising_left : (t : K) (there : Bool) (list left : List K) → Takes R t there list left → Rising R list →
+      Rising R left
   rising_left t true list left h r = (subst (Rising R) h.1 r).1
   rising_left t false list left h r = subst (Rising R) h r
 
@@ -92,7 +107,8 @@ module _ {K : Type 0} {R : K → K → Ordering} (o : IsTotalOrder R) where
       AllByRecursion (λ x. R x t ≡ Less) xs
   before_taken t xs list left h b = below_like R o h.0 t xs h.2 (subst (Below R xs) h.1 b).0
 
-  before_first : (t : K) (in_a in_b : Bool) (a b left_a left_b xs : List K) → IsFirst R a b t in_a in_b left_a left_b →
+  before_first : (t : K) (in_a in_b : Bool) (a b left_a left_b xs : List K) →
+      IsFirst R a b t in_a in_b left_a left_b →
       Below R xs a → Below R xs b → AllByRecursion (λ x. R x t ≡ Less) xs
   before_first t true in_b a b left_a left_b xs n p q = before_taken t xs a left_a n.taken_a p
   before_first t false true a b left_a left_b xs n p q = before_taken t xs b left_b n.taken_b q
@@ -136,7 +152,8 @@ module _ {K : Type 0} {R : K → K → Ordering} (o : IsTotalOrder R) where
     before_b = λ p q. before_all t u b left_b h f q;
   }
 
-  pub first_equal : (t u : K) (a b left_a left_b : List K) → a ≡ t ∷ left_a → b ≡ u ∷ left_b → R t u ≡ Equal →
+  pub first_equal : (t u : K) (a b left_a left_b : List K) → a ≡ t ∷ left_a → b ≡ u ∷ left_b →
+      R t u ≡ Equal →
       IsFirst R a b t true true left_a left_b
   first_equal t u a b left_a left_b e f h = record {
     taken_a = (t, e, tied_itself o t);
@@ -144,10 +161,12 @@ module _ {K : Type 0} {R : K → K → Ordering} (o : IsTotalOrder R) where
     taken = refl;
     before_a = λ p q. (subst (Rising R) e p).0;
     before_b = λ p q.
-        all_weaker (λ y. R u y ≡ Less) (λ y. R t y ≡ Less) (λ y k. o.congr t u y h ∙ k) left_b (subst (Rising R) f q).0;
+        all_weaker (λ y. R u y ≡ Less) (λ y. R t y ≡ Less) (λ y k. o.congr t u y h ∙ k) left_b
+        (subst (Rising R) f q).0;
   }
 
-  pub first_greater : (t u : K) (a b left_a left_b : List K) → a ≡ t ∷ left_a → b ≡ u ∷ left_b → R t u ≡ Greater →
+  pub first_greater : (t u : K) (a b left_a left_b : List K) → a ≡ t ∷ left_a → b ≡ u ∷ left_b →
+      R t u ≡ Greater →
       IsFirst R a b u false true a left_b
   first_greater t u a b left_a left_b e f h = record {
     taken_a = refl;
@@ -160,7 +179,8 @@ module _ {K : Type 0} {R : K → K → Ordering} (o : IsTotalOrder R) where
 -- the next turn is read, and written where membership changes
 module _ {K : Type 0} {R : K → K → Ordering} (o : IsTotalOrder R) {f : Bool → Bool → Bool}
     {a b out new la lb ra rb : List K} {in_a in_b from_a from_b : Bool} {t : K} where
-  pub joined_next : (changed : Bool) → Joined R f a b out la lb in_a in_b → IsFirst R la lb t from_a from_b ra rb → Adds R t changed out new →
+  pub joined_next : (changed : Bool) → Joined R f a b out la lb in_a in_b →
+      IsFirst R la lb t from_a from_b ra rb → Adds R t changed out new →
       flips (f in_a in_b) changed ≡ f (flips from_a in_a) (flips from_b in_b) →
       Joined R f a b new ra rb (flips from_a in_a) (flips from_b in_b)
   joined_next changed j n d e =
@@ -172,18 +192,22 @@ module _ {K : Type 0} {R : K → K → Ordering} (o : IsTotalOrder R) {f : Bool 
       (subst (λ v. Joined R f a b out la v in_a in_b) xb.1 j) in
       let early = λ (xs : List K) (p : Below R xs la) (q : Below R xs lb).
       before_first o t from_a from_b la lb ra rb xs n p q in
-      let s : Joined R f a b (out ++ xo.0) ra rb (flips (is_held_beyond xa.0) in_a) (flips (is_held_beyond xb.0) in_b) =
+      let s : Joined R f a b (out ++ xo.0) ra rb (flips (is_held_beyond xa.0) in_a)
+      (flips (is_held_beyond xb.0) in_b) =
       joined_step o t xa.0 ra xb.0 rb xo.0 k xa.2.like xb.2.like xo.2.like xo.2.rising
       (rising_left R t from_a la ra n.taken_a j.rising_a) (rising_left R t from_b lb rb n.taken_b j.rising_b)
-      (early k.read_a (subst (Below R k.read_a) (sym xa.1) k.a_a) (subst (Below R k.read_a) (sym xb.1) k.a_b))
-      (early k.read_b (subst (Below R k.read_b) (sym xa.1) k.b_a) (subst (Below R k.read_b) (sym xb.1) k.b_b))
+      (early k.read_a (subst (Below R k.read_a) (sym xa.1) k.a_a)
+      (subst (Below R k.read_a) (sym xb.1) k.a_b))
+      (early k.read_b (subst (Below R k.read_b) (sym xa.1) k.b_a)
+      (subst (Below R k.read_b) (sym xb.1) k.b_b))
       (early out j.out_a j.out_b)
       (n.before_a j.rising_a j.rising_b) (n.before_b j.rising_a j.rising_b)
       (is_held_beyond-append out xo.0 ∙ (λ i. flips (k.end_out i) (xo.2.end_is i)) ∙ e
       ∙ (λ i. f (flips (sym xa.2.end_is i) in_a) (flips (sym xb.2.end_is i) in_b))) in
       subst (λ v. Joined R f a b v ra rb (flips from_a in_a) (flips from_b in_b)) (sym xo.1)
       (subst (λ v. Joined R f a b (out ++ xo.0) ra rb (flips v in_a) (flips from_b in_b)) xa.2.end_is
-      (subst (λ v. Joined R f a b (out ++ xo.0) ra rb (flips (is_held_beyond xa.0) in_a) (flips v in_b)) xb.2.end_is s))
+      (subst (λ v. Joined R f a b (out ++ xo.0) ra rb (flips (is_held_beyond xa.0) in_a) (flips v in_b))
+      xb.2.end_is s))
 
 -- membership was w, is n, and changed where the two differ
 pub changes : (w n : Bool) → flips w (not (beq n w)) ≡ n

@@ -44,7 +44,8 @@ odd_suc n = ap (λ k. k == 1) (suc-mod n 2) ∙ odd_at (n % 2) (omega arith)
 -- the last interval
 module _ {T : Type 0} where
   -- after an even number of turns the last one ends an interval
-  pub last_upper_even : (u : Bound T) (set front : List (Point T)) (last : Point T) → set ≡ front ++ last ∷ [] →
+  pub last_upper_even : (u : Bound T) (set front : List (Point T)) (last : Point T) →
+      set ≡ front ++ last ∷ [] →
       is_held_beyond set ≡ false → last_upper u (intervals set) ≡ upper_bound_at last
   last_upper_even u [] [] last e h = absurd (cc)
   last_upper_even u [] (x ∷ front) last e h = absurd (cc)
@@ -99,7 +100,8 @@ module _ {T : Type 0} where
       sym (last_upper_odd Unbounded (turns_of starts boundaries) (beyond_turns starts boundaries ∙ h))
 
   last_turn : (starts : Bool) (boundaries front : List (Boundary T)) (last : Boundary T) →
-      boundaries ≡ front ++ last ∷ [] → turns_of starts boundaries ≡ turns_of starts front ++ point_of last ∷ []
+      boundaries ≡ front ++ last ∷ [] →
+      turns_of starts boundaries ≡ turns_of starts front ++ point_of last ∷ []
   last_turn true boundaries front last e =
       ap (turns_of true) e ∙ ap (λ ps. BelowAll ∷ ps) (map-append point_of front (last ∷ []))
   last_turn false boundaries front last e = ap (map point_of) e ∙ map-append point_of front (last ∷ [])
@@ -112,12 +114,16 @@ module _ {T : Type 0} where
       (last_turn starts boundaries front last e) (beyond_turns starts boundaries ∙ h))
 
   count_turns : (starts : Bool) (boundaries : List (Boundary T)) →
-      length (intervals (turns_of starts boundaries)) ≡ length boundaries / 2 + cond starts 1 (length boundaries % 2)
-  count_turns true boundaries = omega (arith, length-intervals (turns_of true boundaries), length-map boundaries point_of)
-  count_turns false boundaries = length-intervals (map point_of boundaries) ∙ ap (λ n. n / 2 + n % 2) (length-map boundaries point_of)
+      length (intervals (turns_of starts boundaries)) ≡ length boundaries / 2 + cond starts 1
+      (length boundaries % 2)
+  count_turns true boundaries =
+      omega (arith, length-intervals (turns_of true boundaries), length-map boundaries point_of)
+  count_turns false boundaries =
+      length-intervals (map point_of boundaries) ∙ ap (λ n. n / 2 + n % 2) (length-map boundaries point_of)
 
   pub count_is : (starts : Bool) (boundaries : List (Boundary T)) (left : List (Bound T × Bound T)) (n : ℕ) →
-      intervals (turns_of starts boundaries) ≡ left → n ≡ length boundaries / 2 + cond starts 1 (length boundaries % 2) →
+      intervals (turns_of starts boundaries) ≡ left →
+      n ≡ length boundaries / 2 + cond starts 1 (length boundaries % 2) →
       n ≡ length left
   count_is starts boundaries left n e h = h ∙ sym (count_turns starts boundaries) ∙ ap length e
 
@@ -126,7 +132,8 @@ module _ {T : Type 0} (cmp : T → T → Ordering) (o : IsTotalOrder cmp) where
   points = points_total cmp o
 
   -- a point is held exactly where an interval holds it
-  pub starts_at : (lower p : Point T) → starts_by cmp (lower_bound_at lower) p ≡ reaches (point_cmp cmp) lower p
+  pub starts_at : (lower p : Point T) →
+      starts_by cmp (lower_bound_at lower) p ≡ reaches (point_cmp cmp) lower p
   starts_at BelowAll BelowAll = refl
   starts_at BelowAll (At v) = refl
   starts_at BelowAll (JustAbove v) = refl
@@ -138,22 +145,27 @@ module _ {T : Type 0} (cmp : T → T → Ordering) (o : IsTotalOrder cmp) where
   turned Equal = refl
   turned Greater = refl
 
-  turned_then : (r : Ordering) → not (is_gt (ordering_reverse r)) ≡ not (not (is_gt (ordering_then r Greater)))
+  turned_then : (r : Ordering) →
+      not (is_gt (ordering_reverse r)) ≡ not (not (is_gt (ordering_then r Greater)))
   turned_then Less = refl
   turned_then Equal = refl
   turned_then Greater = refl
 
-  then_turned : (r : Ordering) → not (is_gt (ordering_then (ordering_reverse r) Greater)) ≡ not (not (is_gt r))
+  then_turned : (r : Ordering) →
+      not (is_gt (ordering_then (ordering_reverse r) Greater)) ≡ not (not (is_gt r))
   then_turned Less = refl
   then_turned Equal = refl
   then_turned Greater = refl
 
-  goes_up_to : (w : T) (p : Point T) → goes_on_to cmp (Included w) p ≡ not (reaches (point_cmp cmp) (JustAbove w) p)
+  goes_up_to : (w : T) (p : Point T) →
+      goes_on_to cmp (Included w) p ≡ not (reaches (point_cmp cmp) (JustAbove w) p)
   goes_up_to w BelowAll = refl
   goes_up_to w (At v) = ap (λ r. not (is_gt r)) (o.antisymm v w) ∙ turned_then (cmp w v)
-  goes_up_to w (JustAbove v) = ap (λ r. not (is_gt (ordering_then r Greater))) (o.antisymm v w) ∙ then_turned (cmp w v)
+  goes_up_to w (JustAbove v) =
+      ap (λ r. not (is_gt (ordering_then r Greater))) (o.antisymm v w) ∙ then_turned (cmp w v)
 
-  pub goes_to : (upper p : Point T) → LiesAtValue upper → goes_on_to cmp (upper_bound_at upper) p ≡ not (reaches (point_cmp cmp) upper p)
+  pub goes_to : (upper p : Point T) → LiesAtValue upper →
+      goes_on_to cmp (upper_bound_at upper) p ≡ not (reaches (point_cmp cmp) upper p)
   goes_to BelowAll p h = absurd h
   goes_to (At w) p h = ap is_lt (points.antisymm p (At w)) ∙ turned (point_cmp cmp (At w) p)
   goes_to (JustAbove w) p h = goes_up_to w p
@@ -165,7 +177,8 @@ module _ {T : Type 0} (cmp : T → T → Ordering) (o : IsTotalOrder cmp) where
   above_another p (At w) h = tt
   above_another p (JustAbove w) h = tt
 
-  two_turns : (a b h : Bool) → (b ≡ true → a ≡ true) → (b ≡ false → h ≡ false) → flips a (flips b h) ≡ ((a && not b) || h)
+  two_turns : (a b h : Bool) → (b ≡ true → a ≡ true) → (b ≡ false → h ≡ false) →
+      flips a (flips b h) ≡ ((a && not b) || h)
   two_turns true true true f g = refl
   two_turns true true false f g = refl
   two_turns true false true f g = sym (g refl)
@@ -186,30 +199,42 @@ module _ {T : Type 0} (cmp : T → T → Ordering) (o : IsTotalOrder cmp) where
   with_true true = refl
   with_true false = refl
 
-  pub held_in_intervals : (set : List (Point T)) (p : Point T) → Rising (point_cmp cmp) set → list_any (λ i. is_within cmp i p) (intervals set) ≡ is_held (point_cmp cmp) set p
+  pub held_in_intervals : (set : List (Point T)) (p : Point T) → Rising (point_cmp cmp) set →
+      list_any (λ i. is_within cmp i p) (intervals set) ≡ is_held (point_cmp cmp) set p
   held_in_intervals [] p r = refl
-  held_in_intervals (lower ∷ []) p r = with_true (starts_by cmp (lower_bound_at lower) p) ∙ starts_at lower p ∙ sym (flips_false (reaches (point_cmp cmp) lower p))
+  held_in_intervals (lower ∷ []) p r =
+      with_true (starts_by cmp (lower_bound_at lower) p) ∙ starts_at lower p
+      ∙ sym (flips_false (reaches (point_cmp cmp) lower p))
   held_in_intervals (lower ∷ upper ∷ later) p r =
-      (λ i. (starts_at lower p i && goes_to upper p (above_another lower upper r.0.0) i) || held_in_intervals later p r.1.1 i)
-      ∙ sym (two_turns (reaches (point_cmp cmp) lower p) (reaches (point_cmp cmp) upper p) (is_held (point_cmp cmp) later p)
-      (λ b. past_less (point_cmp cmp) points lower upper p (point_cmp cmp upper p) refl r.0.0 (not_true (is_gt (point_cmp cmp upper p)) b))
-      (λ b. held_before (point_cmp cmp) p later (all_weaker (λ y. point_cmp cmp upper y ≡ Less) (λ y. reaches (point_cmp cmp) y p ≡ false) (λ y h. before_less (point_cmp cmp) points y upper p (is_greater (point_cmp cmp upper p) b) h) later r.1.0)))
+      (λ i. (starts_at lower p i && goes_to upper p (above_another lower upper r.0.0) i) || held_in_intervals
+      later p r.1.1 i)
+      ∙ sym (two_turns (reaches (point_cmp cmp) lower p) (reaches (point_cmp cmp) upper p)
+      (is_held (point_cmp cmp) later p)
+      (λ b. past_less (point_cmp cmp) points lower upper p (point_cmp cmp upper p) refl r.0.0
+      (not_true (is_gt (point_cmp cmp upper p)) b))
+      (λ b. held_before (point_cmp cmp) p later
+      (all_weaker (λ y. point_cmp cmp upper y ≡ Less) (λ y. reaches (point_cmp cmp) y p ≡ false)
+      (λ y h. before_less (point_cmp cmp) points y upper p (is_greater (point_cmp cmp upper p) b) h) later
+      r.1.0)))
 
   -- the empty set
-  pub nothing_held : (set : List (Point T)) → Rising (point_cmp cmp) set → ((p : Point T) → holds_at cmp set p ≡ false) → set ≡ []
+  pub nothing_held : (set : List (Point T)) → Rising (point_cmp cmp) set →
+      ((p : Point T) → holds_at cmp set p ≡ false) → set ≡ []
   nothing_held [] r h = refl
   nothing_held (x ∷ xs) r h = let l : true ≡ false = sym (held_at_head points x xs r) ∙ h x in absurd (cc)
 
   pub empty_turns : (starts : Bool) (boundaries : List (Boundary T)) (set : List (Point T)) (b : Bool) →
       turns_of starts boundaries ≡ set → IsNormal cmp set → b ≡ (not starts && (length boundaries == 0)) →
-      (IsTrue b → (p : Point T) → holds_at cmp set p ≡ false) × (((p : Point T) → holds_at cmp set p ≡ false) → IsTrue b)
+      (IsTrue b → (p : Point T) →
+      holds_at cmp set p ≡ false) × (((p : Point T) → holds_at cmp set p ≡ false) → IsTrue b)
   empty_turns true boundaries set b e n f = (
     λ h p. let l : true ≡ false = sym h ∙ f in absurd (cc),
     λ h. let l : turns_of true boundaries ≡ [] = e ∙ nothing_held set n h in absurd (cc),
   )
   empty_turns false [] set b e n f = (λ h p. ap (λ turns. holds_at cmp turns p) (sym e), λ h. f)
   empty_turns false (x ∷ later) set b e n f = (
-    λ h p. let l : length (x ∷ later) ≡ 0 = eqb-true (length (x ∷ later)) 0 (sym f ∙ h) in absurd (omega arith),
+    λ h p. let l : length (x ∷ later) ≡ 0 =
+        eqb-true (length (x ∷ later)) 0 (sym f ∙ h) in absurd (omega arith),
     λ h. let l : turns_of false (x ∷ later) ≡ [] = e ∙ nothing_held set n h in absurd (cc),
   )
 
@@ -219,7 +244,8 @@ module _ {T : Type 0} (cmp : T → T → Ordering) (o : IsTotalOrder cmp) where
   between Equal = refl
   between Greater = refl
 
-  within_one : (v w : T) → cmp w v ≡ Equal → (p : Point T) → is_within cmp (Included v, Included w) p ≡ is_eq (point_cmp cmp p (At v))
+  within_one : (v w : T) → cmp w v ≡ Equal → (p : Point T) →
+      is_within cmp (Included v, Included w) p ≡ is_eq (point_cmp cmp p (At v))
   within_one v w e p =
       (λ i. not (is_gt (points.antisymm (At v) p i)) && not (is_gt (alike_right points (At w) (At v) p e i)))
       ∙ between (point_cmp cmp p (At v))
@@ -237,35 +263,49 @@ module _ {T : Type 0} (cmp : T → T → Ordering) (o : IsTotalOrder cmp) where
       ∙ or_nothing (is_within cmp (Included v, Included w) p)
       ∙ within_one v w (tied_back o v w e) p
 
-  at_value : (x : Point T) (v : T) → point_cmp cmp x (At v) ≡ Equal → (a : T) × (x ≡ At a) × (cmp a v ≡ Equal)
+  at_value : (x : Point T) (v : T) → point_cmp cmp x (At v) ≡ Equal →
+      (a : T) × (x ≡ At a) × (cmp a v ≡ Equal)
   at_value BelowAll v h = absurd (cc)
   at_value (At a) v h = (a, refl, h)
   at_value (JustAbove a) v h = let l : Greater ≡ Equal = (then_equal (cmp a v) Greater h).1 in absurd (cc)
 
-  above_value : (x : Point T) (v : T) → point_cmp cmp x (JustAbove v) ≡ Equal → (a : T) × (x ≡ JustAbove a) × (cmp a v ≡ Equal)
+  above_value : (x : Point T) (v : T) → point_cmp cmp x (JustAbove v) ≡ Equal →
+      (a : T) × (x ≡ JustAbove a) × (cmp a v ≡ Equal)
   above_value BelowAll v h = absurd (cc)
   above_value (At a) v h = let l : Less ≡ Equal = (then_equal (cmp a v) Less h).1 in absurd (cc)
   above_value (JustAbove a) v h = (a, refl, h)
 
-  two_held : (v : T) (set : List (Point T)) → slice_cmp (point_cmp cmp) set (At v ∷ JustAbove v ∷ []) ≡ Equal → (a : T) × (single_value cmp set ≡ Some a)
+  two_held : (v : T) (set : List (Point T)) →
+      slice_cmp (point_cmp cmp) set (At v ∷ JustAbove v ∷ []) ≡ Equal →
+      (a : T) × (single_value cmp set ≡ Some a)
   two_held v [] h = absurd (cc)
-  two_held v (x ∷ []) h = let l : Less ≡ Equal = (then_equal (point_cmp cmp x (At v)) Less h).1 in absurd (cc)
+  two_held v (x ∷ []) h = let l : Less ≡ Equal =
+      (then_equal (point_cmp cmp x (At v)) Less h).1 in absurd (cc)
   two_held v (x ∷ y ∷ z ∷ more) h =
-      let l : ordering_then (point_cmp cmp y (JustAbove v)) Greater ≡ Equal = (then_equal (point_cmp cmp x (At v)) (ordering_then (point_cmp cmp y (JustAbove v)) Greater) h).1 in
+      let l : ordering_then (point_cmp cmp y (JustAbove v)) Greater ≡ Equal =
+      (then_equal (point_cmp cmp x (At v)) (ordering_then (point_cmp cmp y (JustAbove v)) Greater) h).1
+      in
       let k : Greater ≡ Equal = (then_equal (point_cmp cmp y (JustAbove v)) Greater l).1 in absurd (cc)
   two_held v (x ∷ y ∷ []) h =
-      let both = then_equal (point_cmp cmp x (At v)) (ordering_then (point_cmp cmp y (JustAbove v)) Equal) h in
+      let both = then_equal (point_cmp cmp x (At v)) (ordering_then (point_cmp cmp y (JustAbove v)) Equal) h
+      in
       let lower = at_value x v both.0 in
       let upper = above_value y v (then_equal (point_cmp cmp y (JustAbove v)) Equal both.1).0 in
-      let e : cmp lower.0 upper.0 ≡ Equal = alike_right o upper.0 v lower.0 upper.2 ∙ lower.2 in
-      (lower.0, (λ i. single_value cmp (lower.1 i ∷ upper.1 i ∷ [])) ∙ ap (λ r. cond (is_eq r) (Some lower.0) None) e)
+      let e : cmp lower.0 upper.0 ≡ Equal = alike_right o upper.0 v lower.0 upper.2 ∙ lower.2 in (
+        lower.0,
+        (λ i. single_value cmp (lower.1 i ∷ upper.1 i ∷ []))
+            ∙ ap (λ r. cond (is_eq r) (Some lower.0) None) e,
+      )
 
-  single_held : (v : T) (set : List (Point T)) → Rising (point_cmp cmp) set → HoldsOnly cmp v set → (a : T) × (single_value cmp set ≡ Some a)
+  single_held : (v : T) (set : List (Point T)) → Rising (point_cmp cmp) set → HoldsOnly cmp v set →
+      (a : T) × (single_value cmp set ≡ Some a)
   single_held v set r h =
       two_held v set
-      (canonical points set (At v ∷ JustAbove v ∷ []) r (rising_one v v (tied_itself o v)) (λ p. h p ∙ sym (holds_one v v (tied_itself o v) p)))
+      (canonical points set (At v ∷ JustAbove v ∷ []) r (rising_one v v (tied_itself o v))
+      (λ p. h p ∙ sym (holds_one v v (tied_itself o v) p)))
 
-  one_by_test : (v a w : T) (b : Bool) → is_eq (cmp a w) ≡ b → Some v ≡ cond b (Some a) None → HoldsOnly cmp v (At a ∷ JustAbove w ∷ [])
+  one_by_test : (v a w : T) (b : Bool) → is_eq (cmp a w) ≡ b → Some v ≡ cond b (Some a) None →
+      HoldsOnly cmp v (At a ∷ JustAbove w ∷ [])
   one_by_test v a w true t e =
       let same : a ≡ v = cc in
       subst (λ u. HoldsOnly cmp u (At a ∷ JustAbove w ∷ [])) same (holds_one a w ((Equal-is (cmp a w)).0 t))
@@ -281,12 +321,16 @@ module _ {T : Type 0} (cmp : T → T → Ordering) (o : IsTotalOrder cmp) where
   single_holds v (At a ∷ JustAbove w ∷ z ∷ more) e = absurd (cc)
   single_holds v (At a ∷ JustAbove w ∷ []) e = one_by_test v a w (is_eq (cmp a w)) refl e
 
-  pub single_answer : (set : List (Point T)) → Rising (point_cmp cmp) set → (result : Option (Bor T)) → option_map (λ v. v.now) result ≡ single_value cmp set → MatchOption result ((v : T) → ¬ (HoldsOnly cmp v set)) (λ v. HoldsOnly cmp v.now set)
-  single_answer set r None e = λ v h. let found = single_held v set r h in let l : None ≡ Some found.0 = e ∙ found.1 in absurd (cc)
+  pub single_answer : (set : List (Point T)) → Rising (point_cmp cmp) set → (result : Option (Bor T)) →
+      option_map (λ v. v.now) result ≡ single_value cmp set →
+      MatchOption result ((v : T) → ¬ (HoldsOnly cmp v set)) (λ v. HoldsOnly cmp v.now set)
+  single_answer set r None e = λ v h. let found = single_held v set r h in let l : None ≡ Some found.0 =
+      e ∙ found.1 in absurd (cc)
   single_answer set r (Some v) e = single_holds v.now set e
 
   -- what lies between two bounds
-  pub starts_by_reaches : (b : Bound T) (p : Point T) → starts_by cmp b p ≡ reaches (point_cmp cmp) (start_point b) p
+  pub starts_by_reaches : (b : Bound T) (p : Point T) →
+      starts_by cmp b p ≡ reaches (point_cmp cmp) (start_point b) p
   starts_by_reaches (Included v) p = refl
   starts_by_reaches (Excluded v) p = refl
   starts_by_reaches Unbounded BelowAll = refl
@@ -316,23 +360,29 @@ module _ {T : Type 0} (cmp : T → T → Ordering) (o : IsTotalOrder cmp) where
   pub within_all : (i : Bound T × Bound T) → start_point i.0 ≡ BelowAll → end_points i.1 ≡ [] →
       (p : Point T) → true ≡ is_within cmp i p
   within_all i e f p =
-      sym (λ k. (starts_by_reaches i.0 p ∙ ap (λ s. reaches (point_cmp cmp) s p) e ∙ reached_by_all p) k && goes_on_always i.1 p f k)
+      sym (λ k. (starts_by_reaches i.0 p ∙ ap (λ s. reaches (point_cmp cmp) s p) e ∙ reached_by_all p)
+      k && goes_on_always i.1 p f k)
 
-  within_turns : (i : Bound T × Bound T) (start end p : Point T) → start_point i.0 ≡ start → end_points i.1 ≡ end ∷ [] →
+  within_turns : (i : Bound T × Bound T) (start end p : Point T) → start_point i.0 ≡ start →
+      end_points i.1 ≡ end ∷ [] →
       is_within cmp i p ≡ (reaches (point_cmp cmp) start p && not (reaches (point_cmp cmp) end p))
   within_turns i start end p e f =
-      λ k. (starts_by_reaches i.0 p ∙ ap (λ s. reaches (point_cmp cmp) s p) e) k && goes_on_until i.1 end p f k
+      λ k. (starts_by_reaches i.0 p ∙ ap (λ s. reaches (point_cmp cmp) s p) e) k && goes_on_until i.1 end p f
+      k
 
   is_less : (r : Ordering) → is_lt r ≡ true → r ≡ Less
   is_less Less h = refl
   is_less Equal h = absurd (cc)
   is_less Greater h = absurd (cc)
 
-  pub within_between : (i : Bound T × Bound T) (start end : Point T) → start_point i.0 ≡ start → end_points i.1 ≡ end ∷ [] →
-      is_lt (point_cmp cmp start end) ≡ true → (p : Point T) → holds_at cmp (start ∷ end ∷ []) p ≡ is_within cmp i p
+  pub within_between : (i : Bound T × Bound T) (start end : Point T) → start_point i.0 ≡ start →
+      end_points i.1 ≡ end ∷ [] →
+      is_lt (point_cmp cmp start end) ≡ true → (p : Point T) →
+      holds_at cmp (start ∷ end ∷ []) p ≡ is_within cmp i p
   within_between i start end e f h p =
       two_turns (reaches (point_cmp cmp) start p) (reaches (point_cmp cmp) end p) false
-      (λ b. past_less (point_cmp cmp) points start end p (point_cmp cmp end p) refl (is_less (point_cmp cmp start end) h)
+      (λ b. past_less (point_cmp cmp) points start end p (point_cmp cmp end p) refl
+      (is_less (point_cmp cmp start end) h)
       (not_true (is_gt (point_cmp cmp end p)) b))
       (λ b. refl)
       ∙ or_nothing (reaches (point_cmp cmp) start p && not (reaches (point_cmp cmp) end p))
@@ -348,7 +398,8 @@ module _ {T : Type 0} (cmp : T → T → Ordering) (o : IsTotalOrder cmp) where
   not_after Equal s e h = ap is_gt e
   not_after Greater s e h = ap is_gt e
 
-  pub within_none : (i : Bound T × Bound T) (start end : Point T) → start_point i.0 ≡ start → end_points i.1 ≡ end ∷ [] →
+  pub within_none : (i : Bound T × Bound T) (start end : Point T) → start_point i.0 ≡ start →
+      end_points i.1 ≡ end ∷ [] →
       is_lt (point_cmp cmp start end) ≡ false → (p : Point T) → false ≡ is_within cmp i p
   within_none i start end e f h p =
       not_both (reaches (point_cmp cmp) start p) (reaches (point_cmp cmp) end p)

@@ -32,14 +32,18 @@ module _ {J K : Type 0} (f : J → K) (R : K → K → Ordering) (p : K) where
   held_at_count [] (suc i) h w = absurd (omega arith)
   held_at_count (x ∷ xs) zero h w =
       ap (λ b. flips b (is_held R (map f xs) p)) (w.1 0 x (omega arith) (omega arith))
-      ∙ held_at_count xs zero (omega arith) ((λ k d l m. absurd (omega arith)), (λ k d l m. w.1 (suc k) d (omega arith) (omega arith)))
+      ∙ held_at_count xs zero (omega arith)
+      ((λ k d l m. absurd (omega arith)), (λ k d l m. w.1 (suc k) d (omega arith) (omega arith)))
   held_at_count (x ∷ xs) (suc i) h w =
       ap (λ b. flips b (is_held R (map f xs) p)) (w.0 0 x (omega arith) (omega arith))
-      ∙ ap not (held_at_count xs i (omega arith)
-      ((λ k d l m. w.0 (suc k) d (omega arith) (omega arith)), (λ k d l m. w.1 (suc k) d (omega arith) (omega arith))))
+      ∙ ap not (held_at_count xs i (omega arith) (
+        (λ k d l m. w.0 (suc k) d (omega arith) (omega arith)),
+        (λ k d l m. w.1 (suc k) d (omega arith) (omega arith)),
+      ))
       ∙ sym (odd_suc i)
 
-  all_at : (P : K → Type 0) (xs : List J) (j : ℕ) (d : J) → AllByRecursion (λ x. P (f x)) xs → j < length xs →
+  all_at : (P : K → Type 0) (xs : List J) (j : ℕ) (d : J) → AllByRecursion (λ x. P (f x)) xs →
+      j < length xs →
       P (f (get_or xs j d))
   all_at P [] j d a h = absurd (omega arith)
   all_at P (x ∷ xs) zero d a h = a.0
@@ -54,7 +58,8 @@ module _ {J K : Type 0} (f : J → K) (R : K → K → Ordering) (p : K) where
       past_less R o (f x) (f (get_or xs j d)) p (R (f (get_or xs j d)) p) refl
       (all_at (λ y. R (f x) y ≡ Less) xs j d r.0 (omega arith)) (not_gt (R (f (get_or xs j d)) p) e)
   rising_partitioned o (x ∷ xs) r (suc i) zero d h k e = absurd (omega arith)
-  rising_partitioned o (x ∷ xs) r (suc i) (suc j) d h k e = rising_partitioned o xs r.1 i j d (omega arith) (omega arith) e
+  rising_partitioned o (x ∷ xs) r (suc i) (suc j) d h k e =
+      rising_partitioned o xs r.1 i j d (omega arith) (omega arith) e
 
 module _ {T : Type 0} (cmp : T → T → Ordering) (o : IsTotalOrder cmp) where
   pub partitioned : (starts : Bool) (boundaries : List (Boundary T)) (set : List (Point T)) (p : Point T) →
@@ -66,7 +71,8 @@ module _ {T : Type 0} (cmp : T → T → Ordering) (o : IsTotalOrder cmp) where
 
 -- the set holds p where its sign and the number of boundaries up to p say so
 module _ {T : Type 0} (cmp : T → T → Ordering) where
-  pub held_by_count : (starts : Bool) (boundaries : List (Boundary T)) (set : List (Point T)) (p : Point T) (i : ℕ) →
+  pub held_by_count : (starts : Bool) (boundaries : List (Boundary T)) (set : List (Point T)) (p : Point T)
+      (i : ℕ) →
       turns_of starts boundaries ≡ set → i ≤ length boundaries →
       IsPartitionPoint (λ b. reaches (point_cmp cmp) (point_of b) p ≡ true)
       (λ b. reaches (point_cmp cmp) (point_of b) p ≡ false) boundaries i →

@@ -57,8 +57,10 @@ module _ {J K : Type 0} (f : J → K) where
       taken_a = takes_map t in_a a left_a n.taken_a;
       taken_b = takes_map t in_b b left_b n.taken_b;
       taken = n.taken;
-      before_a = λ p q. all_map (λ y. R (f t) y ≡ Less) left_a (n.before_a (rising_unmap a p) (rising_unmap b q));
-      before_b = λ p q. all_map (λ y. R (f t) y ≡ Less) left_b (n.before_b (rising_unmap a p) (rising_unmap b q));
+      before_a = λ p q. all_map (λ y. R (f t) y ≡ Less) left_a
+          (n.before_a (rising_unmap a p) (rising_unmap b q));
+      before_b = λ p q. all_map (λ y. R (f t) y ≡ Less) left_b
+          (n.before_b (rising_unmap a p) (rising_unmap b q));
     }
 
 -- a list that has nothing
@@ -91,12 +93,14 @@ module _ {T : Type 0} (cmp : T → T → Ordering) where
   below_all (boundary.At v ∷ later) = (refl, below_all later)
   below_all (boundary.JustAbove v ∷ later) = (refl, below_all later)
 
-  pub normal_turns : (starts : Bool) (boundaries : List (Boundary T)) → Rising (boundary_cmp cmp) boundaries →
+  pub normal_turns : (starts : Bool) (boundaries : List (Boundary T)) →
+      Rising (boundary_cmp cmp) boundaries →
       IsNormal cmp (turns_of starts boundaries)
   normal_turns true boundaries r = (below_all boundaries, rising_map point_of (point_cmp cmp) boundaries r)
   normal_turns false boundaries r = rising_map point_of (point_cmp cmp) boundaries r
 
-  pub rising_boundaries : (starts : Bool) (boundaries : List (Boundary T)) → IsNormal cmp (turns_of starts boundaries) →
+  pub rising_boundaries : (starts : Bool) (boundaries : List (Boundary T)) →
+      IsNormal cmp (turns_of starts boundaries) →
       Rising (boundary_cmp cmp) boundaries
   rising_boundaries true boundaries n = rising_unmap point_of (point_cmp cmp) boundaries n.1
   rising_boundaries false boundaries n = rising_unmap point_of (point_cmp cmp) boundaries n
@@ -107,7 +111,8 @@ module _ {T : Type 0} (cmp : T → T → Ordering) where
   reached_by_all (JustAbove v) = refl
 
   pub held_turns : (starts : Bool) (boundaries : List (Boundary T)) (p : Point T) →
-      holds_at cmp (turns_of starts boundaries) p ≡ flips starts (is_held (point_cmp cmp) (map point_of boundaries) p)
+      holds_at cmp (turns_of starts boundaries) p ≡ flips starts
+      (is_held (point_cmp cmp) (map point_of boundaries) p)
   held_turns true boundaries p =
       ap (λ b. flips b (is_held (point_cmp cmp) (map point_of boundaries) p)) (reached_by_all p)
   held_turns false boundaries p = refl
@@ -116,15 +121,20 @@ module _ {T : Type 0} (cmp : T → T → Ordering) where
   pub held_turned : (starts : Bool) (boundaries : List (Boundary T)) (p : Point T) →
       holds_at cmp (turns_of (not starts) boundaries) p ≡ not (holds_at cmp (turns_of starts boundaries) p)
   held_turned true boundaries p =
-      sym (ap not (held_turns true boundaries p) ∙ not_not (is_held (point_cmp cmp) (map point_of boundaries) p))
+      sym (ap not (held_turns true boundaries p)
+      ∙ not_not (is_held (point_cmp cmp) (map point_of boundaries) p))
   held_turned false boundaries p = held_turns true boundaries p
 
   -- a boundary is added
   pub adds_turns : (starts : Bool) (t : Boundary T) (there : Bool) (old new : List (Boundary T)) →
       Adds (boundary_cmp cmp) t there old new →
       Adds (point_cmp cmp) (point_of t) there (turns_of starts old) (turns_of starts new)
-  adds_turns true t true old new h =
-      (point_of h.0, ap (turns_of true) h.1 ∙ ap (λ ps. BelowAll ∷ ps) (map-append point_of old (h.0 ∷ [])), h.2)
+  adds_turns true t true old new h = (
+    point_of h.0,
+    ap (turns_of true) h.1
+        ∙ ap (λ ps. BelowAll ∷ ps) (map-append point_of old (h.0 ∷ [])),
+    h.2,
+  )
   adds_turns false t true old new h =
       (point_of h.0, ap (map point_of) h.1 ∙ map-append point_of old (h.0 ∷ []), h.2)
   adds_turns starts t false old new h = ap (turns_of starts) h
@@ -149,9 +159,11 @@ module _ {T : Type 0} (cmp : T → T → Ordering) where
   sign_held : (starts : Bool) (p : Point T) → holds_at cmp (turns_of starts []) p ≡ starts
   sign_held starts p = held_turns starts [] p ∙ flips_false starts
 
-  signs : (f : Bool → Bool → Bool) (in_a in_b starts : Bool) (a b : List (Boundary T)) → starts ≡ f in_a in_b →
+  signs : (f : Bool → Bool → Bool) (in_a in_b starts : Bool) (a b : List (Boundary T)) →
+      starts ≡ f in_a in_b →
       IsNormal cmp (turns_of in_a a) → IsNormal cmp (turns_of in_b b) →
-      Joined (point_cmp cmp) f (turns_of in_a a) (turns_of in_b b) (turns_of starts []) (map point_of a) (map point_of b)
+      Joined (point_cmp cmp) f (turns_of in_a a) (turns_of in_b b) (turns_of starts []) (map point_of a)
+      (map point_of b)
       in_a in_b
   signs f in_a in_b starts a b e n m = record {
     read_a = turns_of in_a [];
@@ -173,16 +185,22 @@ module _ {T : Type 0} (cmp : T → T → Ordering) where
     out_b = signs_below starts b;
   }
 
-  pub joined_signs : (f : Bool → Bool → Bool) (x y : List (Point T)) (in_a in_b starts : Bool) (a b out : List (Boundary T)) →
-      turns_of in_a a ≡ x → turns_of in_b b ≡ y → out ≡ [] → starts ≡ f in_a in_b → IsNormal cmp x → IsNormal cmp y →
+  pub joined_signs : (f : Bool → Bool → Bool) (x y : List (Point T)) (in_a in_b starts : Bool)
+      (a b out : List (Boundary T)) →
+      turns_of in_a a ≡ x → turns_of in_b b ≡ y → out ≡ [] → starts ≡ f in_a in_b → IsNormal cmp x →
+      IsNormal cmp y →
       Joined (point_cmp cmp) f x y (turns_of starts out) (map point_of a) (map point_of b) in_a in_b
   joined_signs f x y in_a in_b starts a b out d h k e n m =
-      subst (λ u. Joined (point_cmp cmp) f u y (turns_of starts out) (map point_of a) (map point_of b) in_a in_b) d
-      (subst (λ v. Joined (point_cmp cmp) f (turns_of in_a a) v (turns_of starts out) (map point_of a) (map point_of b) in_a in_b) h
+      subst (λ u. Joined (point_cmp cmp) f u y (turns_of starts out) (map point_of a) (map point_of b) in_a
+      in_b) d
+      (subst (λ v. Joined (point_cmp cmp) f (turns_of in_a a) v (turns_of starts out) (map point_of a)
+      (map point_of b) in_a in_b) h
       (subst
-      (λ o. Joined (point_cmp cmp) f (turns_of in_a a) (turns_of in_b b) (turns_of starts o) (map point_of a) (map point_of b)
+      (λ o. Joined (point_cmp cmp) f (turns_of in_a a) (turns_of in_b b) (turns_of starts o) (map point_of a)
+      (map point_of b)
       in_a in_b)
-      (sym k) (signs f in_a in_b starts a b e (subst (IsNormal cmp) (sym d) n) (subst (IsNormal cmp) (sym h) m))))
+      (sym k) (signs f in_a in_b starts a b e (subst (IsNormal cmp) (sym d) n)
+      (subst (IsNormal cmp) (sym h) m))))
 
   -- boundaries that are equal one by one stand for the same turns
   pub turns_cmp : (starts : Bool) (a b : List (Boundary T)) →
@@ -212,4 +230,5 @@ tied_more R [] (w ∷ ys) x y e h = absurd (cc)
 tied_more R (v ∷ xs) [] x y e h = absurd (cc)
 tied_more R (v ∷ xs) (w ∷ ys) x y e h =
     let both = then_equal (R v w) (slice_cmp R xs ys) e in
-    ap (λ r. ordering_then r (slice_cmp R (xs ++ x ∷ []) (ys ++ y ∷ []))) both.0 ∙ tied_more R xs ys x y both.1 h
+    ap (λ r. ordering_then r (slice_cmp R (xs ++ x ∷ []) (ys ++ y ∷ []))) both.0
+    ∙ tied_more R xs ys x y both.1 h

@@ -1,4 +1,5 @@
--- Boundaries as the program keeps them, each at a value or just above one, and the turns that they stand for.
+-- Boundaries as the program keeps them, each at a value or just above one, and the turns that they stand
+-- for.
 use Rattle.std.specs.Prelude.{Bool, true, false, List, ◌∷◌, map}
 use Rattle.std.specs.Ordering.{on}
 use Rattle.std.specs.declared.cmp.Ordering.{Ordering}
@@ -15,7 +16,8 @@ point_of (boundary.JustAbove v) = JustAbove v
 abbrev pub boundary_cmp : {T : Type 0} → (T → T → Ordering) → Boundary T → Boundary T → Ordering
 boundary_cmp cmp = on point_of (point_cmp cmp)
 
--- the turns of a set that holds the point below all, or does not, and at each of whose boundaries membership turns
+-- the turns of a set that holds the point below all, or does not, and at each of whose boundaries membership
+-- turns
 abbrev pub turns_of : {T : Type 0} → Bool → List (Boundary T) → List (Point T)
 turns_of true boundaries = BelowAll ∷ map point_of boundaries
 turns_of false boundaries = map point_of boundaries

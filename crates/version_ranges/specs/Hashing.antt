@@ -1,4 +1,5 @@
--- What a hash is fed of a boundary: its kind and its value; and of a set: its intervals in order, and an end mark.
+-- What a hash is fed of a boundary: its kind and its value; and of a set: its intervals in order, and an end
+-- mark.
 use Rattle.std.specs.Prelude.{ℕ, List, ◌++◌}
 use Rattle.std.specs.declared.ops.Bound.{Bound}
 use Rattle.std.specs.declared.ops.Bound.TheVariants.{Included, Excluded, Unbounded}

@@ -1,4 +1,5 @@
--- Which points a set holds. A set is given by its turns: the points at which membership turns, in rising order.
+-- Which points a set holds. A set is given by its turns: the points at which membership turns, in rising
+-- order.
 use Rattle.std.specs.Prelude.{◌≡◌, Bool, List, IsTrue}
 use Rattle.std.specs.Ordering.{is_eq}
 use Rattle.std.specs.declared.cmp.Ordering.{Ordering}

@@ -1,4 +1,5 @@
--- One pass over two rising lists: what is read at a time, what is written, and which memberships a combination has.
+-- One pass over two rising lists: what is read at a time, what is written, and which memberships a
+-- combination has.
 use Rattle.std.specs.Prelude.{◌≡◌, Bool, true, false, ◌&&◌, ◌||◌, List, [], ◌∷◌, ◌++◌, IsTrue}
 use Rattle.std.specs.List.{AllByRecursion}
 use Rattle.std.specs.declared.cmp.Ordering.{Ordering}
@@ -22,7 +23,8 @@ abbrev pub Adds : {K : Type 0} → (K → K → Ordering) → K → Bool → Lis
 Adds {K} R t true old new = (x : K) × (new ≡ old ++ x ∷ []) × (R x t ≡ Equal)
 Adds R t false old new = new ≡ old
 
--- t is the first of two lists, as far as they rise: in_a and in_b tell which of them it stands in, and left_a and left_b
+-- t is the first of two lists, as far as they rise: in_a and in_b tell which of them it stands in, and
+-- left_a and left_b
 -- are left of them behind it
 pub record IsFirst {K : Type 0} (R : K → K → Ordering) (a b : List K) (t : K) (in_a in_b : Bool)
     (left_a left_b : List K) : Type 0 where

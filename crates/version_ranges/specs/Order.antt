@@ -1,4 +1,5 @@
--- The order of sets: interval by interval, first the lower bounds and then the upper ones, each by points; the first
+-- The order of sets: interval by interval, first the lower bounds and then the upper ones, each by points;
+-- the first
 -- that differ decide, and else the numbers of intervals.
 use Rattle.std.specs.Prelude.{ℕ, List, [], ◌∷◌}
 use Rattle.std.specs.declared.cmp.Ordering.{Ordering}
@@ -39,7 +40,8 @@ module _ {T : Type 0} (cmp : T → T → Ordering) where
   -- intervals by their lower bounds, and then by their upper ones
   abbrev pub interval_cmp : Bound T × Bound T → Bound T × Bound T → Ordering
   interval_cmp =
-      then_cmp (on (λ (i : Bound T × Bound T). i.0) lower_cmp) (on (λ (i : Bound T × Bound T). i.1) upper_cmp)
+      then_cmp (on (λ (i : Bound T × Bound T). i.0) lower_cmp)
+      (on (λ (i : Bound T × Bound T). i.1) upper_cmp)
 
   -- sets by their intervals in order, and then by how many there are
   abbrev pub ranges_cmp : List (Point T) → List (Point T) → Ordering

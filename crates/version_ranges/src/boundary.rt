@@ -21,7 +21,8 @@ use std::ops::Bound;
 
 /// A place at which membership in a set turns: at a value, or just above one.
 ///
-/// Equality, order and hash are those of the point: `At(v)` comes before `JustAbove(v)`, and that before `At(w)` for
+/// Equality, order and hash are those of the point: `At(v)` comes before `JustAbove(v)`, and that before
+/// `At(w)` for
 /// every `w` above `v`. Each takes one comparison or one hash of values.
 #[derive(Drop)]
 pub enum Boundary<T> {
@@ -52,7 +53,8 @@ impl<T> Boundary<T> {
 
     /// Where a lower bound begins to hold; `None` of one that holds from below all on.
     pub(crate) fn from_lower_bound(bound: Bound<T>) -> Option<Self>
-        ensures { MatchOption result (start_point bound ≡ BelowAll) (λ start. start_point bound ≡ point_of start) }
+        ensures { MatchOption result (start_point bound ≡ BelowAll)
+            (λ start. start_point bound ≡ point_of start) }
     {
         match bound {
             Bound::Included(value) => Some(Boundary::At(value)),

@@ -14,7 +14,8 @@ use crate::value::RangeValue;
 use std::marker::Model;
 use std::ops::Bound;
 
-/// The intervals of a set that are left, in order, each as its lower and its upper bound. It takes no memory.
+/// The intervals of a set that are left, in order, each as its lower and its upper bound. It takes no
+/// memory.
 #[derive(Drop)]
 pub struct Iter<'a, T> {
     /// Whether the next interval begins below all.

@@ -1,4 +1,5 @@
-//! Laws of points and of sets. Each is the contract of a function, for a proof to cite; the functions do nothing.
+//! Laws of points and of sets. Each is the contract of a function, for a proof to cite; the functions do
+//! nothing.
 ghost use Rattle.std.specs.Prelude.{◌≡◌, ◌↔◌, List, [], ◌∷◌, ◌++◌, IsTrue, MatchOption};
 ghost use Rattle.std.specs.List.{list_any};
 ghost use Rattle.std.specs.Cmp.{IsTotalOrder};
@@ -19,7 +20,8 @@ pub fn points_are_ordered<T: Ord>()
     ensures { IsTotalOrder (point_cmp T.cmp) }
 {}
 
-/// Each set of points has one normal form: two rising lists of turns that hold the same points are equal, turn by turn.
+/// Each set of points has one normal form: two rising lists of turns that hold the same points are equal,
+/// turn by turn.
 pub fn normal_form_is_unique<T: Ord>()
     ensures { (a b : List (Point T)) → IsNormal T.cmp a → IsNormal T.cmp b →
         HoldSamePoints T.cmp a b → slice_cmp (point_cmp T.cmp) a b ≡ Equal }
@@ -45,12 +47,14 @@ pub fn intervals_hold_the_set<T: Ord>()
 
 /// No point lies in two intervals of one set.
 pub fn intervals_are_apart<T: Ord>()
-    ensures { (set : List (Point T)) (before between after : List (Bound T × Bound T)) (i j : Bound T × Bound T)
-        (p : Point T) → IsNormal T.cmp set → intervals set ≡ before ++ i ∷ between ++ j ∷ after →
+    ensures { (set : List (Point T)) (before between after : List (Bound T × Bound T))
+        (i j : Bound T × Bound T) (p : Point T) → IsNormal T.cmp set →
+        intervals set ≡ before ++ i ∷ between ++ j ∷ after →
         IsTrue (is_within T.cmp i p) → ¬ (IsTrue (is_within T.cmp j p)) }
 {}
 
-/// From the first interval's lower bound to the last one's upper bound lie just the points that have a held point at or
+/// From the first interval's lower bound to the last one's upper bound lie just the points that have a held
+/// point at or
 /// before them and one at or behind them; there are no such bounds of the empty set alone.
 pub fn hull_spans_the_set<T: Ord>()
     ensures { (set : List (Point T)) → IsNormal T.cmp set →

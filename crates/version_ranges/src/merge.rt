@@ -27,7 +27,8 @@ pub struct NextBoundary<'a, T> {
     pub second: &'a [Boundary<T>],
 }
 
-/// The first boundary of two rising lists, and what is left of each; `None` where both are empty. It compares two
+/// The first boundary of two rising lists, and what is left of each; `None` where both are empty. It
+/// compares two
 /// boundaries at most, and takes no memory.
 pub fn next_boundary<'a, T: Ord>(
     first: &'a [Boundary<T>],

@@ -1,4 +1,5 @@
-//! Equality, order and hash of sets. None of them takes memory, and each is at most linear in the sets' boundaries.
+//! Equality, order and hash of sets. None of them takes memory, and each is at most linear in the sets'
+//! boundaries.
 ghost use Rattle.std.specs.Prelude.{◌≡◌, true, false, cond, List, IsTrue, ◌↔◌, fold, refl};
 ghost use Rattle.std.specs.Ordering.{eq_by_cmp, as_partial_cmp};
 ghost use Rattle.std.specs.Range.Bound.{bound_map};
@@ -49,15 +50,18 @@ impl<T: RangeValue> PartialOrd for Ranges<T> {
     }
 }
 
-/// The order of two sets that both hold the point below all, or both don't: the first boundaries that differ decide.
-/// Where one set has no further boundary, it comes last if an interval is open there, since that has no end, and else
+/// The order of two sets that both hold the point below all, or both don't: the first boundaries that differ
+/// decide.
+/// Where one set has no further boundary, it comes last if an interval is open there, since that has no end,
+/// and else
 /// first, since it has fewer intervals.
 fn compare_boundaries<T: Ord>(
     starts_held: bool,
     boundaries: &[Boundary<T>],
     others: &[Boundary<T>],
 ) -> Ordering
-    ensures { result ≡ ranges_cmp T.cmp (turns_of starts_held boundaries.now) (turns_of starts_held others.now) }
+    ensures { result ≡
+        ranges_cmp T.cmp (turns_of starts_held boundaries.now) (turns_of starts_held others.now) }
 {
     let mut inside = starts_held;
     let mut left = boundaries;
@@ -129,7 +133,8 @@ impl<T: RangeValue> Ord for Ranges<T> {
 }
 
 fn feed_bound<T: Hash, H: Hasher>(bound: Bound<&T>, state: &mut H)
-    ensures { state.new ≡ fold H.write state.old (bound_input T.hash_input (bound_map (λ v. v.now) bound.entry)) }
+    ensures { state.new ≡
+        fold H.write state.old (bound_input T.hash_input (bound_map (λ v. v.now) bound.entry)) }
 {
     match bound {
         Bound::Unbounded => state.write_u8(0),

@@ -20,7 +20,8 @@ use std::ops::Bound;
 
 /// A set of points of an order, kept as the boundaries of its intervals.
 ///
-/// Clauses see a set as the list of its turns: the points, in rising order, from each of which on membership is the
+/// Clauses see a set as the list of its turns: the points, in rising order, from each of which on membership
+/// is the
 /// other way. `holds_at` tells which points a set holds; two sets that hold the same points are equal.
 #[derive(Drop)]
 pub struct Ranges<T: RangeValue> {
@@ -44,7 +45,8 @@ impl<T: RangeValue> Model for Ranges<T> {
 }
 
 impl<T: RangeValue> Ranges<T> {
-    /// Whether the set holds the point below all, and the boundaries, in rising order, at each of which membership
+    /// Whether the set holds the point below all, and the boundaries, in rising order, at each of which
+    /// membership
     /// turns. It takes no memory and constant time.
     pub fn turns(&self) -> (bool, &[Boundary<T>])
         ensures turns { turns_of result.0 result.1.now ≡ self.now }
@@ -133,33 +135,38 @@ impl<T: RangeValue> Ranges<T> {
 
     /// What is at the value or above it.
     pub fn higher_than(alloc: Global, value: T) -> Result<Self, AllocError>
-        ensures { IfOk result (λ set. (p : Point T) → holds_at T.cmp set p ≡ starts_by T.cmp (Included value) p) }
+        ensures { IfOk result (λ set. (p : Point T) →
+            holds_at T.cmp set p ≡ starts_by T.cmp (Included value) p) }
     {
         Self::from_range_bounds(alloc, (Bound::Included(value), Bound::Unbounded))
     }
 
     /// What is above the value.
     pub fn strictly_higher_than(alloc: Global, value: T) -> Result<Self, AllocError>
-        ensures { IfOk result (λ set. (p : Point T) → holds_at T.cmp set p ≡ starts_by T.cmp (Excluded value) p) }
+        ensures { IfOk result (λ set. (p : Point T) →
+            holds_at T.cmp set p ≡ starts_by T.cmp (Excluded value) p) }
     {
         Self::from_range_bounds(alloc, (Bound::Excluded(value), Bound::Unbounded))
     }
 
     /// What is at the value or below it.
     pub fn lower_than(alloc: Global, value: T) -> Result<Self, AllocError>
-        ensures { IfOk result (λ set. (p : Point T) → holds_at T.cmp set p ≡ goes_on_to T.cmp (Included value) p) }
+        ensures { IfOk result (λ set. (p : Point T) →
+            holds_at T.cmp set p ≡ goes_on_to T.cmp (Included value) p) }
     {
         Self::from_range_bounds(alloc, (Bound::Unbounded, Bound::Included(value)))
     }
 
     /// What is below the value.
     pub fn strictly_lower_than(alloc: Global, value: T) -> Result<Self, AllocError>
-        ensures { IfOk result (λ set. (p : Point T) → holds_at T.cmp set p ≡ goes_on_to T.cmp (Excluded value) p) }
+        ensures { IfOk result (λ set. (p : Point T) →
+            holds_at T.cmp set p ≡ goes_on_to T.cmp (Excluded value) p) }
     {
         Self::from_range_bounds(alloc, (Bound::Unbounded, Bound::Excluded(value)))
     }
 
-    /// What lies between a lower and an upper bound; the empty set where the lower one is not below the upper one.
+    /// What lies between a lower and an upper bound; the empty set where the lower one is not below the
+    /// upper one.
     pub fn from_range_bounds(
         alloc: Global,
         bounds: (Bound<T>, Bound<T>),
@@ -197,7 +204,8 @@ impl<T: RangeValue> Ranges<T> {
 impl<T: RangeValue> Ranges<T> {
     /// The points that the set does not hold: one copy of the boundaries.
     pub fn complement(&self, alloc: Global) -> Result<Self, AllocError>
-        ensures { IfOk result (λ set. (p : Point T) → holds_at T.cmp set p ≡ not (holds_at T.cmp self.now p)) }
+        ensures { IfOk result (λ set. (p : Point T) →
+            holds_at T.cmp set p ≡ not (holds_at T.cmp self.now p)) }
     {
         let (starts_held, boundaries) = self.turns();
         Self::copied(alloc, !starts_held, boundaries)

@@ -14,7 +14,8 @@ pub loop-next-init : goal.loop-next-init
 loop-next-init g c = record {
   joined =
       joined_signs g.T.Ord.cmp (combined c.args.combination) c.args.first.now c.args.second.now
-      c.turns-in_first.result.0 c.turns-in_second.result.0 c.holds-starts_held.result c.turns-in_first.result.1.now
+      c.turns-in_first.result.0 c.turns-in_second.result.0 c.holds-starts_held.result
+      c.turns-in_first.result.1.now
       c.turns-in_second.result.1.now c.new-boundaries.result.items c.turns-in_first.ensures.turns
       c.turns-in_second.ensures.turns c.new-boundaries.ensures.items c.holds-starts_held.ensures
       c.turns-in_first.ensures.normal c.turns-in_second.ensures.normal;
@@ -30,12 +31,15 @@ loop-next-preserved g c =
     record {
       joined =
           rw (first, second)
-          (joined_next (points_total g.T.Ord.cmp g.met.T.Ord.total) (not (beq c.holds-inside.result c.loop-next.inside))
+          (joined_next (points_total g.T.Ord.cmp g.met.T.Ord.total)
+          (not (beq c.holds-inside.result c.loop-next.inside))
           c.loop-next.invariant.joined (first_map point_of (point_cmp g.T.Ord.cmp) c.in-Some.ensures)
           (adds_turns g.T.Ord.cmp c.holds-starts_held.result next.boundary.now
-          (not (beq c.holds-inside.result c.loop-next.inside)) c.loop-next.boundaries.items c.push_if.new.boundaries.items
+          (not (beq c.holds-inside.result c.loop-next.inside)) c.loop-next.boundaries.items
+          c.push_if.new.boundaries.items
           c.in_ok-push_if.ensures)
-          (ap (λ was. flips was (not (beq c.holds-inside.result c.loop-next.inside))) (sym c.loop-next.invariant.inside)
+          (ap (λ was. flips was (not (beq c.holds-inside.result c.loop-next.inside)))
+          (sym c.loop-next.invariant.inside)
           ∙ changes c.loop-next.inside c.holds-inside.result ∙ now));
       inside = c.holds-inside.ensures;
     }

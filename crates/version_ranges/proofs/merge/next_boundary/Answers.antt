@@ -19,17 +19,20 @@ returns-in-Some-None g c =
 pub returns-in-Less : goal.returns-in-Less
 returns-in-Less g c =
     let arm = c.in-Some-Some in
-    first_less (boundaries_total g.T.Ord.cmp g.met.T.Ord.total) arm.boundary.now arm.other.now _ _ arm.behind.now
+    first_less (boundaries_total g.T.Ord.cmp g.met.T.Ord.total) arm.boundary.now arm.other.now _ _
+    arm.behind.now
     arm.other_behind.now arm.ensures.cases.0 arm.ensures'.cases.0 (sym c.in-Less.ensures)
 
 pub returns-in-Equal : goal.returns-in-Equal
 returns-in-Equal g c =
     let arm = c.in-Some-Some in
-    first_equal (boundaries_total g.T.Ord.cmp g.met.T.Ord.total) arm.boundary.now arm.other.now _ _ arm.behind.now
+    first_equal (boundaries_total g.T.Ord.cmp g.met.T.Ord.total) arm.boundary.now arm.other.now _ _
+    arm.behind.now
     arm.other_behind.now arm.ensures.cases.0 arm.ensures'.cases.0 (sym c.in-Equal.ensures)
 
 pub returns-in-Greater : goal.returns-in-Greater
 returns-in-Greater g c =
     let arm = c.in-Some-Some in
-    first_greater (boundaries_total g.T.Ord.cmp g.met.T.Ord.total) arm.boundary.now arm.other.now _ _ arm.behind.now
+    first_greater (boundaries_total g.T.Ord.cmp g.met.T.Ord.total) arm.boundary.now arm.other.now _ _
+    arm.behind.now
     arm.other_behind.now arm.ensures.cases.0 arm.ensures'.cases.0 (sym c.in-Greater.ensures)

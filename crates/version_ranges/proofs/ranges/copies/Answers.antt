@@ -14,5 +14,6 @@ loop-boundary-preserved g c =
     take_more list index item c.loop-boundary-test.true
     ∙ ap (λ later. take index list ++ later ∷ []) (sym c.boundary-item.is) in
     (λ i. slice_cmp (boundary_cmp g.T.Ord.cmp) (c.in_ok-push.ensures.items i) (next i))
-    ∙ tied_more (boundary_cmp g.T.Ord.cmp) c.loop-boundary.copies.items (take index list) c.in_ok-try_clone.field-0 item
+    ∙ tied_more (boundary_cmp g.T.Ord.cmp) c.loop-boundary.copies.items (take index list)
+    c.in_ok-try_clone.field-0 item
     c.loop-boundary.invariant c.in_ok-try_clone.ensures

@@ -10,11 +10,13 @@ returns-then-starts_held-clause-points g c =
     let turns = c.turns-starts_held in
     single_answer g.T.Ord.cmp g.met.T.Ord.total c.args.self.now turns.ensures.normal None
     (ap (single_value g.T.Ord.cmp)
-    (turns_at turns.result.0 true turns.result.1.now c.args.self.now c.if-starts_held.true turns.ensures.turns))
+    (turns_at turns.result.0 true turns.result.1.now c.args.self.now c.if-starts_held.true
+    turns.ensures.turns))
 
 pub returns-else-starts_held-clause-points : goal.returns-else-starts_held-clause-points
 returns-else-starts_held-clause-points g c =
     let turns = c.turns-starts_held in
     single_answer g.T.Ord.cmp g.met.T.Ord.total c.args.self.now turns.ensures.normal c.only_value.result
     (c.only_value.ensures ∙ ap (single_value g.T.Ord.cmp)
-    (turns_at turns.result.0 false turns.result.1.now c.args.self.now c.if-starts_held.false turns.ensures.turns))
+    (turns_at turns.result.0 false turns.result.1.now c.args.self.now c.if-starts_held.false
+    turns.ensures.turns))

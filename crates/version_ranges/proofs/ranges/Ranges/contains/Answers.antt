@@ -13,6 +13,7 @@ returns g c =
     c.partition_point-reached.result turns.ensures.turns c.partition_point-reached.ensures.bound
     (IsPartitionPoint-from_clause (λ b. reaches (point_cmp g.T.Ord.cmp) (point_of b) (At c.args.value.now))
     turns.result.1.now c.partition_point-reached.result c.partition_point-reached.ensures.partitioned
-    (partitioned g.T.Ord.cmp g.met.T.Ord.total turns.result.0 turns.result.1.now c.args.self.now (At c.args.value.now)
+    (partitioned g.T.Ord.cmp g.met.T.Ord.total turns.result.0 turns.result.1.now c.args.self.now
+    (At c.args.value.now)
     turns.ensures.turns turns.ensures.normal)
     (λ a r f h. search rules))

@@ -13,7 +13,8 @@ returns-then-starts_held g c =
 pub returns : goal.returns
 returns g c =
     let turns = c.turns-starts_held in
-    empty_turns g.T.Ord.cmp g.met.T.Ord.total turns.result.0 turns.result.1.now c.args.self.now c.is_empty.result
+    empty_turns g.T.Ord.cmp g.met.T.Ord.total turns.result.0 turns.result.1.now c.args.self.now
+    c.is_empty.result
     turns.ensures.turns turns.ensures.normal
     (c.is_empty.ensures
     ∙ sym (ap (λ sign. not sign && (length turns.result.1.now == 0)) c.if-starts_held.false))
