@@ -6,10 +6,10 @@ use Rattle.version_ranges.specs.Point.{At}
 use Rattle.pep440_version.specs.Record.{Segment, VersionRecord}
 use Rattle.pep440_version.specs.Changes.{is_prerelease}
 use Rattle.pep440_version.specs.Order.{version_cmp, version_cmp_total}
-use Rattle.pep440_specifier.specs.declared.operator.Operator.{Operator}
-use Rattle.pep440_specifier.specs.declared.operator.Operator.TheVariants.{Equal, EqualStar, ExactEqual, NotEqual, NotEqualStar, TildeEqual, LessThan, LessThanEqual, GreaterThan, GreaterThanEqual}
+use Rattle.pep440_operator.specs.declared.operator.Operator.{Operator}
+use Rattle.pep440_operator.specs.declared.operator.Operator.TheVariants.{Equal, EqualStar, ExactEqual, NotEqual, NotEqualStar, TildeEqual, LessThan, LessThanEqual, GreaterThan, GreaterThanEqual}
 use Rattle.pep440_specifier.specs.Matching.{seen_beside, candidate_cmp, same_release, has_front, without_last, matches}
-use Rattle.pep440_specifier.specs.Building.{takes_local}
+use Rattle.pep440_operator.specs.Operators.{takes_local}
 use Rattle.pep440_range.specs.Ranges.{PointTest, at_version, from_bound, to_bound, all_but, star_range, end_of_less, range_by}
 use Rattle.pep440_range.specs.Agreement.{IsSaid, Agrees}
 use Rattle.pep440_range.proofs.Orderings.{turned_not_greater, not_greater, mapped_from}

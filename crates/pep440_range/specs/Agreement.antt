@@ -1,8 +1,8 @@
 -- Where ranges and matching agree.
 use Rattle.std.specs.Prelude.{◌≡◌, ◌⊎◌, false, None}
 use Rattle.pep440_version.specs.Record.{VersionRecord}
-use Rattle.pep440_specifier.specs.declared.operator.Operator.{Operator}
-use Rattle.pep440_specifier.specs.declared.operator.Operator.TheVariants.{Equal, EqualStar, ExactEqual, NotEqual, NotEqualStar, TildeEqual, LessThan, LessThanEqual, GreaterThan, GreaterThanEqual}
+use Rattle.pep440_operator.specs.declared.operator.Operator.{Operator}
+use Rattle.pep440_operator.specs.declared.operator.Operator.TheVariants.{Equal, EqualStar, ExactEqual, NotEqual, NotEqualStar, TildeEqual, LessThan, LessThanEqual, GreaterThan, GreaterThanEqual}
 use Rattle.pep440_specifier.specs.Matching.{same_release}
 
 -- a version as texts say it marks no end of a range
