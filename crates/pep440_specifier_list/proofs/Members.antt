@@ -1,7 +1,8 @@
 -- The members of a list that was read.
 use Rattle.std.proofs.Common.{
-  ◌≡◌, ℕ, suc, zero, ◌+◌, ◌<◌, ◌&&◌, ◌⊎◌, not, Bool, true, false, cond, List, [], ◌∷◌, length, get_or, All, Option, Some,
+  ◌≡◌, ℕ, suc, zero, ◌+◌, ◌<◌, ◌==◌, ◌&&◌, ◌⊎◌, not, Bool, true, false, cond, List, [], ◌∷◌, length, get_or, All, Option, Some,
   inl, inr, refl, sym, ap, subst, ◌∙◌, arith}
+use Rattle.std.proofs.lemmas.Bool.Decides.{nat_tests}
 use Rattle.std.specs.Cmp.{tied_itself}
 use Rattle.std.specs.List.{AllByRecursion, filter}
 use Rattle.std.specs.List.Sorted.{ties}
@@ -90,10 +91,15 @@ none_read : (given : List SpecifierRecord) → Some [] ≡ Some given → AllByR
 none_read [] h = tt
 none_read (x ∷ xs) h = absurd (cc)
 
+some_length : (n : ℕ) → 0 < n → (n == 0) ≡ false
+some_length n h = grind (arith, nat_tests)
+
 given_read : (text : List ℕ) (given : List SpecifierRecord) → specifiers_of text ≡ Some given
   → AllByRecursion IsReadFromText given
 given_read [] given h = none_read given (sym nothing_read ∙ h)
-given_read (b ∷ bs) given h = pieces_read (pieces_of (b ∷ bs)) given (sym (whole (b ∷ bs) refl) ∙ h)
+given_read (b ∷ bs) given h =
+    let long : 0 < length (b ∷ bs) = omega arith in
+    pieces_read (pieces_of (b ∷ bs)) given (sym (whole (b ∷ bs) (some_length (length (b ∷ bs)) long)) ∙ h)
 
 pub members_read : (text : List ℕ) (given members : List SpecifierRecord) → specifiers_of text ≡ Some given
   → IsInOrder given members → All IsReadFromText members
