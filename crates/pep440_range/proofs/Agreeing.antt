@@ -24,7 +24,7 @@ seen (segment ∷ segments) candidate plain = refl
 seen_cmp : (version candidate : VersionRecord) → candidate.local ≡ [] → version_cmp candidate version ≡ candidate_cmp version candidate
 seen_cmp version candidate plain = ap (λ (other : VersionRecord). version_cmp other version) (seen version.local candidate plain)
 
-holds_as : (test range : PointTest) (candidate : VersionRecord) → Some test ≡ Some range → range (At candidate) ≡ test (At candidate)
+pub holds_as : (test range : PointTest) (candidate : VersionRecord) → Some test ≡ Some range → range (At candidate) ≡ test (At candidate)
 holds_as test range candidate e = let same : test ≡ range = cc in ap (λ (r : PointTest). r (At candidate)) (sym same)
 
 pub agrees : (operator : Operator) (version candidate : VersionRecord) (range : PointTest) → (takes_local operator ≡ false → version.local ≡ []) → IsSaid version → IsSaid candidate → candidate.local ≡ [] → Agrees operator version candidate → range_by operator version ≡ Some range → range (At candidate) ≡ matches operator version candidate

@@ -1,6 +1,6 @@
 mod Raised
 mod Answered
-mod Cut
+mod Halves
 pub mod Orderings
 pub mod Prefixes
 pub mod Fronts
@@ -8,3 +8,11 @@ pub mod Stars
 pub mod Tails
 pub mod Sides
 pub mod Agreeing
+pub mod Lists
+pub mod ReleaseRanges
+pub mod Complements
+pub mod NextNumbers
+pub mod Intervals
+pub mod Unions
+pub mod InOrder
+pub mod Neither

@@ -39,10 +39,26 @@ regroup Less p q = refl
 regroup Equal p q = refl
 regroup Greater p q = refl
 
+pub then_level : (o : Ordering) → ordering_then o Equal ≡ o
+then_level Less = refl
+then_level Equal = refl
+then_level Greater = refl
+
+-- just above one place, what is not reached lies behind it
+pub not_from : (o : Ordering) → not (is_gt (ordering_then o Greater)) ≡ is_lt o
+not_from Less = refl
+not_from Equal = refl
+not_from Greater = refl
+
 pub both_equal : (o p : Ordering) → (is_eq o && is_eq p) ≡ is_eq (ordering_then o p)
 both_equal Less p = refl
 both_equal Equal p = refl
 both_equal Greater p = refl
+
+pub equal_first : (o p : Ordering) → ordering_then o p ≡ Equal → o ≡ Equal
+equal_first Less p h = h
+equal_first Equal p h = refl
+equal_first Greater p h = h
 
 pub neither_greater : (o p : Ordering) → is_gt o ≡ false → is_gt p ≡ false → is_gt (ordering_then o p) ≡ false
 neither_greater Less p h k = refl

@@ -12,7 +12,7 @@ use Rattle.pep440_specifier.specs.Matching.{same_release}
 use Rattle.pep440_range.specs.Numbers.{raised}
 use Rattle.pep440_range.specs.Ranges.{PointTest, from_bound, end_of_less, greater_range}
 use Rattle.pep440_range.specs.Agreement.{IsSaid, AreApart}
-use Rattle.pep440_range.proofs.Orderings.{turned_greater, last_not_greater, and_true, neither, is_none, mapped_from}
+use Rattle.pep440_range.proofs.Orderings.{turned_greater, not_from, last_not_greater, and_true, neither, is_none, mapped_from}
 use Rattle.pep440_range.proofs.Prefixes.{raised_is}
 use Rattle.pep440_range.proofs.Fronts.{tail_of, tail_key, tail_cmp, front_cmp, rest_of, by_front, same_front, before, said_tail}
 use Rattle.pep440_range.proofs.Tails.{least_not_above, below_final, dev_raised, none_behind}
@@ -52,7 +52,7 @@ below_is_prerelease version candidate said plain other_said other_plain apart fi
     below_final candidate.pre candidate.dev (sym (λ i. is_gt (key_cmp (left i) (right i))) ∙ h)
 
 -- the place below all of a release
-before_least : (version candidate : VersionRecord) → IsSaid candidate → candidate.local ≡ [] → is_lt (version_cmp candidate (record version { least = Some 0 })) ≡ is_gt (front_cmp version candidate)
+pub before_least : (version candidate : VersionRecord) → IsSaid candidate → candidate.local ≡ [] → is_lt (version_cmp candidate (record version { least = Some 0 })) ≡ is_gt (front_cmp version candidate)
 before_least version candidate said plain =
     let end : VersionRecord = record version { least = Some 0 } in
     let rest : List (List ℕ) = rest_of version.pre version.post version.dev (Some 0) version.most version.local in
@@ -86,12 +86,7 @@ from_by_front Greater t u x h = refl
 
 behind_by_front : (f t u : Ordering) (x : Bool) → (f ≡ Equal → is_lt t ≡ (is_lt u && not x)) → not (is_gt (ordering_then (ordering_then f t) Greater)) ≡ (is_lt (ordering_then f u) && not (is_eq f && x))
 behind_by_front Less t u x h = refl
-behind_by_front Equal t u x h = excluded t ∙ h refl
-  where
-    excluded : (o : Ordering) → not (is_gt (ordering_then o Greater)) ≡ is_lt o
-    excluded Less = refl
-    excluded Equal = refl
-    excluded Greater = refl
+behind_by_front Equal t u x h = not_from t ∙ h refl
 behind_by_front Greater t u x h = refl
 
 -- whether only the candidate is a post-release

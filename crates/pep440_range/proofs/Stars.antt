@@ -49,7 +49,7 @@ star_agrees version candidate range said plain e =
 
 -- ---- compatible releases
 
-joined : (a b c : Bool) → (b ≡ false → a ≡ false) → (a && c) ≡ ((b && c) && a)
+pub joined : (a b c : Bool) → (b ≡ false → a ≡ false) → (a && c) ≡ ((b && c) && a)
 joined true true true f = refl
 joined true true false f = refl
 joined true false c f = absurd (true≢false (f refl))

@@ -2,8 +2,12 @@
 use Rattle.std.specs.Prelude.{◌≡◌, ◌⊎◌, false, None}
 use Rattle.pep440_version.specs.Record.{VersionRecord}
 use Rattle.pep440_operator.specs.declared.operator.Operator.{Operator}
-use Rattle.pep440_operator.specs.declared.operator.Operator.TheVariants.{Equal, EqualStar, ExactEqual, NotEqual, NotEqualStar, TildeEqual, LessThan, LessThanEqual, GreaterThan, GreaterThanEqual}
-use Rattle.pep440_specifier.specs.Matching.{same_release}
+use Rattle.pep440_operator.specs.declared.operator.Operator.TheVariants.{Equal, EqualStar, ExactEqual}
+use Rattle.pep440_operator.specs.declared.operator.Operator.TheVariants.{NotEqual, NotEqualStar, TildeEqual}
+use Rattle.pep440_operator.specs.declared.operator.Operator.TheVariants.{LessThan, LessThanEqual}
+use Rattle.pep440_operator.specs.declared.operator.Operator.TheVariants.{GreaterThan, GreaterThanEqual}
+use Rattle.pep440_specifier.specs.Building.{IsBuilt}
+use Rattle.pep440_specifier.specs.Matching.{SpecifierRecord, same_release}
 
 -- a version as texts say it marks no end of a range
 pub record IsSaid (version : VersionRecord) : Type 0 where
@@ -12,10 +16,11 @@ pub record IsSaid (version : VersionRecord) : Type 0 where
 
 -- two versions of different epochs or releases, or of which neither is a post-release
 abbrev pub AreApart : VersionRecord → VersionRecord → Type 0
-AreApart version candidate = (same_release version candidate ≡ false) ⊎ ((version.post ≡ None) × (candidate.post ≡ None))
+AreApart version candidate =
+    (same_release version candidate ≡ false) ⊎ ((version.post ≡ None) × (candidate.post ≡ None))
 
--- where an operator's range holds just the versions that it takes: nowhere for `===`, which goes by prints, and beside `<`
--- and `>` apart from post-releases of one release
+-- where an operator's range holds just the versions that it takes: nowhere for `===`, which goes by prints,
+-- and beside `<` and `>` apart from post-releases of one release
 abbrev pub Agrees : Operator → VersionRecord → VersionRecord → Type 0
 Agrees Equal version candidate = Unit {0}
 Agrees EqualStar version candidate = Unit {0}
@@ -27,3 +32,29 @@ Agrees LessThan version candidate = AreApart version candidate
 Agrees LessThanEqual version candidate = Unit {0}
 Agrees GreaterThan version candidate = AreApart version candidate
 Agrees GreaterThanEqual version candidate = Unit {0}
+
+-- where it does so for each candidate that is no post-release: not for `===`, nor for a post-release beside
+-- `<` and `>`
+abbrev pub AgreesBesidePosts : Operator → VersionRecord → Type 0
+AgreesBesidePosts Equal version = Unit {0}
+AgreesBesidePosts EqualStar version = Unit {0}
+AgreesBesidePosts ExactEqual version = ⊥
+AgreesBesidePosts NotEqual version = Unit {0}
+AgreesBesidePosts NotEqualStar version = Unit {0}
+AgreesBesidePosts TildeEqual version = Unit {0}
+AgreesBesidePosts LessThan version = version.post ≡ None
+AgreesBesidePosts LessThanEqual version = Unit {0}
+AgreesBesidePosts GreaterThan version = version.post ≡ None
+AgreesBesidePosts GreaterThanEqual version = Unit {0}
+
+-- a specifier as texts say it, which agrees with its range at a candidate
+pub record IsAgreeing (candidate : VersionRecord) (specifier : SpecifierRecord) : Type 0 where
+  pub built : IsBuilt specifier
+  pub said : IsSaid specifier.version
+  pub agrees : Agrees specifier.operator specifier.version candidate
+
+-- a specifier as texts say it, without `===` and without a post-release beside `<` or `>`
+pub record IsWithoutPosts (specifier : SpecifierRecord) : Type 0 where
+  pub built : IsBuilt specifier
+  pub said : IsSaid specifier.version
+  pub agrees : AgreesBesidePosts specifier.operator specifier.version

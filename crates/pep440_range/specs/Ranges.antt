@@ -1,6 +1,7 @@
--- The points that specifiers hold: by PEP 440, "Version specifiers", and among releases alone. A range is missing where a
--- number that has to be raised is the greatest of 64 bits.
-use Rattle.std.specs.Prelude.{◌≡◌, ℕ, Bool, true, false, not, if◌then◌else◌, List, Option, Some, None, Result, Ok, Err}
+-- The points that specifiers hold: by PEP 440, "Version specifiers", and among releases alone. A range is
+-- missing where a number that has to be raised is the greatest of 64 bits.
+use Rattle.std.specs.Prelude.{◌≡◌, ℕ, Bool, true, false, not, if◌then◌else◌, List}
+use Rattle.std.specs.Prelude.{Option, Some, None, Result, Ok, Err}
 use Rattle.std.specs.Option.{option_map, is_some}
 use Rattle.std.specs.List.{list_all}
 use Rattle.std.specs.Ordering.{is_eq}
@@ -13,7 +14,10 @@ use Rattle.pep440_version.specs.Record.{VersionRecord, release_record, epoch_rec
 use Rattle.pep440_version.specs.Changes.{is_prerelease}
 use Rattle.pep440_version.specs.Order.{version_cmp}
 use Rattle.pep440_operator.specs.declared.operator.Operator.{Operator}
-use Rattle.pep440_operator.specs.declared.operator.Operator.TheVariants.{Equal, EqualStar, ExactEqual, NotEqual, NotEqualStar, TildeEqual, LessThan, LessThanEqual, GreaterThan, GreaterThanEqual}
+use Rattle.pep440_operator.specs.declared.operator.Operator.TheVariants.{Equal, EqualStar, ExactEqual}
+use Rattle.pep440_operator.specs.declared.operator.Operator.TheVariants.{NotEqual, NotEqualStar, TildeEqual}
+use Rattle.pep440_operator.specs.declared.operator.Operator.TheVariants.{LessThan, LessThanEqual}
+use Rattle.pep440_operator.specs.declared.operator.Operator.TheVariants.{GreaterThan, GreaterThanEqual}
 use Rattle.pep440_specifier.specs.Matching.{SpecifierRecord, without_last}
 use Rattle.pep440_range.specs.declared.range_error.RangeError.{RangeError}
 use Rattle.pep440_range.specs.declared.range_error.RangeError.TheVariants.{NumberAtEnd, Memory}
@@ -49,20 +53,27 @@ first_of epoch numbers = record (epoch_record epoch numbers) { dev = Some 0 }
 
 -- what begins with the release numbers of a version of epoch and release alone
 abbrev pub star_range : VersionRecord → Option PointTest
-star_range version = option_map (λ end. up_to (first_of version.epoch version.release) (first_of version.epoch end)) (last_raised version.release)
+star_range version =
+    option_map (λ end. up_to (first_of version.epoch version.release) (first_of version.epoch end))
+    (last_raised version.release)
 
 -- a version and what comes behind it, as far as all its release numbers but the last are kept
 abbrev pub compatible_range : VersionRecord → Option PointTest
-compatible_range version = option_map (λ end. up_to version (first_of version.epoch end)) (last_raised (without_last version.release))
+compatible_range version =
+    option_map (λ end. up_to version (first_of version.epoch end))
+    (last_raised (without_last version.release))
 
 -- what comes before a version, without the pre-releases of one that is none
 abbrev pub end_of_less : VersionRecord → VersionRecord
 end_of_less version = if is_prerelease version then version else record version { least = Some 0 }
 
--- what comes behind a version: behind a developmental or a post-release its next one, and else what is no post-release of it
+-- what comes behind a version: behind a developmental or a post-release its next one, and else what is no
+-- post-release of it
 abbrev pub greater_range : VersionRecord → Option ℕ → Option ℕ → Option PointTest
-greater_range version (Some dev) post = option_map (λ next. from_bound (Included (record version { dev = Some next }))) (raised dev)
-greater_range version None (Some post) = option_map (λ next. from_bound (Included (record version { post = Some next }))) (raised post)
+greater_range version (Some dev) post =
+    option_map (λ next. from_bound (Included (record version { dev = Some next }))) (raised dev)
+greater_range version None (Some post) =
+    option_map (λ next. from_bound (Included (record version { post = Some next }))) (raised post)
 greater_range version None None = Some (from_bound (Excluded (record version { most = Some 0 })))
 
 -- the range of an operator and a version
@@ -85,10 +96,13 @@ range_of specifier = range_by specifier.operator specifier.version
 
 -- what begins with some release numbers
 abbrev pub star_releases : List ℕ → Option PointTest
-star_releases release = option_map (λ end. up_to (release_record release) (release_record end)) (last_raised release)
+star_releases release =
+    option_map (λ end. up_to (release_record release) (release_record end)) (last_raised release)
 
 abbrev pub compatible_releases : List ℕ → Option PointTest
-compatible_releases release = option_map (λ end. up_to (release_record release) (release_record end)) (last_raised (without_last release))
+compatible_releases release =
+    option_map (λ end. up_to (release_record release) (release_record end))
+    (last_raised (without_last release))
 
 -- the range of an operator and release numbers
 abbrev pub release_range_by : Operator → List ℕ → Option PointTest
@@ -114,15 +128,23 @@ abbrev pub range_holds : Option PointTest → Point VersionRecord → Bool
 range_holds None p = false
 range_holds (Some test) p = test p
 
--- an answer holds the points of the range, and is refused where there is none; only want of memory leaves both open
+-- all ranges hold a point
+abbrev pub all_hold : List (Option PointTest) → PointTest
+all_hold ranges p = list_all (λ range. range_holds range p) ranges
+
+-- an answer holds the points of the range, and is refused where there is none; only want of memory leaves
+-- both open
 abbrev pub Gives : Result (List (Point VersionRecord)) RangeError → Option PointTest → Type 0
-Gives (Ok set) range = (is_some range ≡ true) × ((p : Point VersionRecord) → holds_at version_cmp set p ≡ range_holds range p)
+Gives (Ok set) range =
+    (is_some range ≡ true)
+    × ((p : Point VersionRecord) → holds_at version_cmp set p ≡ range_holds range p)
 Gives (Err NumberAtEnd) range = is_some range ≡ false
 Gives (Err Memory) range = Unit {0}
 
 -- an answer holds the points that are in all of the ranges, and is refused where one is missing
 abbrev pub GivesAll : Result (List (Point VersionRecord)) RangeError → List (Option PointTest) → Type 0
 GivesAll (Ok set) ranges =
-    (list_all is_some ranges ≡ true) × ((p : Point VersionRecord) → holds_at version_cmp set p ≡ list_all (λ range. range_holds range p) ranges)
+    (list_all is_some ranges ≡ true)
+    × ((p : Point VersionRecord) → holds_at version_cmp set p ≡ all_hold ranges p)
 GivesAll (Err NumberAtEnd) ranges = list_all is_some ranges ≡ false
 GivesAll (Err Memory) ranges = Unit {0}

@@ -1,12 +1,11 @@
 //! The ranges of PEP 440.
 
-ghost use Rattle.std.specs.Prelude.{◌≡◌, ◌<◌, ◌≤◌, length, map, IfOk};
-ghost use Rattle.pep440_range.specs.Ranges.{Gives, GivesAll, range_of, range_by, first_of, star_range, compatible_range, greater_range, end_of_less};
+ghost use Rattle.std.specs.Prelude.{◌≡◌, ◌<◌, ◌≤◌, length, IfOk};
+ghost use Rattle.pep440_range.specs.Ranges.{Gives, range_of, range_by, first_of, star_range, compatible_range, greater_range, end_of_less};
 
 use crate::numbers::{last_raised, raised};
 use crate::{RangeError, sets};
 use pep440_specifier::{Operator, VersionSpecifier};
-use pep440_specifier_list::VersionSpecifiers;
 use pep440_version::Version;
 use std::alloc::{AllocError, Global};
 use version_ranges::Ranges;
@@ -14,15 +13,15 @@ use version_ranges::Ranges;
 /// The range of a specifier (PEP 440, "Version specifiers"), with the bounds that `range_of` names; `NumberAtEnd` where
 /// a number of a bound would have to be greater than `u64::MAX`.
 ///
-/// Goes a fixed number of times through the version. Takes memory for the bounds.
+/// Goes a fixed number of times through the version. Takes memory for the bounds and a copy of the version.
 pub fn specifier_to_range(
     alloc: Global,
-    specifier: VersionSpecifier,
+    specifier: &VersionSpecifier,
 ) -> Result<Ranges<Version>, RangeError>
-    ensures { Gives result (range_of specifier) }
+    ensures { Gives result (range_of specifier.now) }
 {
-    let (operator, version) = specifier.into_parts();
-    range_by(alloc, operator, version)
+    let version = specifier.version().try_clone(alloc)?;
+    range_by(alloc, specifier.operator(), version)
 }
 
 /// The range of an operator and a version.
@@ -45,22 +44,6 @@ fn range_by(
         Operator::GreaterThan => greater_range(alloc, version),
         Operator::GreaterThanEqual => sets::from(alloc, version),
     }
-}
-
-/// What is in the ranges of all members.
-///
-/// Each member's range is cut with what the members before it left, in one pass over both.
-pub fn specifiers_to_range(
-    alloc: Global,
-    specifiers: VersionSpecifiers,
-) -> Result<Ranges<Version>, RangeError>
-    ensures { GivesAll result (map range_of specifiers) }
-{
-    let mut range = Ranges::full(alloc)?;
-    for specifier in specifiers.into_iter() {
-        range = range.intersection(alloc, &specifier_to_range(alloc, specifier)?)?;
-    }
-    Ok(range)
 }
 
 /// The first developmental release of an epoch and release numbers.

@@ -9,10 +9,9 @@ mod numbers;
 mod range_error;
 mod releases;
 mod sets;
+mod shared;
 
-pub use conversion::{specifier_to_range, specifiers_to_range};
+pub use conversion::specifier_to_range;
 pub use range_error::RangeError;
-pub use releases::{release_specifier_to_range, release_specifiers_to_ranges};
-
-#[cfg(test)]
-mod tests;
+pub use releases::release_specifier_to_range;
+pub use shared::{release_specifiers_to_ranges, specifiers_to_range};

@@ -1,13 +1,12 @@
 //! The ranges among releases alone: epochs, suffixes and local parts are dropped.
 
-ghost use Rattle.std.specs.Prelude.{◌≡◌, ◌<◌, ◌≤◌, length, map, IfOk};
+ghost use Rattle.std.specs.Prelude.{◌≡◌, ◌<◌, ◌≤◌, length, IfOk};
 ghost use Rattle.pep440_version.specs.Record.{release_record};
-ghost use Rattle.pep440_range.specs.Ranges.{Gives, GivesAll, release_range_of, release_range_by, star_releases, compatible_releases};
+ghost use Rattle.pep440_range.specs.Ranges.{Gives, release_range_of, release_range_by, star_releases, compatible_releases};
 
 use crate::numbers::last_raised;
 use crate::{RangeError, sets};
 use pep440_specifier::{Operator, VersionSpecifier};
-use pep440_specifier_list::VersionSpecifiers;
 use pep440_version::Version;
 use std::alloc::Global;
 use version_ranges::Ranges;
@@ -18,12 +17,12 @@ use version_ranges::Ranges;
 /// Goes a fixed number of times through the version. Takes memory for the bounds.
 pub fn release_specifier_to_range(
     alloc: Global,
-    specifier: VersionSpecifier,
+    specifier: &VersionSpecifier,
 ) -> Result<Ranges<Version>, RangeError>
-    ensures { Gives result (release_range_of specifier) }
+    ensures { Gives result (release_range_of specifier.now) }
 {
-    let (operator, version) = specifier.into_parts();
-    release_range_by(alloc, operator, version.only_release(alloc)?)
+    let release = specifier.version().only_release(alloc)?;
+    release_range_by(alloc, specifier.operator(), release)
 }
 
 /// The range of an operator and a release.
@@ -47,22 +46,6 @@ fn release_range_by(
         Operator::GreaterThan => sets::above(alloc, release),
         Operator::GreaterThanEqual => sets::from(alloc, release),
     }
-}
-
-/// What is in the ranges among releases of all members.
-///
-/// Each member's range is cut with what the members before it left, in one pass over both.
-pub fn release_specifiers_to_ranges(
-    alloc: Global,
-    specifiers: VersionSpecifiers,
-) -> Result<Ranges<Version>, RangeError>
-    ensures { GivesAll result (map release_range_of specifiers) }
-{
-    let mut range = Ranges::full(alloc)?;
-    for specifier in specifiers.into_iter() {
-        range = range.intersection(alloc, &release_specifier_to_range(alloc, specifier)?)?;
-    }
-    Ok(range)
 }
 
 /// The releases that begin with this one.

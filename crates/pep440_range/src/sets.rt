@@ -1,8 +1,12 @@
 //! The sets that ranges are made of, with the error of ranges.
 
-ghost use Rattle.std.specs.Prelude.{Option, Some, Ok};
+ghost use Rattle.std.specs.Prelude.{◌≡◌, ◌&&◌, Option, Some, Ok, IfOk, IfErr};
 ghost use Rattle.std.specs.Option.{option_map};
 ghost use Rattle.std.specs.declared.ops.Bound.TheVariants.{Included, Excluded};
+ghost use Rattle.version_ranges.specs.Point.{Point};
+ghost use Rattle.version_ranges.specs.Held.{holds_at};
+ghost use Rattle.pep440_version.specs.Record.{VersionRecord};
+ghost use Rattle.pep440_version.specs.Order.{version_cmp};
 ghost use Rattle.pep440_range.specs.Ranges.{PointTest, Gives, all_but, at_version, from_bound, to_bound, up_to};
 
 use crate::RangeError;
@@ -63,10 +67,25 @@ pub(crate) fn all_but(
     alloc: Global,
     range: Result<Ranges<Version>, RangeError>,
 ) -> Result<Ranges<Version>, RangeError>
-    ensures { (wanted : Option PointTest) → Gives range wanted → Gives result (option_map all_but wanted) }
+    ensures { (wanted : Option PointTest) →
+        Gives range wanted → Gives result (option_map all_but wanted) }
 {
     match range {
         Ok(range) => Ok(range.complement(alloc)?),
         Err(error) => Err(error),
     }
+}
+
+/// What two ranges share.
+pub(crate) fn both(
+    alloc: Global,
+    range: &Ranges<Version>,
+    other: &Ranges<Version>,
+) -> Result<Ranges<Version>, RangeError>
+    ensures points { IfOk result (λ set. (p : Point VersionRecord) →
+        holds_at version_cmp set p
+        ≡ (holds_at version_cmp range.now p && holds_at version_cmp other.now p)) }
+    ensures memory { IfErr result (λ error. error ≡ RangeError.Memory) }
+{
+    Ok(range.intersection(alloc, other)?)
 }

@@ -32,6 +32,8 @@ pub use Rattle.pep440_specifier_list.specs.Places
 pub use Rattle.pep440_range.specs.Numbers
 pub use Rattle.pep440_range.specs.Ranges
 pub use Rattle.pep440_range.specs.Agreement
+pub use Rattle.pep440_range.specs.Complements
+pub use Rattle.pep440_range.specs.Intervals
 pub use Rattle.pep440_range.specs.ErrorPrint
 pub use Rattle.pep440_specifier.specs.Bounds
 pub use Rattle.pep440_specifier_list.specs.ListBounds
