@@ -8,6 +8,10 @@ pub use Rattle.pep440_version.specs.PatternOrder
 pub use Rattle.pep440_version.specs.ParseErrors
 pub use Rattle.pep440_version.specs.FaultTexts
 pub use Rattle.pep440_version.specs.Values
+pub use Rattle.pep440_operator.specs.Operators
+pub use Rattle.pep440_operator.specs.OperatorPrint
+pub use Rattle.pep440_operator.specs.OperatorReading
+pub use Rattle.pep440_operator.specs.OperatorErrors
 pub use Rattle.pep440_specifier.specs.Matching
 pub use Rattle.pep440_specifier.specs.Building
 pub use Rattle.pep440_specifier.specs.SpecifierPrint
@@ -15,6 +19,7 @@ pub use Rattle.pep440_specifier.specs.SpecifierOrder
 pub use Rattle.pep440_specifier.specs.SpecifierText
 pub use Rattle.pep440_specifier.specs.SpecifierReading
 pub use Rattle.pep440_specifier.specs.SpecifierHash
+pub use Rattle.pep440_specifier.specs.SpecifierErrorPrints
 pub use Rattle.pep440_specifier_list.specs.Lists
 pub use Rattle.pep440_specifier_list.specs.ListText
 pub use Rattle.pep440_specifier_list.specs.Separated

@@ -1,19 +1,27 @@
 -- A text that is cut before the first character that passes a test.
-use Rattle.std.proofs.Common.{◌≡◌, ℕ, ◌+◌, ◌<◌, ◌≤◌, Bool, true, false, not, ◌==◌, cond, if◌then◌else◌, List, [], ◌∷◌, ◌++◌, length, take, drop, Some, None, Result, Ok, Err, refl, ap, sym, ◌∙◌, arith}
+use Rattle.std.proofs.Common.{
+  ◌≡◌, ℕ, ◌+◌, ◌<◌, ◌≤◌, Bool, true, false, not, ◌==◌, cond, if◌then◌else◌, List, [], ◌∷◌, ◌++◌, length, take,
+  drop, Some, None, Result, Ok, Err, refl, ap, sym, ◌∙◌, arith}
 use Rattle.std.proofs.Math.Seq.{take-append_seam}
 use Rattle.std.proofs.lemmas.Bool.Decides.{nat_tests}
 use Rattle.std.proofs.lemmas.List.{take-append-drop, length-take-le}
 use Rattle.std.proofs.lemmas.List.Prefix.{front_rest}
-use Rattle.std.proofs.lemmas.Str.{encodes-chars, chars-append, chars-nil, chars_from_encodes, chars_past_char, length-le-encodes, IsUtf8-take, IsUtf8-drop}
+use Rattle.std.proofs.lemmas.Str.{
+  encodes-chars, chars-append, chars-nil, chars_from_encodes, chars_past_char, length-le-encodes,
+  IsUtf8-take, IsUtf8-drop}
 use Rattle.std.specs.List.{prefix_len, position_or_len}
 use Rattle.std.specs.Str.{chars, encode_utf8_all, IsUtf8, NonePass, trim_start, skip_leading_whitespace}
 use Rattle.std.specs.Str.Pattern.{FindsBy, MatchBeginsAt}
-use Rattle.pep440_specifier.specs.SpecifierReading.{cut_at, front_in, SpecifierFault, InvalidTrailing, ended, built_before, AnswersSpecifier, RefusesSpecifier, ReadsSpecifier, LacksSpecifier}
+use Rattle.pep440_specifier.specs.SpecifierReading.{
+  cut_at, front_in, SpecifierFault, InvalidTrailing, ended, built_before, AnswersSpecifier,
+  RefusesSpecifier, ReadsSpecifier, LacksSpecifier}
 use Rattle.std.specs.Result.{result_ok}
 use Rattle.pep440_specifier.specs.Matching.{SpecifierRecord}
-use Rattle.pep440_specifier.specs.declared.build_error.VersionSpecifierBuildError.{VersionSpecifierBuildError}
-use Rattle.pep440_specifier.specs.declared.operator.OperatorParseError.TheVariants as operators
-use Rattle.pep440_specifier.specs.declared.parse_error.VersionSpecifierParseError.{VersionSpecifierParseError}
+use Rattle.pep440_specifier.specs.declared.build_error.VersionSpecifierBuildError.{
+  VersionSpecifierBuildError}
+use Rattle.pep440_operator.specs.declared.operator.OperatorParseError.TheVariants as operators
+use Rattle.pep440_specifier.specs.declared.parse_error.VersionSpecifierParseError.{
+  VersionSpecifierParseError}
 use Rattle.pep440_specifier.specs.declared.parse_error.VersionSpecifierParseError.TheVariants as errors
 
 -- the characters of a text behind the white space at its front

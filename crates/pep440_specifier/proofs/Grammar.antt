@@ -1,5 +1,7 @@
 -- What is read of a text is the specifier that the grammar gives it.
-use Rattle.std.proofs.Common.{◌≡◌, ℕ, ◌+◌, ◌<◌, ◌==◌, ◌↔◌, Bool, true, false, not, cond, if◌then◌else◌, IsTrue, List, [], ◌∷◌, ◌++◌, length, take, drop, Option, Some, None, Result, Ok, Err, suc, refl, ap, sym, subst, ◌∙◌, arith}
+use Rattle.std.proofs.Common.{
+  ◌≡◌, ℕ, ◌+◌, ◌<◌, ◌==◌, ◌↔◌, Bool, true, false, not, cond, if◌then◌else◌, IsTrue, List, [], ◌∷◌, ◌++◌, length,
+  take, drop, Option, Some, None, Result, Ok, Err, suc, refl, ap, sym, subst, ◌∙◌, arith}
 use Rattle.std.proofs.Math.Seq.{take-append_seam}
 use Rattle.std.proofs.lemmas.Bool.Decides.{nat_tests}
 use Rattle.std.proofs.lemmas.List.{take-append-drop, append-nil}
@@ -12,14 +14,19 @@ use Rattle.std.specs.Str.{chars, encode_utf8_all, skip_leading_whitespace}
 use Rattle.pep440_version.specs.Record.{PatternRecord}
 use Rattle.pep440_version.specs.Reading.{pattern_of}
 use Rattle.pep440_version.specs.Text.{IsPatternText}
-use Rattle.pep440_specifier.specs.declared.operator.Operator.{Operator}
-use Rattle.pep440_specifier.specs.declared.build_error.VersionSpecifierBuildError.{VersionSpecifierBuildError}
+use Rattle.pep440_operator.specs.declared.operator.Operator.{Operator}
+use Rattle.pep440_specifier.specs.declared.build_error.VersionSpecifierBuildError.{
+  VersionSpecifierBuildError}
 use Rattle.pep440_specifier.specs.Matching.{SpecifierRecord}
 use Rattle.pep440_specifier.specs.Building.{built_of_pattern}
-use Rattle.pep440_specifier.specs.SpecifierPrint.{operator_text}
+use Rattle.pep440_operator.specs.OperatorPrint.{operator_text}
 use Rattle.pep440_specifier.specs.SpecifierText.{AreSpaces, IsSpecifierText}
-use Rattle.pep440_specifier.specs.SpecifierReading.{ends_operator, operator_of, front_in, SpecifierFault, ended, built_before, beside_pattern, before_version, behind_operator, beside_operator, before_operator, read_specifier, specifier_of}
-use Rattle.pep440_specifier.proofs.Operators.{operator_found, operator_again, operator_characters, operator_nonempty, operator_ascii, operator_unspaced}
+use Rattle.pep440_operator.specs.OperatorReading.{ends_operator, operator_of}
+use Rattle.pep440_specifier.specs.SpecifierReading.{
+  front_in, SpecifierFault, ended, built_before, beside_pattern, before_version, behind_operator,
+  beside_operator, before_operator, read_specifier, specifier_of}
+use Rattle.pep440_operator.proofs.Operators.{
+  operator_found, operator_again, operator_characters, operator_nonempty, operator_ascii, operator_unspaced}
 use Rattle.pep440_specifier.proofs.PatternTexts.{AreAscii, Starts, mapped, pattern_ascii, pattern_starts}
 
 -- patterns are read as their grammar says

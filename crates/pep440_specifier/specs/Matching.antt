@@ -9,8 +9,10 @@ use Rattle.pep440_version.specs.Record.{Segment, VersionRecord, without_local}
 use Rattle.pep440_version.specs.Changes.{is_prerelease}
 use Rattle.pep440_version.specs.Order.{stripped, version_cmp}
 use Rattle.pep440_version.specs.Print.{version_text}
-use Rattle.pep440_specifier.specs.declared.operator.Operator.{Operator}
-use Rattle.pep440_specifier.specs.declared.operator.Operator.TheVariants.{Equal, EqualStar, ExactEqual, NotEqual, NotEqualStar, TildeEqual, LessThan, LessThanEqual, GreaterThan, GreaterThanEqual}
+use Rattle.pep440_operator.specs.declared.operator.Operator.{Operator}
+use Rattle.pep440_operator.specs.declared.operator.Operator.TheVariants.{
+  Equal, EqualStar, ExactEqual, NotEqual, NotEqualStar, TildeEqual, LessThan, LessThanEqual, GreaterThan,
+  GreaterThanEqual}
 
 -- an operator and the version beside it
 pub record SpecifierRecord : Type 0 where
@@ -56,3 +58,7 @@ matches LessThan version candidate = is_lt (candidate_cmp version candidate) && 
 matches LessThanEqual version candidate = is_le (candidate_cmp version candidate)
 matches GreaterThan version candidate = is_gt (candidate_cmp version candidate) && not (same_release version candidate && (is_some candidate.post && not (is_some version.post)))
 matches GreaterThanEqual version candidate = is_ge (candidate_cmp version candidate)
+
+-- whether a specifier takes a candidate
+abbrev pub takes : VersionRecord → SpecifierRecord → Bool
+takes candidate specifier = matches specifier.operator specifier.version candidate

@@ -2,11 +2,15 @@
 use Rattle.std.specs.Prelude.{ℕ, Bool, List, [], ◌∷◌, refl}
 use Rattle.std.specs.declared.cmp.Ordering.{Ordering}
 use Rattle.std.specs.Ordering.{on, eq_by_cmp, as_partial_cmp}
-use Rattle.std.specs.Cmp.{IsTotalOrder, IsEquivalence, IsPartialEquivalence, IsPartialOrder, partial_equiv_from_equiv, eq_by_cmp_equiv, partial_order_from_agreeing_total, on_total}
+use Rattle.std.specs.Cmp.{
+  IsTotalOrder, IsEquivalence, IsPartialEquivalence, IsPartialOrder, partial_equiv_from_equiv,
+  eq_by_cmp_equiv, partial_order_from_agreeing_total, on_total}
 use Rattle.std.specs.Cmp.Lexicographic.{lists_total, nat_list_cmp_total}
 use Rattle.pep440_version.specs.Order.{key_of, key_cmp}
-use Rattle.pep440_specifier.specs.declared.operator.Operator.{Operator}
-use Rattle.pep440_specifier.specs.declared.operator.Operator.TheVariants.{Equal, EqualStar, ExactEqual, NotEqual, NotEqualStar, TildeEqual, LessThan, LessThanEqual, GreaterThan, GreaterThanEqual}
+use Rattle.pep440_operator.specs.declared.operator.Operator.{Operator}
+use Rattle.pep440_operator.specs.declared.operator.Operator.TheVariants.{
+  Equal, EqualStar, ExactEqual, NotEqual, NotEqualStar, TildeEqual, LessThan, LessThanEqual, GreaterThan,
+  GreaterThanEqual}
 use Rattle.pep440_specifier.specs.Matching.{SpecifierRecord}
 
 -- the operators' order

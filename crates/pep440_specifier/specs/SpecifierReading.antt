@@ -1,49 +1,29 @@
 -- What is read of the text of a specifier, character by character from its front on: the specifier, or the first fault.
-use Rattle.std.specs.Prelude.{◌≡◌, ◌≢◌, ℕ, ◌==◌, ◌||◌, not, Bool, if◌then◌else◌, List, [], ◌∷◌, take, drop, codes, Option, Some, None, Result, Ok, Err, encode_utf8_all}
+use Rattle.std.specs.Prelude.{
+  ◌≡◌, ◌≢◌, ℕ, ◌==◌, Bool, if◌then◌else◌, List, [], ◌∷◌, take, drop, Option, Some, None, Result, Ok, Err,
+  encode_utf8_all}
 use Rattle.std.specs.Char.{is_whitespace}
 use Rattle.std.specs.List.{before_first, position_or_len}
 use Rattle.std.specs.Result.{result_ok}
-use Rattle.std.specs.Str.{chars, bytes_eq, skip_leading_whitespace}
+use Rattle.std.specs.Str.{chars, skip_leading_whitespace}
 use Rattle.std.specs.String.{string_bytes}
 use Rattle.pep440_version.specs.Record.{PatternRecord}
 use Rattle.pep440_version.specs.Reading.{pattern_of, read_pattern}
 use Rattle.pep440_version.specs.ParseErrors.{RefusesPattern}
 use Rattle.pep440_version.specs.declared.parse_error.VersionPatternParseError.TheVariants as patterns
-use Rattle.pep440_specifier.specs.declared.operator.Operator.{Operator}
-use Rattle.pep440_specifier.specs.declared.operator.Operator.TheVariants.{Equal, ExactEqual, NotEqual, TildeEqual, LessThan, LessThanEqual, GreaterThan, GreaterThanEqual}
-use Rattle.pep440_specifier.specs.declared.operator.OperatorParseError.{OperatorParseError}
-use Rattle.pep440_specifier.specs.declared.operator.OperatorParseError.TheVariants as operators
-use Rattle.pep440_specifier.specs.declared.build_error.VersionSpecifierBuildError.{VersionSpecifierBuildError}
-use Rattle.pep440_specifier.specs.declared.parse_error.VersionSpecifierParseError.{VersionSpecifierParseError}
+use Rattle.pep440_operator.specs.declared.operator.Operator.{Operator}
+use Rattle.pep440_operator.specs.declared.operator.OperatorParseError.{OperatorParseError}
+use Rattle.pep440_operator.specs.declared.operator.OperatorParseError.TheVariants as operators
+use Rattle.pep440_specifier.specs.declared.build_error.VersionSpecifierBuildError.{
+  VersionSpecifierBuildError}
+use Rattle.pep440_specifier.specs.declared.parse_error.VersionSpecifierParseError.{
+  VersionSpecifierParseError}
 use Rattle.pep440_specifier.specs.declared.parse_error.VersionSpecifierParseError.TheVariants as errors
+use Rattle.pep440_operator.specs.OperatorReading.{operator_of, ends_operator}
 use Rattle.pep440_specifier.specs.Matching.{SpecifierRecord}
 use Rattle.pep440_specifier.specs.Building.{built_of_pattern}
 
--- ---- operators
-
--- the operator that a text is; the star follows the version and is no part of it
-unfoldable pub operator_of : List ℕ → Option Operator
-operator_of text =
-    if bytes_eq text (codes "==") then Some Equal
-    else (if bytes_eq text (codes "===") then Some ExactEqual
-    else (if bytes_eq text (codes "!=") then Some NotEqual
-    else (if bytes_eq text (codes "~=") then Some TildeEqual
-    else (if bytes_eq text (codes "<") then Some LessThan
-    else (if bytes_eq text (codes "<=") then Some LessThanEqual
-    else (if bytes_eq text (codes ">") then Some GreaterThan
-    else (if bytes_eq text (codes ">=") then Some GreaterThanEqual else None)))))))
-
--- an answer is the operator that a text is; only want of memory leaves open whether there is one
-abbrev pub ReadsOperator : List ℕ → Result Operator OperatorParseError → Type 0
-ReadsOperator text (Ok operator) = operator_of text ≡ Some operator
-ReadsOperator text (Err operators.Memory) = Unit {0}
-ReadsOperator text (Err (operators.Unknown given)) = (operator_of text ≡ None) × (string_bytes given ≡ text)
-
 -- ---- pieces
-
--- a character of which no operator is made
-abbrev pub ends_operator : ℕ → Bool
-ends_operator c = not (c == 61 || (c == 60 || (c == 62 || (c == 126 || c == 33))))
 
 -- the text before a place, and the characters from there on; nothing where that is the start
 abbrev pub cut_at : List ℕ → ℕ → Option (List ℕ × List ℕ)

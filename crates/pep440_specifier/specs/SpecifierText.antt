@@ -5,10 +5,11 @@ use Rattle.std.specs.List.{AllByRecursion}
 use Rattle.std.specs.Str.{chars}
 use Rattle.pep440_version.specs.Record.{PatternRecord}
 use Rattle.pep440_version.specs.Text.{IsPatternText}
-use Rattle.pep440_specifier.specs.declared.operator.Operator.{Operator}
+use Rattle.pep440_operator.specs.declared.operator.Operator.{Operator}
 use Rattle.pep440_specifier.specs.Matching.{SpecifierRecord}
-use Rattle.pep440_specifier.specs.Building.{is_star, built_of_pattern}
-use Rattle.pep440_specifier.specs.SpecifierPrint.{operator_text}
+use Rattle.pep440_operator.specs.Operators.{is_star}
+use Rattle.pep440_specifier.specs.Building.{built_of_pattern}
+use Rattle.pep440_operator.specs.OperatorPrint.{operator_text}
 
 -- white space, of any script
 abbrev pub AreSpaces : List ℕ → Type 0

@@ -1,10 +1,13 @@
 //! Specifiers of bounds, and of intervals between two of them.
 
-ghost use Rattle.std.specs.Prelude.{◌≡◌, ◌+◌, ◌++◌, ◌↔◌, [], ◌∷◌, false, IsTrue, IfOk, IfErr, OnOk, Some, Err, is_some, option_to_list};
+ghost use Rattle.std.specs.Prelude.{
+  ◌≡◌, ◌+◌, ◌++◌, ◌↔◌, [], ◌∷◌, false, IsTrue, IfOk, IfErr, OnOk, Some, Err, is_some, option_to_list};
 ghost use Rattle.std.specs.Ordering.{is_eq};
 ghost use Rattle.pep440_version.specs.Order.{padded_cmp};
 ghost use Rattle.pep440_specifier.specs.Matching.{begins_padded};
-ghost use Rattle.pep440_specifier.specs.Bounds.{bound_error_text, lent_bound, is_local_bound, IsReleaseVersion, IsReleaseBound, lower_specifier, upper_specifier, is_next_minor, single_specifier, interval_specifiers};
+ghost use Rattle.pep440_specifier.specs.Bounds.{
+  bound_error_text, lent_bound, is_local_bound, IsReleaseVersion, IsReleaseBound, lower_specifier,
+  upper_specifier, is_next_minor, single_specifier, interval_specifiers};
 
 use crate::VersionSpecifier;
 use pep440_version::Version;

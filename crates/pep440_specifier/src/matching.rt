@@ -1,7 +1,8 @@
 //! Which versions a specifier takes.
 
-ghost use Rattle.std.specs.Prelude.{◌≡◌, ◌≢◌, length, take, IfOk, IsOk};
-ghost use Rattle.pep440_specifier.specs.Matching.{candidate_cmp, begins_padded, has_front, without_last, same_release, matches};
+ghost use Rattle.std.specs.Prelude.{◌≡◌, ◌≢◌, IfOk, IsOk};
+ghost use Rattle.pep440_specifier.specs.Matching.{
+  candidate_cmp, begins_padded, has_front, same_release, matches};
 
 use crate::{Operator, VersionSpecifier};
 use pep440_version::Version;

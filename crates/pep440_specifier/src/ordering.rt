@@ -2,7 +2,9 @@
 
 ghost use Rattle.std.specs.Prelude.{◌≡◌, refl};
 ghost use Rattle.std.specs.Ordering.{as_partial_cmp};
-ghost use Rattle.pep440_specifier.specs.SpecifierOrder.{operator_rank, specifier_cmp, specifier_eq, specifier_cmp_total, specifier_eq_equiv, specifier_eq_partial, specifier_partial_order};
+ghost use Rattle.pep440_specifier.specs.SpecifierOrder.{
+  operator_rank, specifier_cmp, specifier_eq, specifier_cmp_total, specifier_eq_equiv, specifier_eq_partial,
+  specifier_partial_order};
 ghost use Rattle.pep440_specifier.specs.SpecifierHash.{fed_specifier, alike_specifiers};
 
 use crate::VersionSpecifier;

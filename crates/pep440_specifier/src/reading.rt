@@ -4,8 +4,12 @@ ghost use Rattle.std.specs.Prelude.{◌≡◌, false, Err};
 ghost use Rattle.std.specs.Char.{is_whitespace};
 ghost use Rattle.std.specs.Option.{option_map};
 ghost use Rattle.std.specs.Str.{chars, skip_leading_whitespace, IsCharBoundary};
-ghost use Rattle.pep440_specifier.specs.Building.{is_star, built_of_pattern};
-ghost use Rattle.pep440_specifier.specs.SpecifierReading.{cut_at, ends_operator, front_in, InvalidTrailing, built_before, behind_operator, read_specifier, AnswersSpecifier, RefusesSpecifier};
+ghost use Rattle.pep440_operator.specs.Operators.{is_star};
+ghost use Rattle.pep440_specifier.specs.Building.{built_of_pattern};
+ghost use Rattle.pep440_operator.specs.OperatorReading.{ends_operator};
+ghost use Rattle.pep440_specifier.specs.SpecifierReading.{
+  cut_at, front_in, InvalidTrailing, built_before, behind_operator, read_specifier, AnswersSpecifier,
+  RefusesSpecifier};
 
 use crate::{Operator, OperatorParseError, VersionSpecifier, VersionSpecifierParseError};
 use pep440_version::{VersionPattern, VersionPatternParseError};

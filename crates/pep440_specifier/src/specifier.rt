@@ -1,12 +1,13 @@
 //! Specifiers.
 
 ghost use Rattle.std.specs.Prelude.{◌≡◌, [], true, IfOk, IfErr, Some};
-ghost use Rattle.pep440_version.specs.Record.{VersionRecord};
 ghost use Rattle.pep440_version.specs.Changes.{is_prerelease};
 ghost use Rattle.pep440_specifier.specs.Matching.{SpecifierRecord};
-ghost use Rattle.pep440_specifier.specs.Building.{IsBuilt, IsStarVersion, is_star, bounds_below, takes_local, built, built_of_pattern};
+ghost use Rattle.pep440_operator.specs.Operators.{is_star, bounds_below, takes_local};
+ghost use Rattle.pep440_specifier.specs.Building.{IsBuilt, IsStarVersion, built, built_of_pattern};
 ghost use Rattle.pep440_specifier.specs.SpecifierPrint.{specifier_text};
-ghost use Rattle.pep440_specifier.specs.SpecifierReading.{ReadsSpecifier, RefusesSpecifier, read_specifier, specifier_of};
+ghost use Rattle.pep440_specifier.specs.SpecifierReading.{
+  ReadsSpecifier, RefusesSpecifier, read_specifier, specifier_of};
 
 use crate::reading::read_specifier;
 use crate::{Operator, VersionSpecifierBuildError, VersionSpecifierParseError};
@@ -204,7 +205,9 @@ impl VersionSpecifier {
         self.version.any_prerelease()
     }
 
-    /// Whether it takes no version below its own: so for `==`, `===`, `~=`, `>` and `>=`.
+    /// Whether its version says where the versions that it takes begin: so for `==`, `===`, `~=`, `>` and `>=`.
+    ///
+    /// With a star they begin below that version: `==1.2.*` takes `1.2.dev0`.
     pub fn has_lower_bound(&self) -> bool
         ensures { result ≡ bounds_below self.now.operator }
     {

@@ -5,7 +5,8 @@ ghost use Rattle.serde_json.specs.View.{view};
 ghost use Rattle.serde_json.specs.Find.{as_str};
 ghost use Rattle.pep440_version.specs.Values.{ReadsText};
 ghost use Rattle.pep440_specifier.specs.SpecifierPrint.{specifier_text};
-ghost use Rattle.pep440_specifier.specs.SpecifierReading.{ReadsSpecifier, RefusesSpecifier, read_specifier, specifier_of};
+ghost use Rattle.pep440_specifier.specs.SpecifierReading.{
+  ReadsSpecifier, RefusesSpecifier, read_specifier, specifier_of};
 
 use crate::{VersionSpecifier, VersionSpecifierParseError};
 use pep440_version::FromValueError;

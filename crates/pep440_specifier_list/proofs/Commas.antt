@@ -9,10 +9,10 @@ use Rattle.std.specs.Str.Parse.{AllDigits}
 use Rattle.pep440_text.specs.declared.Prerelease.{Prerelease}
 use Rattle.pep440_version.specs.Record.{Segment, VersionRecord}
 use Rattle.pep440_version.specs.Text.{Front, Optional, AreWhite, IsNumber, IsEpoch, IsRelease, is_separator, IsSeparatorOrNone, IsNumberOrNone, IsOneOf, IsSuffix, pre_words, post_words, dev_words, IsPre, IsPost, IsDev, IsSegment, AreSegments, IsLocalOrNone, IsLetterV, IsHead, IsVersionText, IsStarText}
-use Rattle.pep440_specifier.specs.declared.operator.Operator.{Operator}
-use Rattle.pep440_specifier.specs.declared.operator.Operator.TheVariants.{Equal, EqualStar, ExactEqual, NotEqual, NotEqualStar, TildeEqual, LessThan, LessThanEqual, GreaterThan, GreaterThanEqual}
+use Rattle.pep440_operator.specs.declared.operator.Operator.{Operator}
+use Rattle.pep440_operator.specs.declared.operator.Operator.TheVariants.{Equal, EqualStar, ExactEqual, NotEqual, NotEqualStar, TildeEqual, LessThan, LessThanEqual, GreaterThan, GreaterThanEqual}
 use Rattle.pep440_specifier.specs.Matching.{SpecifierRecord}
-use Rattle.pep440_specifier.specs.SpecifierPrint.{operator_text}
+use Rattle.pep440_operator.specs.OperatorPrint.{operator_text}
 use Rattle.pep440_specifier.specs.SpecifierText.{IsSpecifierText}
 
 abbrev pub is_comma : ℕ → Bool

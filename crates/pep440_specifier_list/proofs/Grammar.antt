@@ -11,10 +11,10 @@ use Rattle.std.specs.List.{AllZip, AllByRecursion, join_with_byte, filter}
 use Rattle.std.specs.List.Sorted.{ties}
 use Rattle.std.specs.Str.{IsUtf8, IsCharBoundary, chars}
 use Rattle.pep440_version.specs.Order.{version_cmp, version_cmp_total}
-use Rattle.pep440_specifier.specs.declared.operator.Operator.{Operator}
-use Rattle.pep440_specifier.specs.declared.operator.Operator.TheVariants as operators
+use Rattle.pep440_operator.specs.declared.operator.Operator.{Operator}
+use Rattle.pep440_operator.specs.declared.operator.Operator.TheVariants as operators
 use Rattle.pep440_specifier.specs.Matching.{SpecifierRecord}
-use Rattle.pep440_specifier.specs.SpecifierPrint.{operator_text}
+use Rattle.pep440_operator.specs.OperatorPrint.{operator_text}
 use Rattle.pep440_specifier.specs.SpecifierText.{IsSpecifierText}
 use Rattle.pep440_specifier.specs.SpecifierReading.{specifier_of}
 use Rattle.pep440_specifier_list.specs.Lists.{IsInOrder}

@@ -3,8 +3,8 @@
 ghost use Rattle.std.specs.Prelude.{◌≡◌, ◌↔◌, ℕ, [], true, List, All, IsTrue, Some};
 ghost use Rattle.std.specs.Str.{IsUtf8};
 ghost use Rattle.pep440_version.specs.Record.{VersionRecord};
-ghost use Rattle.pep440_specifier.specs.Matching.{SpecifierRecord};
-ghost use Rattle.pep440_specifier_list.specs.Lists.{matches_all, takes, IsInOrder};
+ghost use Rattle.pep440_specifier.specs.Matching.{SpecifierRecord, takes};
+ghost use Rattle.pep440_specifier_list.specs.Lists.{matches_all, IsInOrder};
 ghost use Rattle.pep440_specifier_list.specs.ListText.{IsSpecifierListText};
 ghost use Rattle.pep440_specifier_list.specs.ListReading.{specifiers_of};
 

@@ -16,9 +16,5 @@ mod value;
 
 pub use counted::CountedSpecifiers;
 pub use parse_error::VersionSpecifiersParseError;
+pub use print::BareCommas;
 pub use specifiers::VersionSpecifiers;
-
-#[cfg(test)]
-mod bounds_tests;
-#[cfg(test)]
-mod tests;

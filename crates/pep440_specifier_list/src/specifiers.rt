@@ -4,7 +4,7 @@ ghost use Rattle.std.specs.Prelude.{◌≡◌, ◌≢◌, ◌^◌, ◌<◌, ◌=
 ghost use Rattle.std.specs.Iterator.Runs.{EveryRun, ItemsMapTo, ItemsAre, ItemsAreReversed};
 ghost use Rattle.std.specs.Slice.Iter.{iter_rest, iter_steps};
 ghost use Rattle.std.specs.Vec.Iter.{into_iter_items, into_iter_len, into_iter_steps};
-ghost use Rattle.pep440_specifier.specs.declared.operator.Operator.TheVariants.{ExactEqual};
+ghost use Rattle.pep440_operator.specs.declared.operator.Operator.TheVariants.{ExactEqual};
 ghost use Rattle.pep440_specifier_list.specs.Lists.{IsByVersion, IsInOrder, matches_all};
 
 use crate::asking::ask;

@@ -5,11 +5,11 @@ use Rattle.std.proofs.lemmas.Slice.Eq.{bytes_eq-Decides}
 use Rattle.std.specs.Char.{is_whitespace}
 use Rattle.std.specs.List.{AllByRecursion}
 use Rattle.std.specs.Str.{bytes_eq}
-use Rattle.pep440_specifier.specs.declared.operator.Operator.{Operator}
-use Rattle.pep440_specifier.specs.declared.operator.Operator.TheVariants.{Equal, EqualStar, ExactEqual, NotEqual, NotEqualStar, TildeEqual, LessThan, LessThanEqual, GreaterThan, GreaterThanEqual}
-use Rattle.pep440_specifier.specs.Building.{is_star}
-use Rattle.pep440_specifier.specs.SpecifierPrint.{operator_text}
-use Rattle.pep440_specifier.specs.SpecifierReading.{operator_of, ends_operator}
+use Rattle.pep440_operator.specs.declared.operator.Operator.{Operator}
+use Rattle.pep440_operator.specs.declared.operator.Operator.TheVariants.{Equal, EqualStar, ExactEqual, NotEqual, NotEqualStar, TildeEqual, LessThan, LessThanEqual, GreaterThan, GreaterThanEqual}
+use Rattle.pep440_operator.specs.Operators.{is_star}
+use Rattle.pep440_operator.specs.OperatorPrint.{operator_text}
+use Rattle.pep440_operator.specs.OperatorReading.{operator_of, ends_operator}
 
 -- a text is the print of an operator without star
 abbrev pub Prints : List ℕ → Operator → Type 0
