@@ -5,9 +5,9 @@ pub use Rattle.pep440_text.specs.Print
 pub use Rattle.pep440_version.specs.Order
 pub use Rattle.pep440_version.specs.Changes
 pub use Rattle.pep440_version.specs.PatternOrder
-pub use Rattle.pep440_version.specs.ParseErrors
-pub use Rattle.pep440_version.specs.FaultTexts
-pub use Rattle.pep440_version.specs.Values
+pub use Rattle.pep440_version.specs.VersionReading
+pub use Rattle.pep440_version.specs.ErrorPrints
+pub use Rattle.read_outcome.specs.Outcome
 pub use Rattle.pep440_operator.specs.Operators
 pub use Rattle.pep440_operator.specs.OperatorPrint
 pub use Rattle.pep440_operator.specs.OperatorReading
@@ -28,7 +28,7 @@ pub use Rattle.pep440_specifier_list.specs.ListHash
 pub use Rattle.pep440_specifier_list.specs.Refusals
 pub use Rattle.pep440_specifier_list.specs.ListReading
 pub use Rattle.pep440_specifier_list.specs.ListErrors
-pub use Rattle.pep440_specifier_list.specs.Pieces
+pub use Rattle.pep440_specifier_list.specs.Places
 pub use Rattle.pep440_range.specs.Numbers
 pub use Rattle.pep440_range.specs.Ranges
 pub use Rattle.pep440_range.specs.Agreement

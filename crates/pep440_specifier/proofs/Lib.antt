@@ -3,3 +3,4 @@ pub mod Grammar
 pub mod PatternTexts
 pub mod NextMinor
 pub mod Said
+pub mod Told

@@ -6,8 +6,9 @@ ghost use Rattle.pep440_specifier.specs.Matching.{SpecifierRecord};
 ghost use Rattle.pep440_operator.specs.Operators.{is_star, bounds_below, takes_local};
 ghost use Rattle.pep440_specifier.specs.Building.{IsBuilt, IsStarVersion, built, built_of_pattern};
 ghost use Rattle.pep440_specifier.specs.SpecifierPrint.{specifier_text};
-ghost use Rattle.pep440_specifier.specs.SpecifierReading.{
-  ReadsSpecifier, RefusesSpecifier, read_specifier, specifier_of};
+ghost use Rattle.pep440_specifier.specs.declared.parse_error.VersionSpecifierParseError.TheVariants as errors;
+ghost use Rattle.pep440_specifier.specs.SpecifierReading.{specifier_reading, told_specifier, IsPlain, HasGrown};
+ghost use Rattle.read_outcome.specs.Outcome.{Answers};
 
 use crate::reading::read_specifier;
 use crate::{Operator, VersionSpecifierBuildError, VersionSpecifierParseError};
@@ -162,15 +163,15 @@ impl VersionSpecifier {
 
     /// Reads an operator and a version behind it, as `>= 1.2` or `==1.2.*`, with white space around each.
     ///
-    /// Linear in the text; takes memory for the version, and for the text of an error. The error names the first fault
-    /// from the left, and is `Memory` wherever memory runs out.
-    #[tactic(auto, using(crate::proofs::Fronts::answer_reads), unfolding(crate::specs::SpecifierReading::specifier_of))]
+    /// Linear in the text; takes memory for the version, and for the texts of an error. The error names the first fault
+    /// from the left, and is `Memory` itself where memory runs out, which none is before an operator and a number are there.
     pub fn from_str(
         alloc: Global,
         text: &str,
     ) -> Result<VersionSpecifier, VersionSpecifierParseError>
-        ensures specifier { ReadsSpecifier result (specifier_of text.now) }
-        ensures fault { IfErr result (λ fault. RefusesSpecifier fault (read_specifier text.now)) }
+        ensures answered { Answers (λ specifier. specifier) told_specifier result (specifier_reading text.now) }
+        ensures plain { IfErr result IsPlain }
+        ensures grown { result ≡ Err errors.Memory → HasGrown (specifier_reading text.now) }
     {
         read_specifier(alloc, text)
     }

@@ -1,3 +1,4 @@
+pub mod Places
 pub mod Lists
 pub mod ListText
 pub mod Separated
@@ -7,4 +8,3 @@ pub mod Refusals
 pub mod ListReading
 pub mod ListBounds
 pub mod ListErrors
-pub mod Pieces

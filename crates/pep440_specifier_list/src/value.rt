@@ -1,11 +1,11 @@
 //! Lists as JSON values.
 
-ghost use Rattle.std.specs.Prelude.{◌≡◌, IfOk, Some};
+ghost use Rattle.std.specs.Prelude.{◌≡◌, IfOk, IfErr, Some};
 ghost use Rattle.serde_json.specs.View.{view};
 ghost use Rattle.serde_json.specs.Find.{as_str};
-ghost use Rattle.pep440_version.specs.Values.{ReadsText};
+ghost use Rattle.read_outcome.specs.Outcome.{ReadsText};
 ghost use Rattle.pep440_specifier_list.specs.ListText.{list_value_text};
-ghost use Rattle.pep440_specifier_list.specs.ListReading.{ReadsList};
+ghost use Rattle.pep440_specifier_list.specs.ListReading.{TellsOrMemory, ReadsList};
 
 use crate::{VersionSpecifiers, VersionSpecifiersParseError};
 use pep440_version::FromValueError;
@@ -25,11 +25,15 @@ impl VersionSpecifiers {
         alloc: Global,
         value: &Value,
     ) -> Result<VersionSpecifiers, FromValueError<VersionSpecifiersParseError>>
-        ensures { ReadsText (λ text read. ReadsList read text) (as_str (view value.now)) result }
+        ensures answered { ReadsText (λ text read. ReadsList read text) (as_str (view value.now)) result }
+        ensures plain { ReadsText (λ text read. IfErr read TellsOrMemory) (as_str (view value.now)) result }
     {
         let Some(text) = value.as_str() else {
             return Err(FromValueError::Shape);
         };
-        VersionSpecifiers::from_str(alloc, text).map_err(FromValueError::Text)
+        match VersionSpecifiers::from_str(alloc, text) {
+            Ok(list) => Ok(list),
+            Err(error) => Err(FromValueError::Text(error)),
+        }
     }
 }

@@ -17,3 +17,5 @@ pub mod PrintedSegments
 pub mod PrintedParts
 pub mod PrintedHeads
 pub mod Prints
+pub mod Cuts
+pub mod FirstNumber

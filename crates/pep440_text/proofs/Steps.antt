@@ -8,7 +8,9 @@ use Rattle.pep440_text.specs.declared.ReadError.TheVariants as errors
 use Rattle.pep440_text.specs.declared.LocalSegment.{LocalSegment}
 use Rattle.pep440_text.specs.Record.{Segment, segment_of}
 use Rattle.pep440_text.specs.Text.{is_separator}
-use Rattle.pep440_text.specs.Reading.{◌>>=◌, with_front, more_numbers, numbers_at, marked_number_at, more_segments, segments_at, segment_at, Fails}
+use Rattle.read_outcome.specs.Outcome.{Tells}
+use Rattle.pep440_text.specs.Faults.{told_read}
+use Rattle.pep440_text.specs.Reading.{◌>>=◌, with_front, more_numbers, numbers_at, marked_number_at, more_segments, segments_at, segment_at}
 
 one_less : (n k : ℕ) → k < n → n - k ≡ suc (n - (k + 1))
 one_less n k h = omega arith
@@ -35,9 +37,9 @@ pub numbers_some : (n k m : ℕ) (xs rest later : List ℕ) → k < n → marked
     → with_front xs (numbers_at (n - k) rest) ≡ with_front (xs ++ m ∷ []) (numbers_at (n - (k + 1)) later)
 numbers_some n k m xs rest later h e = numbers_step n k xs rest (Ok (Some m, later)) h e ∙ front_twice xs (m ∷ []) (numbers_at (n - (k + 1)) later)
 
-pub numbers_err : (n k : ℕ) (xs rest : List ℕ) (e : ReadError) (all : Result (List ℕ × List ℕ) TextFault) → k < n → Fails e (marked_number_at 46 rest) → with_front xs (numbers_at (n - k) rest) ≡ all → Fails e all
-numbers_err n k xs rest errors.Memory all h f q = tt
-numbers_err n k xs rest (errors.Fault fault) all h f q = sym q ∙ numbers_step n k xs rest (Err fault) h f
+pub numbers_err : (n k : ℕ) (xs rest : List ℕ) (fault : TextFault) (all : Result (List ℕ × List ℕ) TextFault) → k < n
+    → marked_number_at 46 rest ≡ Err fault → with_front xs (numbers_at (n - k) rest) ≡ all → all ≡ Err fault
+numbers_err n k xs rest fault all h f q = sym q ∙ numbers_step n k xs rest (Err fault) h f
 
 -- ---- segments
 
@@ -67,7 +69,7 @@ pub segments_more : (n k : ℕ) (xs : List Segment) (s : Segment) (rest behind l
 segments_more n k xs s rest behind later byte h e p b =
     separated_by n k xs s rest later byte true h (e ∙ ap (λ r. Ok (s, r)) p) b ∙ front_twice xs (s ∷ []) (segments_at (n - (k + 1)) later)
 
-pub segments_err : (n k : ℕ) (xs : List Segment) (rest : List ℕ) (e : ReadError) (all : Result (List Segment × List ℕ) TextFault) → k < n → Fails e (segment_at rest) → with_front xs (segments_at (n - k) rest) ≡ all → Fails e all
+pub segments_err : (n k : ℕ) (xs : List Segment) (rest : List ℕ) (e : ReadError) (all : Result (List Segment × List ℕ) TextFault) → k < n → Tells (told_read e) (segment_at rest) → with_front xs (segments_at (n - k) rest) ≡ all → Tells (told_read e) all
 segments_err n k xs rest errors.Memory all h f q = tt
 segments_err n k xs rest (errors.Fault fault) all h f q = sym q ∙ segments_step n k xs rest (Err fault) h f
 

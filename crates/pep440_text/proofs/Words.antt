@@ -1,15 +1,13 @@
 -- Words of a table, one after another.
-use Rattle.std.proofs.Common.{◌≡◌, ℕ, ◌+◌, ◌<◌, map, drop, get_or, length, List, [], ◌∷◌, Option, Some, None, Result, Ok, ap, sym, ◌∙◌}
+use Rattle.std.proofs.Common.{◌≡◌, ℕ, ◌+◌, ◌<◌, map, drop, get_or, length, List, [], ◌∷◌, Option, Some, None, Result, Ok, Err, ap, sym, ◌∙◌}
 use Rattle.std.proofs.lemmas.List.{drop_more}
 use Rattle.std.specs.Borrow.{Bor}
 use Rattle.std.specs.Option.{option_map}
 use Rattle.pep440_text.specs.declared.Prerelease.{Prerelease}
 use Rattle.pep440_text.specs.declared.PrereleaseKind.{PrereleaseKind}
 use Rattle.pep440_text.specs.declared.TextFault.{TextFault}
-use Rattle.pep440_text.specs.declared.ReadError.{ReadError}
-use Rattle.pep440_text.specs.declared.ReadError.TheVariants as errors
 use Rattle.pep440_text.specs.Text.{pre_words}
-use Rattle.pep440_text.specs.Reading.{◌>>=◌, Fails, behind_word, or_word, word_at, suffix_at, pre_at}
+use Rattle.pep440_text.specs.Reading.{◌>>=◌, behind_word, or_word, word_at, suffix_at, pre_at}
 
 -- the words and meanings of a table
 abbrev pub table : {A : Type 0} → List (Bor (List ℕ) × A) → List (List ℕ × A)
@@ -45,10 +43,9 @@ pre_said found = option_map (λ said. record { kind = said.0; number = said.1 })
 abbrev pre_behind : Result (Option (PrereleaseKind × ℕ) × List ℕ) TextFault → Result (Option Prerelease × List ℕ) TextFault
 pre_behind read = read >>= λ found. Ok (pre_said found.0, found.1)
 
-pub pre_fails : (bytes : List ℕ) (error : ReadError) → Fails error (suffix_at pre_words bytes) → Fails error (pre_at bytes)
+pub pre_fails : (bytes : List ℕ) (fault : TextFault) → suffix_at pre_words bytes ≡ Err fault → pre_at bytes ≡ Err fault
 unfolding pre_at
-pre_fails bytes errors.Memory h = tt
-pre_fails bytes (errors.Fault fault) h = ap pre_behind h
+pre_fails bytes fault h = ap pre_behind h
 
 pub pre_found : (bytes rest : List ℕ) (found : Option (PrereleaseKind × ℕ)) (pre : Option Prerelease) → suffix_at pre_words bytes ≡ Ok (found, rest) → pre ≡ pre_said found → pre_at bytes ≡ Ok (pre, rest)
 unfolding pre_at

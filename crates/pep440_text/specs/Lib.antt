@@ -2,3 +2,4 @@ pub mod Record
 pub mod Print
 pub mod Text
 pub mod Reading
+pub mod Faults

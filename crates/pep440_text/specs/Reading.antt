@@ -1,5 +1,5 @@
 -- What is read of the text of a version, from its front on: a value and what follows it, or the first fault.
-use Rattle.std.specs.Prelude.{◌≡◌, ℕ, zero, suc, ◌^◌, ◌==◌, Bool, true, false, cond, nat_lt, if◌then◌else◌, List, [], ◌∷◌, ◌++◌, length, drop, Option, Some, None, unwrap_or, option_map, Result, Ok, Err}
+use Rattle.std.specs.Prelude.{ℕ, zero, suc, ◌^◌, ◌==◌, Bool, true, false, cond, nat_lt, if◌then◌else◌, List, [], ◌∷◌, ◌++◌, length, drop, Option, Some, None, unwrap_or, option_map, Result, Ok, Err}
 use Rattle.std.specs.Char.{is_ascii_digit, is_ascii_whitespace, is_ascii_alphanumeric, to_ascii_lowercase}
 use Rattle.std.specs.List.{prefix_len, take_while, list_all}
 use Rattle.std.specs.Result.{result_ok}
@@ -8,8 +8,6 @@ use Rattle.pep440_text.specs.declared.Prerelease.{Prerelease}
 use Rattle.pep440_text.specs.declared.FaultKind.{FaultKind}
 use Rattle.pep440_text.specs.declared.FaultKind.TheVariants.{Wildcard, NumberTooBig, NoLeadingNumber, LocalEmpty, UnexpectedEnd}
 use Rattle.pep440_text.specs.declared.TextFault.{TextFault}
-use Rattle.pep440_text.specs.declared.ReadError.{ReadError}
-use Rattle.pep440_text.specs.declared.ReadError.TheVariants as errors
 use Rattle.pep440_text.specs.Record.{Segment, VersionRecord, PatternRecord, epoch_record}
 use Rattle.pep440_text.specs.Text.{is_separator, pre_words, post_words, dev_words, segment_said}
 
@@ -22,16 +20,6 @@ abbrev pub ◌>>=◌ : {A B : Type 0} → Result A TextFault → (A → Result B
 -- a fault that stands where these bytes are left
 abbrev pub at_left : {A : Type 0} → FaultKind → List ℕ → Result A TextFault
 at_left kind bytes = Err (record { kind = kind; left = length bytes })
-
--- a reader's error: want of memory says nothing, a fault is that of the text
-abbrev pub Fails : {Y : Type 0} → ReadError → Result Y TextFault → Type 0
-Fails errors.Memory read = Unit {0}
-Fails (errors.Fault fault) read = read ≡ Err fault
-
--- a reader's answer, seen by `view`, is what reading gives
-abbrev pub Gives : {X Y : Type 0} → (X → Y) → Result X ReadError → Result Y TextFault → Type 0
-Gives view (Ok x) read = read ≡ Ok (view x)
-Gives view (Err error) read = Fails error read
 
 -- ---- pieces
 

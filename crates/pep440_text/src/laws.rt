@@ -1,10 +1,13 @@
 //! Laws over the definitions that the contracts cite. The functions do nothing: each one's contract is its law.
 
-ghost use Rattle.std.specs.Prelude.{◌≡◌, ℕ, ◌↔◌, List, Some};
+ghost use Rattle.std.specs.Prelude.{◌≡◌, ℕ, ◌↔◌, List, Some, Err};
+ghost use Rattle.std.specs.Str.{IsUtf8};
+ghost use Rattle.pep440_text.specs.declared.TextFault.{TextFault};
+ghost use Rattle.pep440_text.specs.Faults.{StandsIn};
 ghost use Rattle.pep440_text.specs.Record.{VersionRecord, PatternRecord};
 ghost use Rattle.pep440_text.specs.Text.{IsVersionText, IsPatternText};
 ghost use Rattle.pep440_text.specs.Print.{version_text};
-ghost use Rattle.pep440_text.specs.Reading.{version_of, pattern_of};
+ghost use Rattle.pep440_text.specs.Reading.{read_version, read_pattern, version_of, pattern_of};
 
 /// A text is read as a version exactly where the grammar says that it is that version's.
 pub fn version_text_is_read()
@@ -29,4 +32,10 @@ pub fn text_has_one_pattern()
 /// The print of a version that was read of some text is read as that version, whatever that text was.
 pub fn print_reads_back()
     ensures { (text : List ℕ) (version : VersionRecord) → version_of text ≡ Some version → version_of (version_text version) ≡ Some version }
+{}
+
+/// The fault of a text stands between two of its characters, or at its end: the text may be cut there.
+pub fn faults_stand_between_characters()
+    ensures version { (text : List ℕ) (fault : TextFault) → IsUtf8 text → read_version text ≡ Err fault → StandsIn text fault }
+    ensures pattern { (text : List ℕ) (fault : TextFault) → IsUtf8 text → read_pattern text ≡ Err fault → StandsIn text fault }
 {}

@@ -113,3 +113,13 @@ impl<T: Drop> From<AllocFailed<T>> for ReadError {
         ReadError::Memory
     }
 }
+
+impl From<TextFault> for ReadError {
+    ghost use Rattle.pep440_text.specs.declared.ReadError.TheVariants.{Fault};
+
+    ghost from_gives = { λ fault error. error ≡ Fault fault };
+
+    fn from(fault: TextFault) -> ReadError {
+        ReadError::Fault(fault)
+    }
+}

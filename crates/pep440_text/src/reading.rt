@@ -1,9 +1,11 @@
 //! Reading the text of a version, from its front on.
 
-ghost use Rattle.std.specs.Prelude.{◌≡◌, ◌<◌, length, IfOk};
+ghost use Rattle.std.specs.Prelude.{◌≡◌, ◌<◌, length, Some, Err, IfOk};
 ghost use Rattle.pep440_text.specs.declared.ReadError.TheVariants as errors;
 ghost use Rattle.pep440_text.specs.Record.{PatternRecord, epoch_record, said};
-ghost use Rattle.pep440_text.specs.Reading.{Gives, after_white, after_v, head_at, end_at, suffixed, is_star, read_version, read_pattern};
+ghost use Rattle.read_outcome.specs.Outcome.{Answers};
+ghost use Rattle.pep440_text.specs.Faults.{told_read, HasNumber};
+ghost use Rattle.pep440_text.specs.Reading.{after_white, after_v, head_at, end_at, suffixed, is_star, read_version, read_pattern};
 
 use crate::{FaultKind, ReadError, TextFault, VersionParts};
 use std::alloc::Global;
@@ -19,14 +21,14 @@ struct Head {
     release: Vec<u64>,
 }
 
-/// The error for a fault that stands where these bytes are left.
-fn fault(kind: FaultKind, bytes: &[u8]) -> ReadError
-    ensures { result ≡ errors.Fault (record { kind = kind; left = length bytes.now }) }
+/// The fault that stands where these bytes are left.
+fn fault(kind: FaultKind, bytes: &[u8]) -> TextFault
+    ensures { result ≡ record { kind = kind; left = length bytes.now } }
 {
-    ReadError::Fault(TextFault {
+    TextFault {
         kind,
         left: bytes.len(),
-    })
+    }
 }
 
 /// What follows the white space at the front.
@@ -55,8 +57,9 @@ fn skip_v(bytes: &[u8]) -> &[u8]
 /// White space, `v`, the epoch and the release, and what follows them.
 #[tactic(auto, unfolding(crate::specs::Reading::head_at))]
 fn read_head(alloc: Global, bytes: &[u8]) -> Result<(Head, &[u8]), ReadError>
-    ensures head { Gives (λ found. ((found.0.epoch, found.0.release.items), found.1.now)) result (head_at bytes.now) }
+    ensures head { Answers (λ found. ((found.0.epoch, found.0.release.items), found.1.now)) told_read result (head_at bytes.now) }
     ensures numbers { IfOk result (λ found. 0 < length found.0.release.items) }
+    ensures grown { result ≡ Err errors.Memory → HasNumber (head_at bytes.now) }
 {
     let (epoch, behind) = number::epoch(skip_v(skip_white(bytes)))?;
     let (release, rest) = number::release(alloc, behind)?;
@@ -69,8 +72,8 @@ fn read_head(alloc: Global, bytes: &[u8]) -> Result<(Head, &[u8]), ReadError>
 
 /// Refuses what is left, unless it is white space.
 #[tactic(auto, unfolding(crate::specs::Reading::end_at))]
-fn end(bytes: &[u8]) -> Result<(), ReadError>
-    ensures { Gives (λ end. end) result (end_at bytes.now) }
+fn end(bytes: &[u8]) -> Result<(), TextFault>
+    ensures { Answers (λ end. end) Some result (end_at bytes.now) }
 {
     let rest = skip_white(bytes);
     if rest.is_empty() {
@@ -97,7 +100,7 @@ fn plain(alloc: Global, head: Head) -> VersionParts
 /// The version of an epoch, a release and the parts behind them. Most versions have none, so that is looked at first.
 #[tactic(auto, using(crate::proofs::White::nothing_behind), unfolding(crate::specs::Reading::suffixed))]
 fn suffixed(alloc: Global, head: Head, bytes: &[u8]) -> Result<VersionParts, ReadError>
-    ensures parts { Gives said result (suffixed (head.epoch, head.release.items) bytes.now) }
+    ensures parts { Answers said told_read result (suffixed (head.epoch, head.release.items) bytes.now) }
     ensures release { IfOk result (λ parts. parts.release.items ≡ head.release.items) }
 {
     if bytes.is_empty() {
@@ -137,12 +140,13 @@ fn is_star(bytes: &[u8]) -> bool
 /// Goes through the text a fixed number of times, and takes memory for release and local part. The error names the first fault from the left.
 #[tactic(auto, unfolding(crate::specs::Reading::read_version))]
 pub fn read_version(alloc: Global, text: &[u8]) -> Result<VersionParts, ReadError>
-    ensures parts { Gives said result (read_version text.now) }
+    ensures parts { Answers said told_read result (read_version text.now) }
     ensures numbers { IfOk result (λ parts. 0 < length parts.release.items) }
+    ensures grown { result ≡ Err errors.Memory → HasNumber (read_version text.now) }
 {
     let (head, rest) = read_head(alloc, text)?;
     if is_star(rest) {
-        return Err(fault(FaultKind::Wildcard, rest));
+        return Err(ReadError::Fault(fault(FaultKind::Wildcard, rest)));
     }
     suffixed(alloc, head, rest)
 }
@@ -152,8 +156,9 @@ pub fn read_version(alloc: Global, text: &[u8]) -> Result<VersionParts, ReadErro
 /// Costs and faults are those of `read_version`.
 #[tactic(auto, unfolding(crate::specs::Reading::read_pattern))]
 pub fn read_pattern(alloc: Global, text: &[u8]) -> Result<(VersionParts, bool), ReadError>
-    ensures parts { Gives (λ found. record { version = said found.0; wildcard = found.1 }) result (read_pattern text.now) }
+    ensures parts { Answers (λ found. record { version = said found.0; wildcard = found.1 }) told_read result (read_pattern text.now) }
     ensures numbers { IfOk result (λ found. 0 < length found.0.release.items) }
+    ensures grown { result ≡ Err errors.Memory → HasNumber (read_pattern text.now) }
 {
     let (head, rest) = read_head(alloc, text)?;
     if is_star(rest) {

@@ -1,111 +1,56 @@
--- What an error says of the outcome of reading.
-use Rattle.std.proofs.Common.{◌≡◌, ◌≢◌, ℕ, Bool, true, false, if◌then◌else◌, List, Option, None, Result, Ok, Err, refl, ap, sym, subst, ◌∙◌}
-use Rattle.std.specs.Result.{result_ok}
+-- What an error tells of the outcome of reading.
+use Rattle.std.proofs.Common.{◌≡◌, ◌≢◌, ℕ, List, Option, Some, None, Result, Ok, Err, refl, ap, sym, ◌∙◌}
+use Rattle.std.specs.Prelude.{IfSome}
+use Rattle.std.specs.Option.{option_map}
+use Rattle.read_outcome.specs.Outcome.{Tells}
 use Rattle.pep440_text.specs.declared.FaultKind.{FaultKind}
 use Rattle.pep440_text.specs.declared.FaultKind.TheVariants as kinds
 use Rattle.pep440_text.specs.declared.TextFault.{TextFault}
 use Rattle.pep440_text.specs.declared.ReadError.{ReadError}
 use Rattle.pep440_text.specs.declared.ReadError.TheVariants as errors
-use Rattle.pep440_text.specs.Record.{VersionRecord, PatternRecord, epoch_record}
-use Rattle.pep440_text.specs.Reading.{◌>>=◌, Fails, suffixed, is_star, head_at, pattern_behind, read_pattern}
-use Rattle.pep440_version.specs.declared.parse_error.VersionParseError.{VersionParseError}
-use Rattle.pep440_version.specs.declared.parse_error.VersionParseError.TheVariants.{Memory, Wildcard, NumberTooBig, NoLeadingNumber, LocalEmpty, UnexpectedEnd}
-use Rattle.pep440_version.specs.declared.parse_error.VersionPatternParseError.{VersionPatternParseError}
-use Rattle.pep440_version.specs.declared.parse_error.VersionPatternParseError.TheVariants as patterns
-use Rattle.pep440_version.specs.ParseErrors.{Refuses, RefusesPattern, Lacks, LacksPattern, IsAt}
-use Rattle.pep440_version.specs.FaultTexts.{Shows, ShowsPattern, IsErrorOf, IsReadErrorOf, IsPatternErrorOf}
+use Rattle.pep440_text.specs.Faults.{told_read, HasNumber, StandsIn}
+use Rattle.pep440_version.specs.VersionReading.{VersionFault, NoLeadingNumber, fault_between, fault_in, with_texts}
 
-named : {Y : Type 0} (kind : FaultKind) (fault : TextFault) (read : Result Y TextFault) → fault.kind ≡ kind → read ≡ Err fault → read ≡ Err (record { kind = kind; left = fault.left })
-named kind fault read k e = e ∙ ap (λ (x : FaultKind). Err (record { kind = x; left = fault.left })) k
+-- an error that tells the fault which the reader's error tells, in this text, tells that of the reading
+pub tells : {Y : Type 0} (text : List ℕ) (error : ReadError) (told : Option VersionFault) (read : Result Y TextFault)
+    → IfSome told (λ fault. option_map (fault_in text) (told_read error) ≡ Some fault) → Tells (told_read error) read
+    → Tells told (with_texts text read)
+tells text error None read t e = tt
+tells text errors.Memory (Some told) read t e = absurd (cc)
+tells text (errors.Fault fault) (Some told) read t e =
+    let same : fault_in text fault ≡ told = cc in
+    ap (with_texts text) e ∙ ap (λ (x : VersionFault). Err x) same
 
-at_fault : {Y : Type 0} (kind : FaultKind) (fault : TextFault) (read : Result Y TextFault) → fault.kind ≡ kind → read ≡ Err fault → IsAt kind read
-at_fault kind fault read k e = (fault.left, named kind fault read k e)
+-- a fault stands in its text where each fault of the reading does
+pub stands : {Y : Type 0} (text : List ℕ) (error : ReadError) (read : Result Y TextFault)
+    → ((fault : TextFault) → read ≡ Err fault → StandsIn text fault) → Tells (told_read error) read
+    → IfSome (told_read error) (StandsIn text)
+stands text errors.Memory read cut e = tt
+stands text (errors.Fault fault) read cut e = cut fault e
 
-refuses_fault : {Y : Type 0} (text : List ℕ) (fault : TextFault) (error : VersionParseError) (read : Result Y TextFault) → IsErrorOf text fault error → read ≡ Err fault → Refuses error read
-refuses_fault text fault Memory read i e = tt
-refuses_fault text fault Wildcard read i e = at_fault _ fault read i e
-refuses_fault text fault (NumberTooBig number) read i e = at_fault _ fault read i.0 e
-refuses_fault text fault NoLeadingNumber read i e = at_fault _ fault read i e
-refuses_fault text fault LocalEmpty read i e = at_fault _ fault read i e
-refuses_fault text fault (UnexpectedEnd version remaining) read i e = at_fault _ fault read i.0 e
+only_this : (kind : FaultKind) (before rest : List ℕ) → fault_between kind before rest ≡ NoLeadingNumber
+    → kind ≡ kinds.NoLeadingNumber
+only_this kinds.Wildcard before rest e = absurd (cc)
+only_this kinds.NumberTooBig before rest e = absurd (cc)
+only_this kinds.NoLeadingNumber before rest e = cc
+only_this kinds.LocalEmpty before rest e = absurd (cc)
+only_this kinds.UnexpectedEnd before rest e = absurd (cc)
 
--- an error names the fault that the reader found
-pub refuses : {Y : Type 0} (text : List ℕ) (found : ReadError) (error : VersionParseError) (read : Result Y TextFault) → IsReadErrorOf text found error → Fails found read → Refuses error read
-refuses text errors.Memory error read i e = rw i tt
-refuses text (errors.Fault fault) error read i e = refuses_fault text fault error read i e
+abbrev refused : (Y : Type 0) → FaultKind → ℕ → Result Y TextFault
+refused Y kind left = Err (record { kind = kind; left = left })
 
-pub refuses_pattern : {Y : Type 0} (text : List ℕ) (found : ReadError) (error : VersionPatternParseError) (read : Result Y TextFault) → IsPatternErrorOf text found error → Fails found read → RefusesPattern error read
-refuses_pattern text found patterns.Memory read i e = tt
-refuses_pattern text found (patterns.Version error) read i e = (i.0, refuses text found error read i.1 e)
+has_kind : (Y : Type 0) (fault : TextFault) → HasNumber (refused Y fault.kind fault.left) → fault.kind ≢ kinds.NoLeadingNumber
+has_kind Y fault h = λ k. h fault.left (ap (λ (kind : FaultKind). refused Y kind fault.left) k)
 
-shows_fault : {Y : Type 0} (text : List ℕ) (fault : TextFault) (error : VersionParseError) (read : Result Y TextFault) → IsErrorOf text fault error → read ≡ Err fault → Shows error text read
-shows_fault text fault Memory read i e = tt
-shows_fault text fault Wildcard read i e = tt
-shows_fault text fault (NumberTooBig number) read i e = (fault.left, named kinds.NumberTooBig fault read i.0 e, i.1)
-shows_fault text fault NoLeadingNumber read i e = tt
-shows_fault text fault LocalEmpty read i e = tt
-shows_fault text fault (UnexpectedEnd version remaining) read i e =
-    (named kinds.UnexpectedEnd fault read i.0 e ∙ ap (λ (left : ℕ). Err (record { kind = kinds.UnexpectedEnd; left = left })) (sym i.1), i.2)
-
--- an error's texts are those of the fault that the reader found
-pub shows : {Y : Type 0} (text : List ℕ) (found : ReadError) (error : VersionParseError) (read : Result Y TextFault) → IsReadErrorOf text found error → Fails found read → Shows error text read
-shows text errors.Memory error read i e = rw i tt
-shows text (errors.Fault fault) error read i e = shows_fault text fault error read i e
-
-pub shows_pattern : {Y : Type 0} (text : List ℕ) (found : ReadError) (error : VersionPatternParseError) (read : Result Y TextFault) → IsPatternErrorOf text found error → Fails found read → ShowsPattern error text read
-shows_pattern text found patterns.Memory read i e = tt
-shows_pattern text found (patterns.Version error) read i e = shows text found error read i.1 e
-
-nothing : {Y : Type 0} (left : ℕ) (kind : FaultKind) (read : Result Y TextFault) → read ≡ Err (record { kind = kind; left = left }) → result_ok read ≡ None
-nothing left kind read e = rw e refl
-
--- where a fault is named there is nothing
-pub lacks : {Y : Type 0} (error : VersionParseError) (read : Result Y TextFault) → Refuses error read → Lacks error (result_ok read)
-lacks Memory read r = tt
-lacks Wildcard read r = nothing r.0 _ read r.1
-lacks (NumberTooBig number) read r = nothing r.0 _ read r.1
-lacks NoLeadingNumber read r = nothing r.0 _ read r.1
-lacks LocalEmpty read r = nothing r.0 _ read r.1
-lacks (UnexpectedEnd version remaining) read r = nothing r.0 _ read r.1
-
-lacks_named : {Y : Type 0} (error : VersionParseError) (found : Option Y) → error ≢ Memory → Lacks error found → found ≡ None
-lacks_named Memory found n l = absurd (n refl)
-lacks_named Wildcard found n l = l
-lacks_named (NumberTooBig number) found n l = l
-lacks_named NoLeadingNumber found n l = l
-lacks_named LocalEmpty found n l = l
-lacks_named (UnexpectedEnd version remaining) found n l = l
-
-pub lacks_pattern : {Y : Type 0} (error : VersionPatternParseError) (read : Result Y TextFault) → RefusesPattern error read → LacksPattern error (result_ok read)
-lacks_pattern patterns.Memory read r = tt
-lacks_pattern (patterns.Version error) read r = lacks_named error (result_ok read) r.0 (lacks error read r.1)
-
--- ---- a star stands behind an epoch and a release alone
-
-starless : (read : Result VersionRecord TextFault) (pattern : PatternRecord) → (read >>= λ version. Ok (record { version = version; wildcard = false })) ≡ Ok pattern → pattern.wildcard ≡ true → ⊥
-starless (Ok version) pattern e w = cc
-starless (Err fault) pattern e w = cc
-
-abbrev read_ok : PatternRecord → Result PatternRecord TextFault
-read_ok pattern = Ok pattern
-
-plain_same : (version : VersionRecord) (pattern : PatternRecord) → read_ok (record { version = version; wildcard = true }) ≡ Ok pattern → version ≡ epoch_record version.epoch version.release
-    → pattern.version ≡ epoch_record pattern.version.epoch pattern.version.release
-plain_same version pattern e p =
-    let same : record { version = version; wildcard = true } ≡ pattern = cc in
-    let one : version ≡ pattern.version = ap (λ (x : PatternRecord). x.version) same in
-    subst (λ (x : VersionRecord). x ≡ epoch_record x.epoch x.release) one p
-
-plain_by : (head : (ℕ × List ℕ) × List ℕ) (star : Bool) (pattern : PatternRecord)
-    → (if star then Ok (record { version = epoch_record head.0.0 head.0.1; wildcard = true }) else (suffixed head.0 head.1 >>= λ version. Ok (record { version = version; wildcard = false }))) ≡ Ok pattern
-    → pattern.wildcard ≡ true → pattern.version ≡ epoch_record pattern.version.epoch pattern.version.release
-plain_by head true pattern e w = plain_same (epoch_record head.0.0 head.0.1) pattern e refl
-plain_by head false pattern e w = absurd (starless (suffixed head.0 head.1) pattern e w)
-
-plain_behind : (head : Result ((ℕ × List ℕ) × List ℕ) TextFault) (pattern : PatternRecord) → (head >>= pattern_behind) ≡ Ok pattern → pattern.wildcard ≡ true → pattern.version ≡ epoch_record pattern.version.epoch pattern.version.release
-plain_behind (Ok head) pattern e w = plain_by head (is_star head.1) pattern e w
-plain_behind (Err fault) pattern e w = absurd (cc)
-
-pub star_is_plain : (text : List ℕ) (pattern : PatternRecord) → read_pattern text ≡ Ok pattern → pattern.wildcard ≡ true → pattern.version ≡ epoch_record pattern.version.epoch pattern.version.release
-unfolding read_pattern
-star_is_plain text pattern e w = plain_behind (head_at text) pattern e w
+-- want of memory comes where a number was read
+pub grows : {Y : Type 0} (text : List ℕ) (error : ReadError) (read : Result Y TextFault) → (error ≡ errors.Memory → HasNumber read)
+    → Tells (told_read error) read → IfSome (told_read error) (λ fault. fault.kind ≢ kinds.NoLeadingNumber)
+    → with_texts text read ≢ Err NoLeadingNumber
+grows text error (Ok x) h e k = λ f. cc
+grows {Y} text errors.Memory (Err fault) h e k = λ f.
+    let named : fault_in text fault ≡ NoLeadingNumber = cc in
+    has_kind Y fault (h refl) (only_this fault.kind _ _ named)
+grows text (errors.Fault other) (Err fault) h e k = λ f.
+    let same : fault ≡ other = cc in
+    let named : fault_in text fault ≡ NoLeadingNumber = cc in
+    k (ap (λ (x : TextFault). x.kind) (sym same) ∙ only_this fault.kind _ _ named)

@@ -2,4 +2,5 @@ pub mod Stripped
 pub mod Joined
 pub mod Padded
 pub mod Faults
-pub mod Cuts
+pub mod Stars
+pub mod Found

@@ -2,10 +2,10 @@ pub use Rattle.pep440_text.specs.Record
 pub use Rattle.pep440_text.specs.Text
 pub use Rattle.pep440_text.specs.Reading
 pub use Rattle.pep440_text.specs.Print
+pub use Rattle.pep440_text.specs.Faults
+pub use Rattle.read_outcome.specs.Outcome
 pub mod Order
 pub mod Changes
 pub mod PatternOrder
-pub mod ParseErrors
-pub mod FaultTexts
-pub mod Values
+pub mod VersionReading
 pub mod ErrorPrints

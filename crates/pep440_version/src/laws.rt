@@ -1,9 +1,12 @@
 //! Laws over the definitions that the contracts cite. The functions do nothing: each one's contract is its law.
 
 ghost use Rattle.std.specs.Prelude.{◌≡◌, ℕ, ◌<◌, ◌^◌, ◌↔◌, List, All, length, Some, IsTrue};
+ghost use Rattle.std.specs.Result.{result_ok};
 ghost use Rattle.std.specs.Ordering.{nat_cmp};
 ghost use Rattle.std.specs.Cmp.Lexicographic.{slice_cmp};
 ghost use Rattle.pep440_text.specs.Record.{VersionRecord, with_end_zeros};
+ghost use Rattle.pep440_text.specs.Reading.{version_of, pattern_of};
+ghost use Rattle.pep440_version.specs.VersionReading.{version_reading, pattern_reading};
 ghost use Rattle.pep440_version.specs.Order.{key_of, padded_cmp, stripped, version_cmp, version_eq};
 
 /// Versions are equal exactly where their keys are the same, and then they feed a hash alike.
@@ -22,4 +25,10 @@ pub fn end_zeros_change_nothing()
 /// Releases compare number by number, with zeros where one has ended.
 pub fn releases_compare_padded()
     ensures { (a b : List ℕ) → slice_cmp nat_cmp (stripped a) (stripped b) ≡ padded_cmp a b }
+{}
+
+/// A reading with the texts of its fault finds a version, or a pattern, exactly where the text is one.
+pub fn readings_find_what_texts_are()
+    ensures version { (text : List ℕ) → version_of text ≡ result_ok (version_reading text) }
+    ensures pattern { (text : List ℕ) → pattern_of text ≡ result_ok (pattern_reading text) }
 {}

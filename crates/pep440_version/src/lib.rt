@@ -16,7 +16,7 @@ mod version;
 pub use parse_error::{VersionParseError, VersionPatternParseError};
 pub use pattern::VersionPattern;
 pub use pep440_text::{LocalSegment, Prerelease, PrereleaseKind};
-pub use value::FromValueError;
+pub use read_outcome::FromValueError;
 pub use version::Version;
 
 #[cfg(test)]

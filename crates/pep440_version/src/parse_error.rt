@@ -1,10 +1,15 @@
 //! Why a text is no version or no pattern.
 
-ghost use Rattle.std.specs.Prelude.{◌≡◌, IfOk, Some};
+ghost use Rattle.std.specs.Prelude.{◌≡◌, ◌≢◌, IfOk, IfSome, Some, Err, alloc_error};
+ghost use Rattle.std.specs.Option.{option_map};
 ghost use Rattle.std.specs.String.{string_bytes};
+ghost use Rattle.pep440_text.specs.declared.FaultKind.TheVariants as kinds;
+ghost use Rattle.pep440_text.specs.Faults.{StandsIn, told_read};
 ghost use Rattle.pep440_text.specs.Reading.{leading_digits};
 ghost use Rattle.pep440_version.specs.ErrorPrints.{version_error_text, pattern_error_text};
-ghost use Rattle.pep440_version.specs.FaultTexts.{StandsIn, MayShow, IsErrorOf, IsReadErrorOf, IsPatternErrorOf};
+ghost use Rattle.pep440_version.specs.declared.parse_error.VersionParseError.TheVariants as errors;
+ghost use Rattle.pep440_version.specs.declared.parse_error.VersionPatternParseError.TheVariants as patterns;
+ghost use Rattle.pep440_version.specs.VersionReading.{fault_in, told_version, told_pattern};
 
 use pep440_text::{FaultKind, ReadError, TextFault};
 use std::alloc::{AllocError, AllocFailed, Global};
@@ -112,7 +117,8 @@ impl VersionParseError {
         fault: TextFault,
     ) -> Result<VersionParseError, AllocError>
         requires { StandsIn text.now fault }
-        ensures { IfOk result (λ error. IsErrorOf text.now fault error) }
+        ensures told { IfOk result (λ error. told_version error ≡ Some (fault_in text.now fault)) }
+        ensures grown { result ≡ Err alloc_error → fault.kind ≢ kinds.NoLeadingNumber }
     {
         let (version, remaining) = text.split_at(text.len() - fault.left);
         match fault.kind {
@@ -131,8 +137,11 @@ impl VersionParseError {
 
     /// The error of a text that could not be read.
     pub(crate) fn of_reading(alloc: Global, text: &str, error: ReadError) -> VersionParseError
-        requires { MayShow text.now error }
-        ensures { IsReadErrorOf text.now error result }
+        requires { IfSome (told_read error) (StandsIn text.now) }
+        ensures told { IfSome (told_version result)
+            (λ fault. option_map (fault_in text.now) (told_read error) ≡ Some fault) }
+        ensures grown { result ≡ errors.Memory
+            → IfSome (told_read error) (λ fault. fault.kind ≢ kinds.NoLeadingNumber) }
     {
         match error {
             ReadError::Memory => VersionParseError::Memory,
@@ -172,8 +181,12 @@ impl VersionPatternParseError {
         text: &str,
         error: ReadError,
     ) -> VersionPatternParseError
-        requires { MayShow text.now error }
-        ensures { IsPatternErrorOf text.now error result }
+        requires { IfSome (told_read error) (StandsIn text.now) }
+        ensures told { IfSome (told_pattern result)
+            (λ fault. option_map (fault_in text.now) (told_read error) ≡ Some fault) }
+        ensures grown { result ≡ patterns.Memory
+            → IfSome (told_read error) (λ fault. fault.kind ≢ kinds.NoLeadingNumber) }
+        ensures plain { result ≢ patterns.Version errors.Memory }
     {
         match VersionParseError::of_reading(alloc, text, error) {
             VersionParseError::Memory => VersionPatternParseError::Memory,

@@ -1,10 +1,11 @@
 //! Versions, or all versions that begin like one.
 
-ghost use Rattle.std.specs.Prelude.{◌≡◌, ◌&&◌, true, false, IfOk, IfErr, eqb};
+ghost use Rattle.std.specs.Prelude.{◌≡◌, ◌≢◌, true, false, IfOk, IfErr, Err};
 ghost use Rattle.pep440_text.specs.Record.{PatternRecord, epoch_record};
-ghost use Rattle.pep440_text.specs.Reading.{pattern_of, read_pattern};
-ghost use Rattle.pep440_version.specs.ParseErrors.{ReadsPattern, RefusesPattern};
-ghost use Rattle.pep440_version.specs.FaultTexts.{ShowsPattern};
+ghost use Rattle.read_outcome.specs.Outcome.{Answers};
+ghost use Rattle.pep440_version.specs.declared.parse_error.VersionParseError.TheVariants as errors;
+ghost use Rattle.pep440_version.specs.declared.parse_error.VersionPatternParseError.TheVariants as patterns;
+ghost use Rattle.pep440_version.specs.VersionReading.{NoLeadingNumber, pattern_reading, told_pattern};
 ghost use Rattle.pep440_version.specs.PatternOrder.{pattern_eq, pattern_eq_equiv, pattern_eq_partial, fed_pattern, alike_patterns};
 
 use crate::{Version, VersionPatternParseError};
@@ -58,9 +59,9 @@ impl VersionPattern {
     ///
     /// Costs are those of `Version::from_str`. The error names the first fault from the left.
     pub fn from_str(alloc: Global, text: &str) -> Result<VersionPattern, VersionPatternParseError>
-        ensures pattern { ReadsPattern result (pattern_of text.now) }
-        ensures fault { IfErr result (λ fault. RefusesPattern fault (read_pattern text.now)) }
-        ensures texts { IfErr result (λ fault. ShowsPattern fault text.now (read_pattern text.now)) }
+        ensures answered { Answers (λ pattern. pattern) told_pattern result (pattern_reading text.now) }
+        ensures grown { result ≡ Err patterns.Memory → pattern_reading text.now ≢ Err NoLeadingNumber }
+        ensures plain { IfErr result (λ error. error ≢ patterns.Version errors.Memory) }
     {
         match pep440_text::read_pattern(alloc, text.as_bytes()) {
             Ok((parts, wildcard)) => Ok(VersionPattern {

@@ -1,10 +1,10 @@
 //! Versions.
 
-ghost use Rattle.std.specs.Prelude.{◌≡◌, ◌<◌, List, length, map, not, is_some, IfOk, IfErr};
+ghost use Rattle.std.specs.Prelude.{◌≡◌, ◌≢◌, ◌<◌, length, map, not, is_some, IfOk, Err};
 ghost use Rattle.pep440_text.specs.Record.{VersionRecord, release_record, said, segment_of};
-ghost use Rattle.pep440_text.specs.Reading.{read_version, version_of};
-ghost use Rattle.pep440_version.specs.ParseErrors.{Reads, Refuses};
-ghost use Rattle.pep440_version.specs.FaultTexts.{Shows};
+ghost use Rattle.read_outcome.specs.Outcome.{Answers};
+ghost use Rattle.pep440_version.specs.declared.parse_error.VersionParseError.TheVariants as errors;
+ghost use Rattle.pep440_version.specs.VersionReading.{NoLeadingNumber, version_reading, told_version};
 ghost use Rattle.pep440_version.specs.Changes.{is_prerelease, has_local, early_version};
 
 use crate::{LocalSegment, Prerelease, PrereleaseKind, VersionParseError};
@@ -51,12 +51,12 @@ impl Version {
     /// Reads a version, as `1!2.0rc1.post2.dev3+ubuntu.1`: letters in either case, every spelling that PEP 440 normalizes
     /// ("Normalization"), and ASCII white space around.
     ///
-    /// Linear in the text; takes memory for the numbers of the release and the segments of the local part. The error
-    /// names the first fault from the left.
+    /// Linear in the text; takes memory for the numbers of the release and the segments of the local part, and for the
+    /// texts in the error. The error names the first fault from the left; where no number begins the release, nothing
+    /// was allocated before it.
     pub fn from_str(alloc: Global, text: &str) -> Result<Version, VersionParseError>
-        ensures version { Reads result (version_of text.now) }
-        ensures fault { IfErr result (λ fault. Refuses fault (read_version text.now)) }
-        ensures texts { IfErr result (λ fault. Shows fault text.now (read_version text.now)) }
+        ensures answered { Answers (λ version. version) told_version result (version_reading text.now) }
+        ensures grown { result ≡ Err errors.Memory → version_reading text.now ≢ Err NoLeadingNumber }
     {
         match pep440_text::read_version(alloc, text.as_bytes()) {
             Ok(parts) => Ok(Version::of_parts(parts)),

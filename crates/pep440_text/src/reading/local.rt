@@ -8,7 +8,9 @@ ghost use Rattle.std.specs.Str.{IsAscii, all_ascii_digits};
 ghost use Rattle.std.specs.Str.Parse.{digits_value};
 ghost use Rattle.pep440_text.specs.Record.{segment_of};
 ghost use Rattle.pep440_text.specs.Text.{segment_said};
-ghost use Rattle.pep440_text.specs.Reading.{Gives, segment_at, segments_at, local_at};
+ghost use Rattle.read_outcome.specs.Outcome.{Answers};
+ghost use Rattle.pep440_text.specs.Faults.{told_read};
+ghost use Rattle.pep440_text.specs.Reading.{segment_at, segments_at, local_at};
 
 use super::fault;
 use super::number::{split_digits, value};
@@ -51,11 +53,11 @@ fn lower(alloc: Global, letters: &[u8]) -> Result<String, AllocError>
 /// The segment at the front, of which there has to be one.
 #[tactic(auto, unfolding(crate::specs::Reading::segment_at))]
 fn segment(alloc: Global, bytes: &[u8]) -> Result<(LocalSegment, &[u8]), ReadError>
-    ensures { Gives (λ found. (segment_of found.0, found.1.now)) result (segment_at bytes.now) }
+    ensures { Answers (λ found. (segment_of found.0, found.1.now)) told_read result (segment_at bytes.now) }
 {
     let (letters, rest) = split_letters(bytes);
     if letters.is_empty() {
-        return Err(fault(FaultKind::LocalEmpty, bytes));
+        return Err(ReadError::Fault(fault(FaultKind::LocalEmpty, bytes)));
     }
     match whole_number(letters) {
         Some(number) => Ok((LocalSegment::Number(number), rest)),
@@ -68,7 +70,7 @@ fn segment(alloc: Global, bytes: &[u8]) -> Result<(LocalSegment, &[u8]), ReadErr
 
 /// Segments with separators between them.
 fn segments(alloc: Global, bytes: &[u8]) -> Result<(Vec<LocalSegment>, &[u8]), ReadError>
-    ensures { Gives (λ found. (map segment_of found.0.items, found.1.now)) result (segments_at (length bytes.now) bytes.now) }
+    ensures { Answers (λ found. (map segment_of found.0.items, found.1.now)) told_read result (segments_at (length bytes.now) bytes.now) }
 {
     let mut segments = Vec::new(alloc);
     let mut rest = bytes;
@@ -89,13 +91,13 @@ fn segments(alloc: Global, bytes: &[u8]) -> Result<(Vec<LocalSegment>, &[u8]), R
             }
         }
     }
-    Err(fault(FaultKind::LocalEmpty, rest))
+    Err(ReadError::Fault(fault(FaultKind::LocalEmpty, rest)))
 }
 
 /// The segments of a local part, none where there is no `+`.
 #[tactic(auto, unfolding(crate::specs::Reading::local_at))]
 pub(super) fn local(alloc: Global, bytes: &[u8]) -> Result<(Vec<LocalSegment>, &[u8]), ReadError>
-    ensures { Gives (λ found. (map segment_of found.0.items, found.1.now)) result (local_at bytes.now) }
+    ensures { Answers (λ found. (map segment_of found.0.items, found.1.now)) told_read result (local_at bytes.now) }
 {
     match bytes.split_first() {
         Some((b'+', rest)) => segments(alloc, rest),

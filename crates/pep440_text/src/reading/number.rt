@@ -1,11 +1,14 @@
 //! Numbers, and numbers with dots between them.
 
-ghost use Rattle.std.specs.Prelude.{◌≡◌, ◌<◌, ◌^◌, nat_lt, if◌then◌else◌, [], ◌∷◌, length, Some, None, IfOk};
+ghost use Rattle.std.specs.Prelude.{◌≡◌, ◌<◌, ◌^◌, nat_lt, if◌then◌else◌, [], ◌∷◌, length, Some, None, Err, IfOk};
 ghost use Rattle.std.specs.Str.Parse.{AllDigits, digits_value};
-ghost use Rattle.pep440_text.specs.Reading.{Gives, leading_digits, behind_digits, number_of, number_at, marked_number_at, epoch_at, with_front, numbers_at, release_at};
+ghost use Rattle.read_outcome.specs.Outcome.{Answers};
+ghost use Rattle.pep440_text.specs.declared.ReadError.TheVariants as errors;
+ghost use Rattle.pep440_text.specs.Faults.{told_read, HasNumber};
+ghost use Rattle.pep440_text.specs.Reading.{leading_digits, behind_digits, number_of, number_at, marked_number_at, epoch_at, with_front, numbers_at, release_at};
 
 use super::fault;
-use crate::{FaultKind, ReadError};
+use crate::{FaultKind, ReadError, TextFault};
 use std::alloc::Global;
 
 /// The digits at the front, and the bytes behind them.
@@ -36,9 +39,9 @@ pub(super) fn value(digits: &[u8]) -> Option<u64>
 }
 
 /// The value of the digits that stand at the front of some bytes, where there are any.
-fn number_of(bytes: &[u8], digits: &[u8]) -> Result<Option<u64>, ReadError>
+fn number_of(bytes: &[u8], digits: &[u8]) -> Result<Option<u64>, TextFault>
     requires { AllDigits 10 digits.now }
-    ensures { Gives (λ number. number) result (number_of bytes.now digits.now) }
+    ensures { Answers (λ number. number) Some result (number_of bytes.now digits.now) }
 {
     if digits.is_empty() {
         return Ok(None);
@@ -51,8 +54,8 @@ fn number_of(bytes: &[u8], digits: &[u8]) -> Result<Option<u64>, ReadError>
 
 /// The number at the front, where there is one.
 #[tactic(auto, unfolding(crate::specs::Reading::number_at))]
-pub(super) fn number(bytes: &[u8]) -> Result<(Option<u64>, &[u8]), ReadError>
-    ensures { Gives (λ found. (found.0, found.1.now)) result (number_at bytes.now) }
+pub(super) fn number(bytes: &[u8]) -> Result<(Option<u64>, &[u8]), TextFault>
+    ensures { Answers (λ found. (found.0, found.1.now)) Some result (number_at bytes.now) }
 {
     let (digits, rest) = split_digits(bytes);
     let number = number_of(bytes, digits)?;
@@ -61,8 +64,8 @@ pub(super) fn number(bytes: &[u8]) -> Result<(Option<u64>, &[u8]), ReadError>
 
 /// A byte and a number, where there are both.
 #[tactic(auto, unfolding(crate::specs::Reading::marked_number_at))]
-pub(super) fn marked_number(mark: u8, bytes: &[u8]) -> Result<(Option<u64>, &[u8]), ReadError>
-    ensures { Gives (λ found. (found.0, found.1.now)) result (marked_number_at mark bytes.now) }
+pub(super) fn marked_number(mark: u8, bytes: &[u8]) -> Result<(Option<u64>, &[u8]), TextFault>
+    ensures { Answers (λ found. (found.0, found.1.now)) Some result (marked_number_at mark bytes.now) }
 {
     let Some((byte, rest)) = bytes.split_first() else {
         return Ok((None, bytes));
@@ -79,8 +82,8 @@ pub(super) fn marked_number(mark: u8, bytes: &[u8]) -> Result<(Option<u64>, &[u8
 
 /// The number before a `!`, where there are both.
 #[tactic(auto, unfolding(crate::specs::Reading::epoch_at))]
-pub(super) fn epoch(bytes: &[u8]) -> Result<(Option<u64>, &[u8]), ReadError>
-    ensures { Gives (λ found. (found.0, found.1.now)) result (epoch_at bytes.now) }
+pub(super) fn epoch(bytes: &[u8]) -> Result<(Option<u64>, &[u8]), TextFault>
+    ensures { Answers (λ found. (found.0, found.1.now)) Some result (epoch_at bytes.now) }
 {
     let (digits, behind) = split_digits(bytes);
     match behind.split_first() {
@@ -97,7 +100,7 @@ pub(super) fn epoch(bytes: &[u8]) -> Result<(Option<u64>, &[u8]), ReadError>
 
 /// A first number, and those behind dots as long as there are any.
 fn numbers(alloc: Global, first: u64, bytes: &[u8]) -> Result<(Vec<u64>, &[u8]), ReadError>
-    ensures { Gives (λ found. (found.0.items, found.1.now)) result (with_front (first ∷ []) (numbers_at (length bytes.now) bytes.now)) }
+    ensures { Answers (λ found. (found.0.items, found.1.now)) told_read result (with_front (first ∷ []) (numbers_at (length bytes.now) bytes.now)) }
 {
     let dots = bytes.iter().filter(|byte| **byte == b'.').count();
     let mut numbers = Vec::with_capacity(alloc, dots + 1)?;
@@ -105,7 +108,7 @@ fn numbers(alloc: Global, first: u64, bytes: &[u8]) -> Result<(Vec<u64>, &[u8]),
     let mut rest = bytes;
     for _ in 0..bytes.len() {
         match marked_number(b'.', rest) {
-            Err(error) => return Err(error),
+            Err(fault) => return Err(ReadError::Fault(fault)),
             Ok((None, later)) => return Ok((numbers, later)),
             Ok((Some(number), later)) => {
                 numbers.push(number)?;
@@ -119,12 +122,13 @@ fn numbers(alloc: Global, first: u64, bytes: &[u8]) -> Result<(Vec<u64>, &[u8]),
 /// The numbers of a release.
 #[tactic(auto, unfolding(crate::specs::Reading::release_at))]
 pub(super) fn release(alloc: Global, bytes: &[u8]) -> Result<(Vec<u64>, &[u8]), ReadError>
-    ensures release { Gives (λ found. (found.0.items, found.1.now)) result (release_at bytes.now) }
+    ensures release { Answers (λ found. (found.0.items, found.1.now)) told_read result (release_at bytes.now) }
     ensures numbers { IfOk result (λ found. 0 < length found.0.items) }
+    ensures grown { result ≡ Err errors.Memory → HasNumber (release_at bytes.now) }
 {
     let (first, rest) = number(bytes)?;
     match first {
-        None => Err(fault(FaultKind::NoLeadingNumber, bytes)),
+        None => Err(ReadError::Fault(fault(FaultKind::NoLeadingNumber, bytes))),
         Some(first) => numbers(alloc, first, rest),
     }
 }

@@ -1,12 +1,13 @@
 //! Pre-releases, post-releases and developmental releases.
 
-ghost use Rattle.std.specs.Prelude.{◌≡◌, map};
+ghost use Rattle.std.specs.Prelude.{◌≡◌, map, Some};
 ghost use Rattle.std.specs.Option.{option_map, option_copied};
 ghost use Rattle.pep440_text.specs.Text.{is_separator};
-ghost use Rattle.pep440_text.specs.Reading.{Gives, after_separator, behind_word, word_at, suffix_at, pre_at, post_at, dev_at};
+ghost use Rattle.read_outcome.specs.Outcome.{Answers};
+ghost use Rattle.pep440_text.specs.Reading.{after_separator, behind_word, word_at, suffix_at, pre_at, post_at, dev_at};
 
 use super::number::{marked_number, number};
-use crate::{Prerelease, PrereleaseKind, ReadError};
+use crate::{Prerelease, PrereleaseKind, TextFault};
 
 /// Whether a byte is `.`, `-` or `_`.
 pub(super) fn is_separator(byte: u8) -> bool
@@ -61,8 +62,8 @@ fn find_word<'a, A: Copy>(words: &[(&str, A)], bytes: &'a [u8]) -> Option<(A, &'
 fn suffix<'a, A: Copy>(
     words: &[(&str, A)],
     bytes: &'a [u8],
-) -> Result<(Option<(A, u64)>, &'a [u8]), ReadError>
-    ensures { Gives (λ found. (found.0, found.1.now)) result (suffix_at (map (λ word. (word.0.now, word.1)) words.now) bytes.now) }
+) -> Result<(Option<(A, u64)>, &'a [u8]), TextFault>
+    ensures { Answers (λ found. (found.0, found.1.now)) Some result (suffix_at (map (λ word. (word.0.now, word.1)) words.now) bytes.now) }
 {
     match find_word(words, skip_separator(bytes)) {
         None => Ok((None, bytes)),
@@ -75,8 +76,8 @@ fn suffix<'a, A: Copy>(
 
 /// A pre-release, where there is one.
 #[tactic(auto, unfolding(crate::specs::Reading::pre_at))]
-pub(super) fn pre(bytes: &[u8]) -> Result<(Option<Prerelease>, &[u8]), ReadError>
-    ensures { Gives (λ found. (found.0, found.1.now)) result (pre_at bytes.now) }
+pub(super) fn pre(bytes: &[u8]) -> Result<(Option<Prerelease>, &[u8]), TextFault>
+    ensures { Answers (λ found. (found.0, found.1.now)) Some result (pre_at bytes.now) }
 {
     let words = [
         ("alpha", PrereleaseKind::Alpha),
@@ -97,8 +98,8 @@ pub(super) fn pre(bytes: &[u8]) -> Result<(Option<Prerelease>, &[u8]), ReadError
 
 /// A post-release, where there is one.
 #[tactic(auto, unfolding(crate::specs::Reading::post_at))]
-pub(super) fn post(bytes: &[u8]) -> Result<(Option<u64>, &[u8]), ReadError>
-    ensures { Gives (λ found. (found.0, found.1.now)) result (post_at bytes.now) }
+pub(super) fn post(bytes: &[u8]) -> Result<(Option<u64>, &[u8]), TextFault>
+    ensures { Answers (λ found. (found.0, found.1.now)) Some result (post_at bytes.now) }
 {
     let (implicit, rest) = marked_number(b'-', bytes)?;
     match implicit {
@@ -113,8 +114,8 @@ pub(super) fn post(bytes: &[u8]) -> Result<(Option<u64>, &[u8]), ReadError>
 
 /// A developmental release, where there is one.
 #[tactic(auto, unfolding(crate::specs::Reading::dev_at))]
-pub(super) fn dev(bytes: &[u8]) -> Result<(Option<u64>, &[u8]), ReadError>
-    ensures { Gives (λ found. (found.0, found.1.now)) result (dev_at bytes.now) }
+pub(super) fn dev(bytes: &[u8]) -> Result<(Option<u64>, &[u8]), TextFault>
+    ensures { Answers (λ found. (found.0, found.1.now)) Some result (dev_at bytes.now) }
 {
     let (found, rest) = suffix(&[("dev", ())], bytes)?;
     Ok((found.map(|(_, number)| number), rest))

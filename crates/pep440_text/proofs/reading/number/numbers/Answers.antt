@@ -4,7 +4,7 @@ use Rattle.pep440_text.proofs.Steps.{numbers_none, numbers_some, numbers_err}
 use Rattle.pep440_text.proofs.reading.number.numbers.Goals as goal
 
 pub returns-in-Err : goal.returns-in-Err
-returns-in-Err c = numbers_err (length c.args.bytes.now) c.loop.counter c.loop.numbers.items c.loop.rest.now c.in-Err.error _ c.loop-test.true c.in-Err.ensures c.loop.invariant
+returns-in-Err c = numbers_err (length c.args.bytes.now) c.loop.counter c.loop.numbers.items c.loop.rest.now c.in-Err.fault _ c.loop-test.true c.in-Err.ensures c.loop.invariant
 
 pub returns-in-Ok-None-default : goal.returns-in-Ok-None-default
 returns-in-Ok-None-default c =

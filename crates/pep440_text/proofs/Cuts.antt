@@ -12,10 +12,8 @@ use Rattle.pep440_text.specs.declared.FaultKind.TheVariants.{Wildcard, NumberToo
 use Rattle.pep440_text.specs.declared.TextFault.{TextFault}
 use Rattle.pep440_text.specs.Record.{Segment, PatternRecord, epoch_record}
 use Rattle.pep440_text.specs.Text.{is_separator, pre_words, post_words, dev_words}
-use Rattle.pep440_text.specs.declared.ReadError.{ReadError}
-use Rattle.pep440_text.specs.declared.ReadError.TheVariants as errors
-use Rattle.pep440_version.specs.FaultTexts.{StandsIn, MayShow}
-use Rattle.pep440_text.specs.Reading.{◌>>=◌, Fails, at_left, after_white, after_v, after_separator, leading_digits, behind_digits, number_of, number_at, or_none, marked_number_at, epoch_by, epoch_at, with_front, more_numbers, numbers_at, release_by, release_at, head_at, behind_word, or_word, word_at, suffix_by, suffix_at, pre_at, plain_suffix_at, post_by, post_at, dev_at, segment_by, segment_at, more_segments, segments_at, local_at, end_by, end_at, suffixed, is_star, version_behind, read_version, pattern_behind, read_pattern}
+use Rattle.pep440_text.specs.Faults.{StandsIn}
+use Rattle.pep440_text.specs.Reading.{◌>>=◌, at_left, after_white, after_v, after_separator, leading_digits, behind_digits, number_of, number_at, or_none, marked_number_at, epoch_by, epoch_at, with_front, more_numbers, numbers_at, release_by, release_at, head_at, behind_word, or_word, word_at, suffix_by, suffix_at, pre_at, plain_suffix_at, post_by, post_at, dev_at, segment_by, segment_at, more_segments, segments_at, local_at, end_by, end_at, suffixed, is_star, version_behind, read_version, pattern_behind, read_pattern}
 
 -- what is left of a text behind ASCII bytes
 pub record Past (text rest : List ℕ) : Type 0 where
@@ -392,13 +390,9 @@ may_cut text (Err other) fault u f e =
     let same : other ≡ fault = cc in
     subst (StandsIn text) same (cut_past text f.0 other.left u f.1 f.2)
 
-may_show : {A : Type 0} (text : List ℕ) (read : Result A TextFault) (error : ReadError) → IsUtf8 text → FaultsIn text read → Fails error read → MayShow text error
-may_show text read errors.Memory u f e = tt
-may_show text read (errors.Fault fault) u f e = may_cut text read fault u f e
+-- the fault of a text that is no version, and of one that is no pattern
+pub version_cut : (text : List ℕ) (fault : TextFault) → IsUtf8 text → read_version text ≡ Err fault → StandsIn text fault
+version_cut text fault u e = may_cut text (read_version text) fault u (faults_version text) e
 
--- the fault of a text that is no version stands between two characters
-pub version_shows : (text : List ℕ) (error : ReadError) → IsUtf8 text → Fails error (read_version text) → MayShow text error
-version_shows text error u e = may_show text (read_version text) error u (faults_version text) e
-
-pub pattern_shows : (text : List ℕ) (error : ReadError) → IsUtf8 text → Fails error (read_pattern text) → MayShow text error
-pattern_shows text error u e = may_show text (read_pattern text) error u (faults_pattern text) e
+pub pattern_cut : (text : List ℕ) (fault : TextFault) → IsUtf8 text → read_pattern text ≡ Err fault → StandsIn text fault
+pattern_cut text fault u e = may_cut text (read_pattern text) fault u (faults_pattern text) e
