@@ -49,27 +49,27 @@ agrees EqualStar version candidate range local said other_said plain apart e =
 agrees ExactEqual version candidate range local said other_said plain apart e = absurd apart
 agrees NotEqual version candidate range local said other_said plain apart e =
     holds_as (all_but (at_version version)) range candidate e
-        ∙ ap (λ o. not (is_eq o)) (seen_cmp version candidate plain)
+    ∙ ap (λ o. not (is_eq o)) (seen_cmp version candidate plain)
 agrees NotEqualStar version candidate range local said other_said plain apart e =
     let found = mapped_from all_but (star_range version) range e in
     ap (λ (r : PointTest). r (At candidate)) (sym found.2)
-        ∙ ap not (star_agrees version candidate found.0 other_said plain found.1)
+    ∙ ap not (star_agrees version candidate found.0 other_said plain found.1)
 agrees TildeEqual version candidate range local said other_said plain apart e =
     compatible_agrees version candidate range other_said plain e
     ∙ ap (λ o. has_front version.epoch (without_last version.release) candidate && is_ge o)
-        (seen_cmp version candidate plain)
+    (seen_cmp version candidate plain)
 agrees LessThan version candidate range local said other_said plain apart e =
     holds_as (to_bound (Excluded (end_of_less version))) range candidate e
     ∙ less_agrees version candidate said (local refl) other_said plain apart
     ∙ ap (λ o. is_lt o && not (same_release version candidate
-        && (is_prerelease candidate && not (is_prerelease version)))) (seen_cmp version candidate plain)
+    && (is_prerelease candidate && not (is_prerelease version)))) (seen_cmp version candidate plain)
 agrees LessThanEqual version candidate range local said other_said plain apart e =
     holds_as (to_bound (Included version)) range candidate e ∙ not_greater (version_cmp candidate version)
-        ∙ ap is_le (seen_cmp version candidate plain)
+    ∙ ap is_le (seen_cmp version candidate plain)
 agrees GreaterThan version candidate range local said other_said plain apart e =
     greater_agrees version candidate range said (local refl) other_said plain apart e
     ∙ ap (λ o. is_gt o && not (same_release version candidate
-        && (is_some candidate.post && not (is_some version.post)))) (seen_cmp version candidate plain)
+    && (is_some candidate.post && not (is_some version.post)))) (seen_cmp version candidate plain)
 agrees GreaterThanEqual version candidate range local said other_said plain apart e =
     holds_as (from_bound (Included version)) range candidate e
     ∙ ap (λ o. not (is_gt o)) (version_cmp_total.antisymm version candidate)

@@ -121,11 +121,11 @@ own_end version h = ap (λ b. if b then version else record version { least = So
 
 pub range_rest : (operator other : Operator) (version : VersionRecord) → negated operator ≡ Some other
     → IsComplemented operator version → range_by other version
-        ≡ option_map all_but (range_by operator version)
+    ≡ option_map all_but (range_by operator version)
 range_rest operator other version =
     let range : Operator → Option PointTest = λ o. range_by o version in
     elim operator as (λ o. negated o ≡ Some other → IsComplemented o version → range other
-        ≡ option_map all_but (range o)) [
+    ≡ option_map all_but (range o)) [
       | operators.Equal ↦ λ e h. by_name range operators.NotEqual other
           (option_map all_but (range operators.Equal)) e refl
       | operators.EqualStar ↦ λ e h. by_name range operators.NotEqualStar other
@@ -140,12 +140,12 @@ range_rest operator other version =
       | operators.LessThan ↦ λ e h. by_name range operators.GreaterThanEqual other
           (option_map all_but (range operators.LessThan)) e
           (ap Some (from_is_rest version)
-              ∙ ap (λ (end : VersionRecord). Some (all_but (to_bound (Excluded end))))
-              (sym (own_end version h)))
+          ∙ ap (λ (end : VersionRecord). Some (all_but (to_bound (Excluded end))))
+          (sym (own_end version h)))
       | operators.LessThanEqual ↦ λ e h. absurd h
       | operators.GreaterThan ↦ λ e h. absurd h
       | operators.GreaterThanEqual ↦ λ e h. by_name range operators.LessThan other
           (option_map all_but (range operators.GreaterThanEqual)) e
           (ap (λ (end : VersionRecord). Some (to_bound (Excluded end))) (own_end version h)
-              ∙ ap Some (below_is_rest version))
+          ∙ ap Some (below_is_rest version))
     ]

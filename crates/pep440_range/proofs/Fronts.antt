@@ -50,7 +50,7 @@ pub same_front : (a b : VersionRecord) → same_release a b ≡ is_eq (front_cmp
 same_front a b =
     let releases : Ordering = slice_cmp nat_cmp (stripped a.release) (stripped b.release) in
     ap (λ t. t && is_eq releases) (unsigned_ties a.epoch b.epoch)
-        ∙ both_equal (nat_cmp a.epoch b.epoch) releases
+    ∙ both_equal (nat_cmp a.epoch b.epoch) releases
 
 -- before is behind, the other way round
 pub before : (a b : VersionRecord) → is_lt (version_cmp a b) ≡ is_gt (version_cmp b a)

@@ -40,10 +40,10 @@ pub halves_share : (range : SpecifierRecord → Option PointTest) (members front
     (set other : List (Point VersionRecord)) (both : Result (List (Point VersionRecord)) RangeError)
     → front ++ back ≡ members → GivesAll (Ok set) (map range front) → GivesAll (Ok other) (map range back)
     → IfOk both (HoldsBoth set other) → IfErr both (λ error. error ≡ Memory)
-        → GivesAll both (map range members)
+    → GivesAll both (map range members)
 halves_share range members front back set other (Ok both) e g k h m =
     let split : map range front ++ map range back ≡ map range members = sym (map-append range front back)
-        ∙ ap (map range) e in
+    ∙ ap (map range) e in
     subst (GivesAll (Ok both)) split (halves_joined (map range front) (map range back) set other both g k h)
 halves_share range members front back set other (Err NumberAtEnd) e g k h m = absurd (cc)
 halves_share range members front back set other (Err Memory) e g k h m = tt

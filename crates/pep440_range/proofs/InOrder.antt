@@ -43,17 +43,17 @@ passes_at : (passes keeps : Test) (front : List SpecifierRecord) (x : SpecifierR
 passes_at passes keeps [] x rest k h =
     let later = filter keeps rest in
     let whole : (passes x && list_all passes later) ≡ true =
-        sym (ap (λ t. list_all passes (cond t (x ∷ later) later)) k) ∙ h in
+    sym (ap (λ t. list_all passes (cond t (x ∷ later) later)) k) ∙ h in
     (both_true (passes x) (list_all passes later) whole).0
 passes_at passes keeps (y ∷ front) x rest k h =
     passes_at passes keeps front x rest k
-        (behind_first passes (keeps y) y (filter keeps (front ++ x ∷ rest)) h)
+    (behind_first passes (keeps y) y (filter keeps (front ++ x ∷ rest)) h)
 
 -- all pass where in each filter all do, and each element is in its own
 all_by : (passes : Test) (keeps : SpecifierRecord → Test) (front rest : List SpecifierRecord)
     → ((x : SpecifierRecord) → keeps x x ≡ true)
     → ((x : SpecifierRecord) → list_all passes (filter (keeps x) (front ++ rest)) ≡ true)
-        → list_all passes rest ≡ true
+    → list_all passes rest ≡ true
 all_by passes keeps front [] own all = refl
 all_by passes keeps front (x ∷ rest) own all =
     let first = passes_at passes (keeps x) front x rest (own x) (all x) in
@@ -85,7 +85,7 @@ same_all : (passes : Test) (given members : List SpecifierRecord) → IsInOrder 
     → list_all passes members ≡ list_all passes given
 same_all passes given members order =
     both_ways (list_all passes members) (list_all passes given)
-        (carried passes members given (λ x. sym (order.stable x)))
+    (carried passes members given (λ x. sym (order.stable x)))
     (carried passes given members order.stable)
 
 -- the members in order say what the given ones do
@@ -98,6 +98,6 @@ say_in_order given members test order say = (
   λ p.
       let holds : Option PointTest → Bool = λ range. range_holds range p in
       list_all-map holds release_range_of members
-          ∙ same_all (λ member. holds (release_range_of member)) given members order
+      ∙ same_all (λ member. holds (release_range_of member)) given members order
       ∙ sym (list_all-map holds release_range_of given) ∙ say.1 p,
 )

@@ -67,12 +67,12 @@ say_lower : (lower : Bound VersionRecord) → IsReleaseBound lower
 say_lower (Included version) own =
     let start : VersionRecord = release_record version.release in
     say_one (record { operator = operators.GreaterThanEqual; version = version })
-        (starts_by version_cmp (Included start)) (starts_by version_cmp (Included version)) refl
+    (starts_by version_cmp (Included start)) (starts_by version_cmp (Included version)) refl
     (λ p. ap (λ (v : VersionRecord). starts_by version_cmp (Included v) p) (sym own))
 say_lower (Excluded version) own =
     let start : VersionRecord = release_record version.release in
     say_one (record { operator = operators.GreaterThan; version = version })
-        (starts_by version_cmp (Excluded start)) (starts_by version_cmp (Excluded version)) refl
+    (starts_by version_cmp (Excluded start)) (starts_by version_cmp (Excluded version)) refl
     (λ p. ap (λ (v : VersionRecord). starts_by version_cmp (Excluded v) p) (sym own))
 say_lower Unbounded own = say_nothing
 
@@ -81,12 +81,12 @@ say_upper : (upper : Bound VersionRecord) → IsReleaseBound upper
 say_upper (Included version) own =
     let end : VersionRecord = release_record version.release in
     say_one (record { operator = operators.LessThanEqual; version = version })
-        (goes_on_to version_cmp (Included end)) (goes_on_to version_cmp (Included version)) refl
+    (goes_on_to version_cmp (Included end)) (goes_on_to version_cmp (Included version)) refl
     (λ p. ap (λ (v : VersionRecord). goes_on_to version_cmp (Included v) p) (sym own))
 say_upper (Excluded version) own =
     let end : VersionRecord = release_record version.release in
     say_one (record { operator = operators.LessThan; version = version })
-        (goes_on_to version_cmp (Excluded end)) (goes_on_to version_cmp (Excluded version)) refl
+    (goes_on_to version_cmp (Excluded end)) (goes_on_to version_cmp (Excluded version)) refl
     (λ p. ap (λ (v : VersionRecord). goes_on_to version_cmp (Excluded v) p) (sym own))
 say_upper Unbounded own = say_nothing
 
@@ -94,7 +94,7 @@ say_bounds : (lower upper : Bound VersionRecord) → IsReleaseBound lower → Is
     → Say (single_or_bounds None lower upper) (is_within version_cmp (lower, upper))
 say_bounds lower upper own other =
     say_both (option_to_list (lower_specifier lower)) (option_to_list (upper_specifier upper))
-        (starts_by version_cmp lower)
+    (starts_by version_cmp lower)
     (goes_on_to version_cmp upper) (say_lower lower own) (say_upper upper other)
 
 -- ---- one specifier
@@ -111,18 +111,18 @@ point_between lower upper p h =
     let same = equal_points lower upper p h in
     let start = turned (At lower) p in
     level_between (point_cmp version_cmp p (At lower))
-        ∙ (λ i. not (is_gt (sym start i)) && not (is_gt (same i)))
+    ∙ (λ i. not (is_gt (sym start i)) && not (is_gt (same i)))
 
 say_point : (lower upper : VersionRecord) (t : Bool) → version_eq lower upper ≡ t → IsReleaseVersion lower
     → IsReleaseVersion upper
     → Say (single_or_bounds (if t then Some (record { operator = operators.Equal; version = lower }) else
-        None) (Included lower) (Included upper))
+    None) (Included lower) (Included upper))
     (is_within version_cmp (Included lower, Included upper))
 say_point lower upper false h own other = say_bounds (Included lower) (Included upper) own other
 say_point lower upper true h own other =
     say_one (record { operator = operators.Equal; version = lower })
-        (at_version (release_record lower.release))
-        (is_within version_cmp (Included lower, Included upper)) refl
+    (at_version (release_record lower.release))
+    (is_within version_cmp (Included lower, Included upper)) refl
     (λ p. ap (λ (v : VersionRecord). at_version v p) (sym own) ∙ point_between lower upper p h)
 
 -- what begins like a version of two numbers
@@ -147,13 +147,13 @@ say_minor : (lower upper : VersionRecord) (t : Bool) → equals_release (next_mi
     → IsReleaseVersion lower → IsReleaseVersion upper
     → HasNumbers (Excluded upper)
     → Say (single_or_bounds (if t then Some (record { operator = operators.EqualStar; version = lower })
-        else None) (Included lower) (Excluded upper))
+    else None) (Included lower) (Excluded upper))
     (is_within version_cmp (Included lower, Excluded upper))
 say_minor lower upper false h own other numbers = say_bounds (Included lower) (Excluded upper) own other
 say_minor lower upper true h own other numbers =
     let found = minor_range lower upper h own numbers in
     say_one (record { operator = operators.EqualStar; version = lower }) found.0
-        (is_within version_cmp (Included lower, Excluded upper)) found.1 found.2
+    (is_within version_cmp (Included lower, Excluded upper)) found.1 found.2
 
 -- ---- an interval
 

@@ -33,9 +33,9 @@ held_as None p taken h f = absurd (true≢false (sym h))
 
 pub list_agrees : (range : SpecifierRecord → Option PointTest) (candidate : VersionRecord)
     (asked : SpecifierRecord → Type 0)
-        → ((member : SpecifierRecord) → asked member → AgreesAt range candidate member)
+    → ((member : SpecifierRecord) → asked member → AgreesAt range candidate member)
     → (members : List SpecifierRecord) → AllByRecursion asked members
-        → list_all is_some (map range members) ≡ true
+    → list_all is_some (map range members) ≡ true
     → list_all (λ r. range_holds r (At candidate)) (map range members) ≡ matches_all members candidate
 list_agrees range candidate asked f [] all there = refl
 list_agrees range candidate asked f (member ∷ members) all there =

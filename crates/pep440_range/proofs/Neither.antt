@@ -31,7 +31,7 @@ itself version = tied_itself version_cmp_total version
 level_front : (version : VersionRecord) → front_cmp version version ≡ Equal
 level_front version =
     equal_first (front_cmp version version) (tail_cmp version version)
-        (sym (by_front version version) ∙ itself version)
+    (sym (by_front version version) ∙ itself version)
 
 -- where epoch and release are those of another version, the rest decides
 by_tail : (version other : VersionRecord) (o : Ordering) → front_cmp version other ≡ Equal
@@ -79,7 +79,7 @@ behind_its_dev version said plain final =
 pub before : (version : VersionRecord) → IsSaid version → version.local ≡ [] → is_prerelease version ≡ false
     → (range_holds (range_by operators.LessThan version) (At (record version { dev = Some 0 })) ≡ false)
     × (range_holds (range_by operators.GreaterThanEqual version) (At (record version { dev = Some 0 }))
-        ≡ false)
+    ≡ false)
 before version said plain final =
     let first : VersionRecord = record version { dev = Some 0 } in
     let also : IsSaid first = record { no_least = said.no_least; no_most = said.no_most } in (
@@ -100,32 +100,32 @@ numbers_decide : (d n : ℕ) (xs ys : List (List ℕ)) → d + 1 ≡ n
     → key_cmp ((0 ∷ n ∷ []) ∷ xs) ((0 ∷ d ∷ []) ∷ ys) ≡ Greater
 numbers_decide d n xs ys e =
     ap (λ o. ordering_then (ordering_then o Equal) (key_cmp xs ys))
-        (behind_number d n (nat_cmp n d) e (ranks n d))
+    (behind_number d n (nat_cmp n d) e (ranks n d))
 
 level_parts : (c p q l : List ℕ) (xs ys : List (List ℕ))
     → key_cmp (c ∷ p ∷ q ∷ l ∷ xs) (c ∷ p ∷ q ∷ l ∷ ys) ≡ key_cmp xs ys
 level_parts c p q l xs ys =
     level_part c (p ∷ q ∷ l ∷ xs) (p ∷ q ∷ l ∷ ys) ∙ level_part p (q ∷ l ∷ xs) (q ∷ l ∷ ys)
-        ∙ level_part q (l ∷ xs) (l ∷ ys)
+    ∙ level_part q (l ∷ xs) (l ∷ ys)
     ∙ level_part l xs ys
 
 -- a raised developmental release lies behind its version
 dev_behind : (pre : Option Prerelease) (post : Option ℕ) (d n : ℕ) (local : List Segment) → d + 1 ≡ n
     → key_cmp (tail_of pre post (Some n) None None local) (tail_of pre post (Some d) None None local)
-        ≡ Greater
+    ≡ Greater
 dev_behind (Some pre) post d n local e =
     let rest : List (List ℕ) = map segment_key local in
     level_parts ((2 + kind_rank pre.kind) ∷ []) (pre_key (Some pre)) (post_key post None) []
-        ((0 ∷ n ∷ []) ∷ rest) ((0 ∷ d ∷ []) ∷ rest)
+    ((0 ∷ n ∷ []) ∷ rest) ((0 ∷ d ∷ []) ∷ rest)
     ∙ numbers_decide d n rest rest e
 dev_behind None (Some post) d n local e =
     let rest : List (List ℕ) = map segment_key local in
     level_parts (6 ∷ []) [] (0 ∷ post ∷ []) [] ((0 ∷ n ∷ []) ∷ rest) ((0 ∷ d ∷ []) ∷ rest)
-        ∙ numbers_decide d n rest rest e
+    ∙ numbers_decide d n rest rest e
 dev_behind None None d n local e =
     let rest : List (List ℕ) = map segment_key local in
     level_parts (1 ∷ []) [] [] [] ((0 ∷ n ∷ []) ∷ rest) ((0 ∷ d ∷ []) ∷ rest)
-        ∙ numbers_decide d n rest rest e
+    ∙ numbers_decide d n rest rest e
 
 -- and a raised post-release
 post_behind : (pre : Option Prerelease) (dev : Option ℕ) (p n : ℕ) (local : List Segment) → p + 1 ≡ n
@@ -133,13 +133,13 @@ post_behind : (pre : Option Prerelease) (dev : Option ℕ) (p n : ℕ) (local : 
 post_behind (Some pre) dev p n local e =
     let rest : List (List ℕ) = [] ∷ absent_last dev ∷ map segment_key local in
     level_part ((2 + kind_rank pre.kind) ∷ []) (pre_key (Some pre) ∷ (0 ∷ n ∷ []) ∷ rest)
-        (pre_key (Some pre) ∷ (0 ∷ p ∷ []) ∷ rest)
+    (pre_key (Some pre) ∷ (0 ∷ p ∷ []) ∷ rest)
     ∙ level_part (pre_key (Some pre)) ((0 ∷ n ∷ []) ∷ rest) ((0 ∷ p ∷ []) ∷ rest)
-        ∙ numbers_decide p n rest rest e
+    ∙ numbers_decide p n rest rest e
 post_behind None dev p n local e =
     let rest : List (List ℕ) = [] ∷ absent_last dev ∷ map segment_key local in
     level_part (6 ∷ []) ([] ∷ (0 ∷ n ∷ []) ∷ rest) ([] ∷ (0 ∷ p ∷ []) ∷ rest)
-        ∙ level_part [] ((0 ∷ n ∷ []) ∷ rest) ((0 ∷ p ∷ []) ∷ rest)
+    ∙ level_part [] ((0 ∷ n ∷ []) ∷ rest) ((0 ∷ p ∷ []) ∷ rest)
     ∙ numbers_decide p n rest rest e
 
 -- and the last of a version that is neither
@@ -149,7 +149,7 @@ most_behind None local = refl
 most_behind (Some pre) local =
     let rest : List (List ℕ) = [] ∷ absent_last None ∷ map segment_key local in
     level_part ((2 + kind_rank pre.kind) ∷ []) (pre_key (Some pre) ∷ (1 ∷ 0 ∷ []) ∷ rest)
-        (pre_key (Some pre) ∷ [] ∷ rest)
+    (pre_key (Some pre) ∷ [] ∷ rest)
     ∙ level_part (pre_key (Some pre)) ((1 ∷ 0 ∷ []) ∷ rest) ([] ∷ rest)
 
 tail_with : (version : VersionRecord) (dev post : Option ℕ) → version.dev ≡ dev → version.post ≡ post
@@ -173,16 +173,16 @@ held_by version (Some dev) post d p said =
     later_held (raised dev) start version
     (λ n e. by_tail (start n) version Greater (level_front version)
     ((λ i. key_cmp (tail_with (start n) (Some n) post refl p record
-        { no_least = said.no_least; no_most = said.no_most } i)
-        (tail_with version (Some dev) post d p said i))
+    { no_least = said.no_least; no_most = said.no_most } i)
+    (tail_with version (Some dev) post d p said i))
     ∙ dev_behind version.pre post dev n version.local (raised_is dev n e)))
 held_by version None (Some post) d p said =
     let start : ℕ → VersionRecord = λ n. record version { post = Some n } in
     later_held (raised post) start version
     (λ n e. by_tail (start n) version Greater (level_front version)
     ((λ i. key_cmp (tail_with (start n) None (Some n) d refl record
-        { no_least = said.no_least; no_most = said.no_most } i)
-        (tail_with version None (Some post) d p said i))
+    { no_least = said.no_least; no_most = said.no_most } i)
+    (tail_with version None (Some post) d p said i))
     ∙ post_behind version.pre None post n version.local (raised_is post n e)))
 held_by version None None d p said =
     let start : VersionRecord = record version { most = Some 0 } in
@@ -191,7 +191,7 @@ held_by version None None d p said =
     let right = tail_with version None None d p said in
     ap (λ o. not (is_gt o))
     (by_tail start version Greater (level_front version)
-        ((λ i. key_cmp (left i) (right i)) ∙ most_behind version.pre version.local))
+    ((λ i. key_cmp (left i) (right i)) ∙ most_behind version.pre version.local))
 
 pub behind : (version : VersionRecord) → IsSaid version
     → (range_holds (range_by operators.LessThanEqual version) (JustAbove version) ≡ false)

@@ -67,7 +67,7 @@ fits_raised a b next h k =
     sym (equal_numbers (release_record (a ∷ (b + 1) ∷ [])) next h) ∙ two_stripped a b in
     let all : Are64 (a ∷ (b + 1) ∷ []) = subst Are64 numbers (stripped_kept next.release k) in
     ap (λ t. option_map (λ later. a ∷ later)
-        (option_map (λ n. n ∷ []) (if t then Some (b + 1) else None))) (below_64 (b + 1) all.1.0)
+    (option_map (λ n. n ∷ []) (if t then Some (b + 1) else None))) (below_64 (b + 1) all.1.0)
 
 -- where the next minor release is of 64 bits, the last number can be raised to it
 pub minor_raised : (release : List ℕ) (next : VersionRecord) → equals_release (next_minor release) next

@@ -54,7 +54,7 @@ one_number x y p h =
     let low = last_not_greater (nat_cmp x y) p h in
     let high = last_not_greater (nat_cmp (x + 1) y) p h in
     unsigned_ties x y ∙ between x y (nat_cmp x y) (nat_cmp (x + 1) y) (ranks x y) (ranks (x + 1) y)
-        ∙ (λ i. not (sym low i) && sym high i)
+    ∙ (λ i. not (sym low i) && sym high i)
 
 last_number : (x : ℕ) (others : List ℕ) → begins_padded (x ∷ []) others
     ≡ (not (is_gt (padded_cmp (x ∷ []) others)) && is_gt (padded_cmp ((x + 1) ∷ []) others))
@@ -82,11 +82,11 @@ number_before x numbers later [] f =
     let low = first_beside_nothing x numbers in
     let high = first_beside_nothing x later in
     same_in_front (x == 0) (begins_padded numbers []) (nat_cmp x 0) (padded_cmp numbers [])
-        (padded_cmp later []) (unsigned_ties x 0) (f [])
+    (padded_cmp later []) (unsigned_ties x 0) (f [])
     ∙ (λ i. not (is_gt (sym low i)) && is_gt (sym high i))
 number_before x numbers later (y ∷ others) f =
     same_in_front (x == y) (begins_padded numbers others) (nat_cmp x y) (padded_cmp numbers others)
-        (padded_cmp later others) (unsigned_ties x y) (f others)
+    (padded_cmp later others) (unsigned_ties x y) (f others)
 
 -- ---- numbers raised
 
@@ -108,12 +108,12 @@ begins_between [] later others e = absurd (cc)
 begins_between (x ∷ []) later others e =
     let found = mapped_from (λ (next : ℕ). next ∷ []) (raised x) later e in
     to_later (x ∷ []) ((x + 1) ∷ []) later others
-        (ap (λ (n : ℕ). n ∷ []) (raised_is x found.0 found.1) ∙ found.2) (last_number x others)
+    (ap (λ (n : ℕ). n ∷ []) (raised_is x found.0 found.1) ∙ found.2) (last_number x others)
 begins_between (x ∷ y ∷ numbers) later others e =
     let found = mapped_from (λ (rest : List ℕ). x ∷ rest) (last_raised (y ∷ numbers)) later e in
     to_later (x ∷ y ∷ numbers) (x ∷ found.0) later others found.2
-        (number_before x (y ∷ numbers) found.0 others
-        (λ rest. begins_between (y ∷ numbers) found.0 rest found.1))
+    (number_before x (y ∷ numbers) found.0 others
+    (λ rest. begins_between (y ∷ numbers) found.0 rest found.1))
 
 -- ---- numbers cut off
 
@@ -124,8 +124,8 @@ front_above (suc count) [] others h = h
 front_above (suc count) (x ∷ numbers) [] h =
     ap is_gt (first_beside_nothing x numbers)
     ∙ later_greater (nat_cmp x 0) (padded_cmp (take count numbers) []) (padded_cmp numbers [])
-        (λ k. front_above count numbers [] k)
-        (sym (ap is_gt (first_beside_nothing x (take count numbers))) ∙ h)
+    (λ k. front_above count numbers [] k)
+    (sym (ap is_gt (first_beside_nothing x (take count numbers))) ∙ h)
 front_above (suc count) (x ∷ numbers) (y ∷ others) h =
     later_greater (nat_cmp x y) (padded_cmp (take count numbers) others) (padded_cmp numbers others)
-        (λ k. front_above count numbers others k) h
+    (λ k. front_above count numbers others k) h

@@ -17,7 +17,7 @@ behind_front [] last = refl
 behind_front (number ∷ []) last = mapped_twice (λ next. next ∷ []) (λ later. number ∷ later) (raised last)
 behind_front (number ∷ other ∷ front) last =
     ap (option_map (λ later. number ∷ later)) (behind_front (other ∷ front) last)
-        ∙ mapped_twice (λ next. (other ∷ front) ++ next ∷ []) (λ later. number ∷ later) (raised last)
+    ∙ mapped_twice (λ next. (other ∷ front) ++ next ∷ []) (λ later. number ∷ later) (raised last)
 
 -- where the last is raised, so are the numbers
 pub raised_behind : (numbers front : List ℕ) (last next : ℕ) → numbers ≡ front ++ last ∷ [] → raised last

@@ -37,7 +37,7 @@ ended_as a b = before (release_record a) (release_record b) ∙ ap is_gt (releas
 
 star_holds : (release numbers end : List ℕ) → last_raised release ≡ Some end
     → up_to (release_record release) (release_record end) (At (release_record numbers))
-        ≡ begins_padded release numbers
+    ≡ begins_padded release numbers
 star_holds release numbers end e = (λ i. reached_as release numbers i && ended_as numbers end i)
     ∙ sym (begins_between release end numbers e)
 
@@ -45,9 +45,9 @@ star_agrees : (release numbers : List ℕ) (range : PointTest) → star_releases
     → range (At (release_record numbers)) ≡ begins_padded release numbers
 star_agrees release numbers range e =
     let found = mapped_from (λ (end : List ℕ). up_to (release_record release) (release_record end))
-        (last_raised release) range e in
+    (last_raised release) range e in
     ap (λ (r : PointTest). r (At (release_record numbers))) (sym found.2)
-        ∙ star_holds release numbers found.0 found.1
+    ∙ star_holds release numbers found.0 found.1
 
 -- numbers not below a release are not below its front
 cut_off : (release numbers : List ℕ) → not (is_gt (padded_cmp (without_last release) numbers)) ≡ false
@@ -59,19 +59,19 @@ cut_off release numbers h =
 compatible_agrees : (release numbers : List ℕ) (range : PointTest)
     → release_range_by operators.TildeEqual release ≡ Some range
     → range (At (release_record numbers))
-        ≡ matches operators.TildeEqual (release_record release) (release_record numbers)
+    ≡ matches operators.TildeEqual (release_record release) (release_record numbers)
 compatible_agrees release numbers range e =
     let version : VersionRecord = release_record release in
     let candidate : VersionRecord = release_record numbers in
     let found = mapped_from (λ (end : List ℕ). up_to version (release_record end))
-        (last_raised (without_last release)) range e in
+    (last_raised (without_last release)) range e in
     let reached : Bool = not (is_gt (version_cmp version candidate)) in
     let begun : Bool = not (is_gt (padded_cmp (without_last release) numbers)) in
     let ended : Bool = is_gt (padded_cmp found.0 numbers) in
     let front = begins_between (without_last release) found.0 numbers found.1 in
     let same : reached ≡ is_ge (version_cmp candidate version) =
     ap (λ o. not (is_gt o)) (version_cmp_total.antisymm version candidate)
-        ∙ turned_not_greater (version_cmp candidate version) in
+    ∙ turned_not_greater (version_cmp candidate version) in
     ap (λ (r : PointTest). r (At candidate)) (sym found.2)
     ∙ ap (λ b. reached && b) (ended_as numbers found.0)
     ∙ joined reached begun ended (cut_off release numbers)
@@ -87,7 +87,7 @@ pub releases_agree : (operator : Operator) (release numbers : List ℕ) (range :
     → (operator ≡ operators.ExactEqual → ⊥)
     → release_range_by operator release ≡ Some range
     → range (At (release_record numbers))
-        ≡ matches operator (release_record release) (release_record numbers)
+    ≡ matches operator (release_record release) (release_record numbers)
 releases_agree operators.Equal release numbers range h e =
     holds_as (at_version (release_record release)) range (release_record numbers) e
 releases_agree operators.EqualStar release numbers range h e = star_agrees release numbers range e
@@ -97,12 +97,12 @@ releases_agree operators.NotEqual release numbers range h e =
 releases_agree operators.NotEqualStar release numbers range h e =
     let found = mapped_from all_but (star_releases release) range e in
     ap (λ (r : PointTest). r (At (release_record numbers))) (sym found.2)
-        ∙ ap not (star_agrees release numbers found.0 found.1)
+    ∙ ap not (star_agrees release numbers found.0 found.1)
 releases_agree operators.TildeEqual release numbers range h e = compatible_agrees release numbers range e
 releases_agree operators.LessThan release numbers range h e =
     holds_as (to_bound (Excluded (release_record release))) range (release_record numbers) e
     ∙ none_hidden (is_lt (version_cmp (release_record numbers) (release_record release)))
-        (same_release (release_record release) (release_record numbers))
+    (same_release (release_record release) (release_record numbers))
 releases_agree operators.LessThanEqual release numbers range h e =
     holds_as (to_bound (Included (release_record release))) range (release_record numbers) e
     ∙ not_greater (version_cmp (release_record numbers) (release_record release))
@@ -112,7 +112,7 @@ releases_agree operators.GreaterThan release numbers range h e =
     holds_as (from_bound (Excluded version)) range candidate e
     ∙ not_from (version_cmp version candidate)
     ∙ sym (ap is_gt (version_cmp_total.antisymm candidate version)
-        ∙ turned_greater (version_cmp version candidate))
+    ∙ turned_greater (version_cmp version candidate))
     ∙ none_hidden (is_gt (version_cmp candidate version)) (same_release version candidate)
 releases_agree operators.GreaterThanEqual release numbers range h e =
     let version : VersionRecord = release_record release in

@@ -2,10 +2,9 @@
 use Rattle.std.proofs.Common.{◌≡◌, Bool, true, false, not, List, [], ◌∷◌, refl, ap, sym, subst, ◌∙◌}
 use Rattle.std.proofs.Common.{true≢false}
 use Rattle.std.specs.List.{AllByRecursion}
-use Rattle.std.specs.Cmp.{IsTotalOrder, upto}
+use Rattle.std.specs.Cmp.{upto}
 use Rattle.std.specs.declared.cmp.Ordering.{Ordering}
-use Rattle.std.specs.declared.cmp.Ordering.TheVariants.{Less, Equal, Greater}
-use Rattle.std.specs.declared.ops.Bound.TheVariants.{Unbounded}
+use Rattle.std.specs.declared.cmp.Ordering.TheVariants.{Less}
 use Rattle.std.specs.Ordering.{is_gt}
 use Rattle.version_ranges.specs.Point.{Point, BelowAll, At, JustAbove, point_cmp, points_total}
 use Rattle.version_ranges.specs.Turns.{reaches, Rising}
@@ -14,7 +13,7 @@ use Rattle.pep440_version.specs.Record.{VersionRecord}
 use Rattle.pep440_version.specs.Order.{version_cmp, version_cmp_total}
 use Rattle.pep440_specifier_list.specs.ListBounds.{Interval}
 use Rattle.pep440_range.specs.Ranges.{PointTest}
-use Rattle.pep440_range.specs.Intervals.{IsBehind, AreBehind}
+use Rattle.pep440_range.specs.Intervals.{AreBehind}
 use Rattle.pep440_range.proofs.Complements.{below_is_rest, to_is_rest}
 
 abbrev Place : Type 0
@@ -33,7 +32,7 @@ reached_earlier : (x y p : Place) → place_cmp x y ≡ Less → reaches place_c
     → reaches place_cmp x p ≡ true
 reached_earlier x y p h k =
     ap not (upto (points_total version_cmp version_cmp_total) x y p (ap is_gt h)
-        (not_true (is_gt (place_cmp y p)) k))
+    (not_true (is_gt (place_cmp y p)) k))
 
 opposite : (a b : Bool) → (b ≡ true → a ≡ true) → not a ≡ true → not b ≡ true
 opposite a true f h = absurd (true≢false (sym (f refl) ∙ not_true a h))
@@ -66,7 +65,7 @@ ends_later : (a x c y : Place) → place_cmp a x ≡ Less → place_cmp c y ≡ 
 ends_later a x c y g k h p e =
     ends_at c y p k
     ∙ opposite (reaches place_cmp x p) (reaches place_cmp y p) (reached_earlier x y p h)
-        (sym (ends_at a x p g) ∙ e)
+    (sym (ends_at a x p g) ∙ e)
 
 -- ---- intervals
 

@@ -57,10 +57,10 @@ below_is_prerelease version candidate said plain other_said other_plain apart fi
     let pre : version.pre ≡ None = is_none version.pre parts.0 in
     let dev : version.dev ≡ None = is_none version.dev parts.1 in
     let left : tail_key version ≡ tail_of None None None None None [] = said_tail version said plain
-        ∙ (λ i. tail_of (pre i) (posts.0 i) (dev i) None None []) in
+    ∙ (λ i. tail_of (pre i) (posts.0 i) (dev i) None None []) in
     let right : tail_key candidate ≡ tail_of candidate.pre None candidate.dev None None [] =
-        said_tail candidate other_said other_plain
-        ∙ (λ i. tail_of candidate.pre (posts.1 i) candidate.dev None None []) in
+    said_tail candidate other_said other_plain
+    ∙ (λ i. tail_of candidate.pre (posts.1 i) candidate.dev None None []) in
     below_final candidate.pre candidate.dev (sym (λ i. is_gt (key_cmp (left i) (right i))) ∙ h)
 
 -- the place below all of a release
@@ -69,12 +69,12 @@ pub before_least : (version candidate : VersionRecord) → IsSaid candidate → 
 before_least version candidate said plain =
     let end : VersionRecord = record version { least = Some 0 } in
     let rest : List (List ℕ) = rest_of version.pre version.post version.dev (Some 0) version.most
-        version.local in
+    version.local in
     let low : is_gt (tail_cmp end candidate) ≡ false =
     ap (λ k. is_gt (key_cmp ((0 ∷ []) ∷ rest) k)) (said_tail candidate said plain)
-        ∙ least_not_above rest candidate.pre candidate.post candidate.dev in
+    ∙ least_not_above rest candidate.pre candidate.post candidate.dev in
     before candidate end ∙ ap is_gt (by_front end candidate)
-        ∙ last_not_greater (front_cmp version candidate) (tail_cmp end candidate) low
+    ∙ last_not_greater (front_cmp version candidate) (tail_cmp end candidate) low
 
 -- being below, and the release the same, by fronts
 less_sides : (version candidate : VersionRecord) (p q : Bool)
@@ -83,8 +83,8 @@ less_sides : (version candidate : VersionRecord) (p q : Bool)
     ≡ (is_lt (version_cmp candidate version) && not (same_release version candidate && (p && q)))
 less_sides version candidate p q =
     let low : is_lt (version_cmp candidate version)
-        ≡ is_gt (ordering_then (front_cmp version candidate) (tail_cmp version candidate)) =
-        before candidate version ∙ ap is_gt (by_front version candidate) in
+    ≡ is_gt (ordering_then (front_cmp version candidate) (tail_cmp version candidate)) =
+    before candidate version ∙ ap is_gt (by_front version candidate) in
     let same = same_front version candidate in
     λ i. sym low i && not (sym same i && (p && q))
 
@@ -99,7 +99,7 @@ less_by version candidate true e said plain other_said other_plain apart =
 less_by version candidate false e said plain other_said other_plain apart =
     before_least version candidate other_said other_plain
     ∙ less_by_front (front_cmp version candidate) (tail_cmp version candidate) (is_prerelease candidate)
-        (below_is_prerelease version candidate said plain other_said other_plain apart e)
+    (below_is_prerelease version candidate said plain other_said other_plain apart e)
     ∙ less_sides version candidate (is_prerelease candidate) true
 
 pub less_agrees : (version candidate : VersionRecord) → IsSaid version → version.local ≡ []
@@ -138,9 +138,9 @@ greater_sides : (version candidate : VersionRecord)
     && not (is_eq (front_cmp version candidate) && newly_post version candidate)) ≡ IsTaken version candidate
 greater_sides version candidate =
     let high : is_gt (version_cmp candidate version)
-        ≡ is_lt (ordering_then (front_cmp version candidate) (tail_cmp version candidate)) =
+    ≡ is_lt (ordering_then (front_cmp version candidate) (tail_cmp version candidate)) =
     ap is_gt (version_cmp_total.antisymm candidate version)
-        ∙ turned_greater (version_cmp version candidate) ∙ ap is_lt (by_front version candidate) in
+    ∙ turned_greater (version_cmp version candidate) ∙ ap is_lt (by_front version candidate) in
     let same = same_front version candidate in
     λ i. sym high i && not (sym same i && newly_post version candidate)
 
@@ -163,12 +163,12 @@ dev_level : (version candidate : VersionRecord) (dev next : ℕ) → version.dev
     ≡ (is_lt (tail_cmp version candidate) && not (newly_post version candidate))
 dev_level version candidate dev next d n said plain other_said other_plain none other_none =
     let first : tail_key version ≡ tail_of version.pre None (Some dev) None None [] =
-        plain_tail version said plain none ∙ (λ i. tail_of version.pre None (d i) None None []) in
+    plain_tail version said plain none ∙ (λ i. tail_of version.pre None (d i) None None []) in
     let later : tail_key (record version { dev = Some next })
-        ≡ tail_of version.pre None (Some next) None None [] =
+    ≡ tail_of version.pre None (Some next) None None [] =
     (λ i. tail_of version.pre (none i) (Some next) (said.no_least i) (said.no_most i) (plain i)) in
     let right : tail_key candidate ≡ tail_of candidate.pre None candidate.dev None None [] =
-        plain_tail candidate other_said other_plain other_none in
+    plain_tail candidate other_said other_plain other_none in
     (λ i. not (is_gt (key_cmp (later i) (right i))))
     ∙ dev_raised dev next version.pre candidate.pre candidate.dev n
     ∙ (λ i. is_lt (key_cmp (sym first i) (sym right i)))
@@ -182,9 +182,9 @@ from_dev version candidate dev next d n said plain other_said other_plain apart 
     let start : VersionRecord = record version { dev = Some next } in
     ap (λ o. not (is_gt o)) (by_front start candidate)
     ∙ from_by_front (front_cmp version candidate) (tail_cmp start candidate) (tail_cmp version candidate)
-        (newly_post version candidate)
+    (newly_post version candidate)
     (λ e. dev_level version candidate dev next d n said plain other_said other_plain
-        (no_posts version candidate apart e).0 (no_posts version candidate apart e).1)
+    (no_posts version candidate apart e).0 (no_posts version candidate apart e).1)
     ∙ greater_sides version candidate
 
 -- behind a post-release: from its next one on
@@ -195,7 +195,7 @@ from_post version candidate post next p apart =
     let start : VersionRecord = record version { post = Some next } in
     ap (λ o. not (is_gt o)) (by_front start candidate)
     ∙ from_by_front (front_cmp version candidate) (tail_cmp start candidate) (tail_cmp version candidate)
-        (newly_post version candidate)
+    (newly_post version candidate)
     (λ e. let none : version.post ≡ None = (no_posts version candidate apart e).0 in absurd (cc))
     ∙ greater_sides version candidate
 
@@ -206,11 +206,11 @@ most_level : (version candidate : VersionRecord) → version.dev ≡ None → Is
     ≡ (is_lt (tail_cmp version candidate) && not (newly_post version candidate))
 most_level version candidate d said plain other_said other_plain none other_none =
     let first : tail_key version ≡ tail_of version.pre None None None None [] =
-        plain_tail version said plain none ∙ (λ i. tail_of version.pre None (d i) None None []) in
+    plain_tail version said plain none ∙ (λ i. tail_of version.pre None (d i) None None []) in
     let last : tail_key (record version { most = Some 0 }) ≡ tail_of version.pre None None None (Some 0) [] =
     (λ i. tail_of version.pre (none i) (d i) (said.no_least i) (Some 0) (plain i)) in
     let right : tail_key candidate ≡ tail_of candidate.pre None candidate.dev None None [] =
-        plain_tail candidate other_said other_plain other_none in
+    plain_tail candidate other_said other_plain other_none in
     (λ i. is_lt (key_cmp (last i) (right i)))
     ∙ none_behind version.pre candidate.pre candidate.dev
     ∙ (λ i. is_lt (key_cmp (sym first i) (sym right i)))
@@ -224,9 +224,9 @@ behind_most version candidate d said plain other_said other_plain apart =
     let start : VersionRecord = record version { most = Some 0 } in
     ap (λ o. not (is_gt (ordering_then o Greater))) (by_front start candidate)
     ∙ behind_by_front (front_cmp version candidate) (tail_cmp start candidate)
-        (tail_cmp version candidate) (newly_post version candidate)
+    (tail_cmp version candidate) (newly_post version candidate)
     (λ e. most_level version candidate d said plain other_said other_plain
-        (no_posts version candidate apart e).0 (no_posts version candidate apart e).1)
+    (no_posts version candidate apart e).0 (no_posts version candidate apart e).1)
     ∙ greater_sides version candidate
 
 greater_by : (version candidate : VersionRecord) (range : PointTest) (dev post : Option ℕ) → version.dev
@@ -235,18 +235,18 @@ greater_by : (version candidate : VersionRecord) (range : PointTest) (dev post :
     ≡ IsTaken version candidate
 greater_by version candidate range (Some dev) post d p said plain other_said other_plain apart e =
     let found = mapped_from (λ (next : ℕ). from_bound (Included (record version { dev = Some next })))
-        (raised dev) range e in
+    (raised dev) range e in
     ap (λ (r : PointTest). r (At candidate)) (sym found.2)
-        ∙ from_dev version candidate dev found.0 d (raised_is dev found.0 found.1) said plain other_said
-        other_plain apart
+    ∙ from_dev version candidate dev found.0 d (raised_is dev found.0 found.1) said plain other_said
+    other_plain apart
 greater_by version candidate range None (Some post) d p said plain other_said other_plain apart e =
     let found = mapped_from (λ (next : ℕ). from_bound (Included (record version { post = Some next })))
-        (raised post) range e in
+    (raised post) range e in
     ap (λ (r : PointTest). r (At candidate)) (sym found.2) ∙ from_post version candidate post found.0 p apart
 greater_by version candidate range None None d p said plain other_said other_plain apart e =
     let same : from_bound (Excluded (record version { most = Some 0 })) ≡ range = cc in
     ap (λ (r : PointTest). r (At candidate)) (sym same)
-        ∙ behind_most version candidate d said plain other_said other_plain apart
+    ∙ behind_most version candidate d said plain other_said other_plain apart
 
 pub greater_agrees : (version candidate : VersionRecord) (range : PointTest) → IsSaid version
     → version.local ≡ [] → IsSaid candidate → candidate.local ≡ [] → AreApart version candidate

@@ -31,9 +31,9 @@ front_between : (epoch : ℕ) (numbers later : List ℕ) (candidate : VersionRec
     ≡ (not (is_gt (front_beside epoch numbers candidate)) && is_gt (front_beside epoch later candidate))
 front_between epoch numbers later candidate e =
     same_in_front (candidate.epoch == epoch) (begins_padded numbers candidate.release)
-        (nat_cmp epoch candidate.epoch) (padded_cmp numbers candidate.release)
-        (padded_cmp later candidate.release) (same_epoch candidate.epoch epoch)
-        (begins_between numbers later candidate.release e)
+    (nat_cmp epoch candidate.epoch) (padded_cmp numbers candidate.release)
+    (padded_cmp later candidate.release) (same_epoch candidate.epoch epoch)
+    (begins_between numbers later candidate.release e)
 
 -- the first of some numbers lies above a version exactly where the numbers do
 first_by_front : (epoch : ℕ) (numbers : List ℕ) (candidate : VersionRecord) → IsSaid candidate
@@ -42,11 +42,11 @@ first_by_front : (epoch : ℕ) (numbers : List ℕ) (candidate : VersionRecord) 
 first_by_front epoch numbers candidate said plain =
     let first : VersionRecord = first_of epoch numbers in
     let low : is_gt (tail_cmp first candidate) ≡ false =
-        ap (λ k. is_gt (key_cmp (tail_key first) k)) (said_tail candidate said plain)
-        ∙ first_not_above candidate.pre candidate.post candidate.dev in
+    ap (λ k. is_gt (key_cmp (tail_key first) k)) (said_tail candidate said plain)
+    ∙ first_not_above candidate.pre candidate.post candidate.dev in
     ap is_gt (by_front first candidate)
-        ∙ last_not_greater (front_cmp first candidate) (tail_cmp first candidate) low
-        ∙ ap is_gt (padded_front first candidate)
+    ∙ last_not_greater (front_cmp first candidate) (tail_cmp first candidate) low
+    ∙ ap is_gt (padded_front first candidate)
 
 before_first : (epoch : ℕ) (numbers : List ℕ) (candidate : VersionRecord) → IsSaid candidate
     → candidate.local ≡ [] → is_lt (version_cmp candidate (first_of epoch numbers))
@@ -61,7 +61,7 @@ pub star_agrees : (version candidate : VersionRecord) (range : PointTest) → Is
     ≡ has_front version.epoch version.release candidate
 star_agrees version candidate range said plain e =
     let found = mapped_from (λ (end : List ℕ). up_to (first_of version.epoch version.release)
-        (first_of version.epoch end)) (last_raised version.release) range e in
+    (first_of version.epoch end)) (last_raised version.release) range e in
     let low = first_by_front version.epoch version.release candidate said plain in
     let high = before_first version.epoch found.0 candidate said plain in
     ap (λ (r : PointTest). r (At candidate)) (sym found.2)
@@ -84,15 +84,15 @@ shortened_above : (version candidate : VersionRecord)
     → is_gt (version_cmp version candidate) ≡ true
 shortened_above version candidate h =
     let cut : is_gt (padded_cmp (without_last version.release) candidate.release) ≡ true
-        → is_gt (padded_cmp version.release candidate.release) ≡ true =
+    → is_gt (padded_cmp version.release candidate.release) ≡ true =
     front_above (length version.release - 1) version.release candidate.release in
     let whole : is_gt (front_beside version.epoch version.release candidate) ≡ true =
     later_greater (nat_cmp version.epoch candidate.epoch)
-        (padded_cmp (without_last version.release) candidate.release)
-        (padded_cmp version.release candidate.release) cut h in
+    (padded_cmp (without_last version.release) candidate.release)
+    (padded_cmp version.release candidate.release) cut h in
     ap is_gt (by_front version candidate)
-        ∙ first_greater (front_cmp version candidate) (tail_cmp version candidate)
-        (ap is_gt (padded_front version candidate) ∙ whole)
+    ∙ first_greater (front_cmp version candidate) (tail_cmp version candidate)
+    (ap is_gt (padded_front version candidate) ∙ whole)
 
 pub compatible_agrees : (version candidate : VersionRecord) (range : PointTest) → IsSaid candidate
     → candidate.local ≡ [] → compatible_range version ≡ Some range → range (At candidate)
@@ -100,17 +100,17 @@ pub compatible_agrees : (version candidate : VersionRecord) (range : PointTest) 
     && is_ge (version_cmp candidate version))
 compatible_agrees version candidate range said plain e =
     let found = mapped_from (λ (end : List ℕ). up_to version (first_of version.epoch end))
-        (last_raised (without_last version.release)) range e in
+    (last_raised (without_last version.release)) range e in
     let high = before_first version.epoch found.0 candidate said plain in
     let reached : Bool = not (is_gt (version_cmp version candidate)) in
     let begun : Bool = not (is_gt (front_beside version.epoch (without_last version.release) candidate)) in
     let ended : Bool = is_gt (front_beside version.epoch found.0 candidate) in
     let front = front_between version.epoch (without_last version.release) found.0 candidate found.1 in
     let same : reached ≡ is_ge (version_cmp candidate version) =
-        ap (λ o. not (is_gt o)) (version_cmp_total.antisymm version candidate)
-        ∙ turned_not_greater (version_cmp candidate version) in
+    ap (λ o. not (is_gt o)) (version_cmp_total.antisymm version candidate)
+    ∙ turned_not_greater (version_cmp candidate version) in
     ap (λ (r : PointTest). r (At candidate)) (sym found.2)
     ∙ ap (λ b. reached && b) high
     ∙ joined reached begun ended (λ h. ap not (shortened_above version candidate
-        (not_false (is_gt (front_beside version.epoch (without_last version.release) candidate)) h)))
+    (not_false (is_gt (front_beside version.epoch (without_last version.release) candidate)) h)))
     ∙ (λ i. sym front i && same i)

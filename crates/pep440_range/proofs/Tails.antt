@@ -114,11 +114,11 @@ pub dev_raised : (d next : ℕ) (pre other : Option Prerelease) (dev : Option �
     ≡ is_lt (key_cmp (tail_of pre None (Some d) None None []) (tail_of other None dev None None []))
 dev_raised d next None other dev n =
     next_behind (nat_cmp 1 (suffix_class other None dev None)) (slice_cmp nat_cmp [] (pre_key other))
-        (dev_beside next dev) (dev_beside d dev) (next_dev d next dev n)
+    (dev_beside next dev) (dev_beside d dev) (next_dev d next dev n)
 dev_raised d next (Some pre) other dev n =
     next_behind (nat_cmp (2 + kind_rank pre.kind) (suffix_class other None dev None))
-        (slice_cmp nat_cmp (pre_key (Some pre)) (pre_key other)) (dev_beside next dev) (dev_beside d dev)
-        (next_dev d next dev n)
+    (slice_cmp nat_cmp (pre_key (Some pre)) (pre_key other)) (dev_beside next dev) (dev_beside d dev)
+    (next_dev d next dev n)
 
 -- ---- beside `>`: behind all post-releases
 
@@ -139,14 +139,14 @@ pub none_behind : (pre other : Option Prerelease) (dev : Option ℕ)
 none_behind None (Some other) dev =
     let rest : List (List ℕ) = rest_of (Some other) None dev None None [] in
     ap is_lt (class_decides 6 (2 + kind_rank other.kind) Greater (rest_of None None None None (Some 0) [])
-        rest (post_above other.kind))
+    rest (post_above other.kind))
     ∙ sym (ap is_lt (class_decides 5 (2 + kind_rank other.kind) Greater
-        (rest_of None None None None None []) rest (final_above other.kind)))
+    (rest_of None None None None None []) rest (final_above other.kind)))
 none_behind None None (Some number) = refl
 none_behind None None None = refl
 none_behind (Some pre) other None =
     behind_all (nat_cmp (2 + kind_rank pre.kind) (suffix_class other None None None))
-        (slice_cmp nat_cmp (pre_key (Some pre)) (pre_key other)) Greater Equal refl refl
+    (slice_cmp nat_cmp (pre_key (Some pre)) (pre_key other)) Greater Equal refl refl
 none_behind (Some pre) other (Some number) =
     behind_all (nat_cmp (2 + kind_rank pre.kind) (suffix_class other None (Some number) None))
-        (slice_cmp nat_cmp (pre_key (Some pre)) (pre_key other)) Greater Greater refl refl
+    (slice_cmp nat_cmp (pre_key (Some pre)) (pre_key other)) Greater Greater refl refl

@@ -41,7 +41,7 @@ point_around : (upper lower : VersionRecord) (p : Point VersionRecord) → versi
     → all_but (at_version upper) p ≡ around (Excluded upper) (Excluded lower) p
 point_around upper lower p h =
     let behind : starts_by version_cmp (Excluded lower) p
-        ≡ not (not (is_gt (point_cmp version_cmp p (At lower)))) =
+    ≡ not (not (is_gt (point_cmp version_cmp p (At lower)))) =
     ap (λ (test : PointTest). test p) (behind_is_rest lower) in
     let same = equal_points upper lower p h in
     level_around (point_cmp version_cmp p (At upper))
@@ -54,7 +54,7 @@ outside false b = refl
 
 minor_around : (upper lower : VersionRecord) (p : Point VersionRecord)
     → not (is_within version_cmp (Included upper, Excluded lower) p)
-        ≡ around (Excluded upper) (Included lower) p
+    ≡ around (Excluded upper) (Included lower) p
 minor_around upper lower p =
     let before : is_gt (point_cmp version_cmp (At upper) p) ≡ is_lt (point_cmp version_cmp p (At upper)) =
     sym (ap is_lt (turned p (At upper)) ∙ turned_less (point_cmp version_cmp (At upper) p)) in
@@ -66,27 +66,27 @@ minor_around upper lower p =
 say_point_gap : (upper lower : VersionRecord) (t : Bool) → version_eq upper lower ≡ t
     → IsReleaseVersion upper
     → is_some {T = SpecifierRecord}
-        (if t then Some (record { operator = operators.NotEqual; version = upper }) else None) ≡ true
+    (if t then Some (record { operator = operators.NotEqual; version = upper }) else None) ≡ true
     → Say (option_to_list (if t then Some (record { operator = operators.NotEqual; version = upper }) else
-        None)) (around (Excluded upper) (Excluded lower))
+    None)) (around (Excluded upper) (Excluded lower))
 say_point_gap upper lower false h own said = absurd (true≢false (sym said))
 say_point_gap upper lower true h own said =
     say_one (record { operator = operators.NotEqual; version = upper })
-        (all_but (at_version (release_record upper.release))) (around (Excluded upper) (Excluded lower)) refl
+    (all_but (at_version (release_record upper.release))) (around (Excluded upper) (Excluded lower)) refl
     (λ p. ap (λ (v : VersionRecord). all_but (at_version v) p) (sym own) ∙ point_around upper lower p h)
 
 say_minor_gap : (upper lower : VersionRecord) (t : Bool) → equals_release (next_minor upper.release) lower
     ≡ t → IsReleaseVersion upper
     → HasNumbers (Excluded lower)
     → is_some {T = SpecifierRecord}
-        (if t then Some (record { operator = operators.NotEqualStar; version = upper }) else None) ≡ true
+    (if t then Some (record { operator = operators.NotEqualStar; version = upper }) else None) ≡ true
     → Say (option_to_list (if t then Some (record { operator = operators.NotEqualStar; version = upper })
-        else None)) (around (Excluded upper) (Included lower))
+    else None)) (around (Excluded upper) (Included lower))
 say_minor_gap upper lower false h own numbers said = absurd (true≢false (sym said))
 say_minor_gap upper lower true h own numbers said =
     let found = minor_range upper lower h own numbers in
     say_one (record { operator = operators.NotEqualStar; version = upper }) (all_but found.0)
-        (around (Excluded upper) (Included lower))
+    (around (Excluded upper) (Included lower))
     (ap (option_map all_but) found.1) (λ p. ap not (found.2 p) ∙ minor_around upper lower p)
 
 say_gap : (upper lower : Bound VersionRecord) → IsReleaseBound upper → HasNumbers lower
@@ -112,9 +112,9 @@ say_gaps : (upper : Bound VersionRecord) (later : List Interval) → IsReleaseBo
 say_gaps upper [] own release numbers said = say_nothing
 say_gaps upper (next ∷ later) own release numbers said =
     say_both (option_to_list (gap_specifier upper next.0)) (gap_specifiers next.1 later)
-        (around upper next.0) (around_all next.1 later)
+    (around upper next.0) (around_all next.1 later)
     (say_gap upper next.0 own numbers.0.0 said.0)
-        (say_gaps next.1 later release.1 release.2 numbers.1 said.1)
+    (say_gaps next.1 later release.1 release.2 numbers.1 said.1)
 
 -- ---- the union
 
@@ -140,7 +140,7 @@ goes_on_all first [] p behind h = h
 goes_on_all first (next ∷ later) p behind h =
     goes_on (goes_on_to version_cmp first.1 p) (starts_by version_cmp next.0 p) (around_all next.1 later p)
     (goes_on_to version_cmp (last_upper next.1 later) p) h
-        (goes_on_all next later p behind.1 (behind.0.ends p h))
+    (goes_on_all next later p behind.1 (behind.0.ends p h))
 
 -- one interval more in front: it begins before the next one, and ends before the gap
 one_more : (s next g a n : Bool) → (next ≡ true → s ≡ true) → (g ≡ true → (a && n) ≡ true)
@@ -163,11 +163,11 @@ or_nothing false = refl
 
 united : (first : Interval) (later : List Interval) (p : Point VersionRecord) → AreBehind first later
     → (around_all first.1 later p && is_within version_cmp (first.0, last_upper first.1 later) p)
-        ≡ is_in_one (first ∷ later) p
+    ≡ is_in_one (first ∷ later) p
 united first [] p behind = or_nothing (is_within version_cmp first p)
 united first (next ∷ later) p behind =
     one_more (starts_by version_cmp first.0 p) (starts_by version_cmp next.0 p)
-        (goes_on_to version_cmp first.1 p) (around_all next.1 later p)
+    (goes_on_to version_cmp first.1 p) (around_all next.1 later p)
     (goes_on_to version_cmp (last_upper next.1 later) p) (behind.0.begins p)
     (λ h. goes_on_all next later p behind.1 (behind.0.ends p h))
     ∙ ap (λ b. is_within version_cmp first p || b) (united next later p behind.1)
@@ -175,15 +175,15 @@ united first (next ∷ later) p behind =
 pub say_union : (first : Interval) (later : List Interval) → AreReleaseIntervals (first ∷ later)
     → HaveNumbers (first ∷ later)
     → AreBehind first later → GapsAreSaid first.1 later
-        → Say (list_specifiers (first ∷ later)) (is_in_one (first ∷ later))
+    → Say (list_specifiers (first ∷ later)) (is_in_one (first ∷ later))
 say_union first later release numbers behind said =
     let outer : Interval = (first.0, last_upper first.1 later) in
     let gaps = say_gaps first.1 later release.1 release.2 numbers.1 said in
     let hull = say_interval first.0 (last_upper first.1 later) release.0
-        (last_release first.1 later release.1 release.2)
+    (last_release first.1 later release.1 release.2)
     (last_numbers first.1 later numbers.0.1 numbers.1) in
     say_as (list_specifiers (first ∷ later))
-        (λ p. around_all first.1 later p && is_within version_cmp outer p) (is_in_one (first ∷ later))
+    (λ p. around_all first.1 later p && is_within version_cmp outer p) (is_in_one (first ∷ later))
     (say_both (gap_specifiers first.1 later) (interval_specifiers first.0 (last_upper first.1 later))
-        (around_all first.1 later) (is_within version_cmp outer) gaps hull)
+    (around_all first.1 later) (is_within version_cmp outer) gaps hull)
     (λ p. united first later p behind)

@@ -1,4 +1,4 @@
-use Rattle.std.proofs.Common.{◌≡◌, ◌∷◌, ◌∙◌, ap, sym}
+use Rattle.std.proofs.Common.{◌∷◌, ◌∙◌, ap, sym}
 use Rattle.pep440_specifier_list.specs.ListBounds.{list_specifiers}
 use Rattle.pep440_range.specs.Intervals.{is_in_one}
 use Rattle.pep440_range.proofs.Intervals.{say_as}
@@ -14,5 +14,5 @@ returns c = λ set first later members normal shown release numbers said order.
     let behind = intervals_behind set first later normal shown in
     say_as members (is_in_one (first ∷ later)) (holds_at version_cmp set)
     (say_in_order (list_specifiers (first ∷ later)) members (is_in_one (first ∷ later)) order
-      (say_union first later release numbers behind said))
+    (say_union first later release numbers behind said))
     (λ p. ap (λ xs. is_in_one xs p) (sym shown) ∙ c.intervals_hold_the_set.ensures set p normal)

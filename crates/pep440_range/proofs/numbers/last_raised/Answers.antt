@@ -10,8 +10,8 @@ returns-in-Err-clause-numbers c =
 pub returns-clause-numbers : goal.returns-clause-numbers
 returns-clause-numbers c =
     raised_behind c.args.numbers.now c.in-Some.front.now c.in-Some.last.now c.in-Ok.next
-        c.in-Some.ensures.cases.0 c.in-Ok.ensures
+    c.in-Some.ensures.cases.0 c.in-Ok.ensures
     ∙ ap Some (sym (c.in_ok-push.ensures.items
-        ∙ ap (λ xs. xs ++ c.in-Ok.next ∷ [])
-        (c.in_ok-extend_from_slice.ensures.items
-        ∙ ap (λ xs. xs ++ c.in-Some.front.now) c.in_ok-copy.ensures.items)))
+    ∙ ap (λ xs. xs ++ c.in-Ok.next ∷ [])
+    (c.in_ok-extend_from_slice.ensures.items
+    ∙ ap (λ xs. xs ++ c.in-Some.front.now) c.in_ok-copy.ensures.items)))
