@@ -1,5 +1,6 @@
 -- What the ranges of a list share: all points for none, and else what its two halves share.
-use Rattle.std.proofs.Common.{◌≡◌, ◌∙◌, true, ◌&&◌, List, [], ◌∷◌, ◌++◌, length, map, Option, Result, Ok, Err, IfOk, IfErr, refl, ap, sym, subst, arith}
+use Rattle.std.proofs.Common.{◌≡◌, ◌∙◌, true, ◌&&◌, List, [], ◌∷◌, ◌++◌, length, map, Option, Result, Ok}
+use Rattle.std.proofs.Common.{Err, IfOk, IfErr, refl, ap, sym, subst, arith}
 use Rattle.std.proofs.lemmas.List.{map-append}
 use Rattle.std.proofs.lemmas.List.Folds.{list_all-append}
 use Rattle.std.specs.Option.{is_some}
@@ -13,7 +14,8 @@ use Rattle.pep440_range.specs.declared.range_error.RangeError.TheVariants.{Numbe
 use Rattle.pep440_range.specs.Ranges.{PointTest, range_holds, GivesAll}
 
 -- what two sets share
-abbrev pub HoldsBoth : List (Point VersionRecord) → List (Point VersionRecord) → List (Point VersionRecord) → Type 0
+abbrev pub HoldsBoth : List (Point VersionRecord) → List (Point VersionRecord)
+    → List (Point VersionRecord) → Type 0
 HoldsBoth set other both =
     (p : Point VersionRecord) →
     holds_at version_cmp both p ≡ (holds_at version_cmp set p && holds_at version_cmp other p)
@@ -37,9 +39,11 @@ halves_joined ranges others set other both g k h = (
 pub halves_share : (range : SpecifierRecord → Option PointTest) (members front back : List SpecifierRecord)
     (set other : List (Point VersionRecord)) (both : Result (List (Point VersionRecord)) RangeError)
     → front ++ back ≡ members → GivesAll (Ok set) (map range front) → GivesAll (Ok other) (map range back)
-    → IfOk both (HoldsBoth set other) → IfErr both (λ error. error ≡ Memory) → GivesAll both (map range members)
+    → IfOk both (HoldsBoth set other) → IfErr both (λ error. error ≡ Memory)
+    → GivesAll both (map range members)
 halves_share range members front back set other (Ok both) e g k h m =
-    let split : map range front ++ map range back ≡ map range members = sym (map-append range front back) ∙ ap (map range) e in
+    let split : map range front ++ map range back ≡ map range members = sym (map-append range front back)
+    ∙ ap (map range) e in
     subst (GivesAll (Ok both)) split (halves_joined (map range front) (map range back) set other both g k h)
 halves_share range members front back set other (Err NumberAtEnd) e g k h m = absurd (cc)
 halves_share range members front back set other (Err Memory) e g k h m = tt

@@ -1,5 +1,6 @@
 -- Lists brought in order by version: what all of the given members pass, all of the ordered ones do.
-use Rattle.std.proofs.Common.{◌≡◌, Bool, true, false, cond, not, ◌&&◌, List, [], ◌∷◌, ◌++◌, Option, append_assoc, refl, ap, sym, ◌∙◌}
+use Rattle.std.proofs.Common.{◌≡◌, Bool, true, false, cond, not, ◌&&◌, List, [], ◌∷◌, ◌++◌, Option}
+use Rattle.std.proofs.Common.{append_assoc, refl, ap, sym, ◌∙◌}
 use Rattle.std.proofs.lemmas.List.Folds.{list_all-map}
 use Rattle.std.specs.List.{filter, list_all}
 use Rattle.std.specs.List.Sorted.{ties}
@@ -23,7 +24,8 @@ kept_by : (passes : Test) (kept : Bool) (x : SpecifierRecord) (xs : List Specifi
 kept_by passes true x xs h k = λ i. h i && k i
 kept_by passes false x xs h k = k
 
-all_kept : (passes keeps : Test) (xs : List SpecifierRecord) → list_all passes xs ≡ true → list_all passes (filter keeps xs) ≡ true
+all_kept : (passes keeps : Test) (xs : List SpecifierRecord) → list_all passes xs ≡ true
+    → list_all passes (filter keeps xs) ≡ true
 all_kept passes keeps [] h = refl
 all_kept passes keeps (x ∷ xs) h =
     let parts = both_true (passes x) (list_all passes xs) h in
@@ -35,18 +37,23 @@ behind_first : (passes : Test) (kept : Bool) (x : SpecifierRecord) (xs : List Sp
 behind_first passes true x xs h = (both_true (passes x) (list_all passes xs) h).1
 behind_first passes false x xs h = h
 
-passes_at : (passes keeps : Test) (front : List SpecifierRecord) (x : SpecifierRecord) (rest : List SpecifierRecord) → keeps x ≡ true
+passes_at : (passes keeps : Test) (front : List SpecifierRecord) (x : SpecifierRecord)
+    (rest : List SpecifierRecord) → keeps x ≡ true
     → list_all passes (filter keeps (front ++ x ∷ rest)) ≡ true → passes x ≡ true
 passes_at passes keeps [] x rest k h =
     let later = filter keeps rest in
-    let whole : (passes x && list_all passes later) ≡ true = sym (ap (λ t. list_all passes (cond t (x ∷ later) later)) k) ∙ h in
+    let whole : (passes x && list_all passes later) ≡ true =
+    sym (ap (λ t. list_all passes (cond t (x ∷ later) later)) k) ∙ h in
     (both_true (passes x) (list_all passes later) whole).0
 passes_at passes keeps (y ∷ front) x rest k h =
-    passes_at passes keeps front x rest k (behind_first passes (keeps y) y (filter keeps (front ++ x ∷ rest)) h)
+    passes_at passes keeps front x rest k
+    (behind_first passes (keeps y) y (filter keeps (front ++ x ∷ rest)) h)
 
 -- all pass where in each filter all do, and each element is in its own
-all_by : (passes : Test) (keeps : SpecifierRecord → Test) (front rest : List SpecifierRecord) → ((x : SpecifierRecord) → keeps x x ≡ true)
-    → ((x : SpecifierRecord) → list_all passes (filter (keeps x) (front ++ rest)) ≡ true) → list_all passes rest ≡ true
+all_by : (passes : Test) (keeps : SpecifierRecord → Test) (front rest : List SpecifierRecord)
+    → ((x : SpecifierRecord) → keeps x x ≡ true)
+    → ((x : SpecifierRecord) → list_all passes (filter (keeps x) (front ++ rest)) ≡ true)
+    → list_all passes rest ≡ true
 all_by passes keeps front [] own all = refl
 all_by passes keeps front (x ∷ rest) own all =
     let first = passes_at passes (keeps x) front x rest (own x) (all x) in
@@ -77,17 +84,20 @@ both_ways false false f g = refl
 same_all : (passes : Test) (given members : List SpecifierRecord) → IsInOrder given members
     → list_all passes members ≡ list_all passes given
 same_all passes given members order =
-    both_ways (list_all passes members) (list_all passes given) (carried passes members given (λ x. sym (order.stable x)))
+    both_ways (list_all passes members) (list_all passes given)
+    (carried passes members given (λ x. sym (order.stable x)))
     (carried passes given members order.stable)
 
 -- the members in order say what the given ones do
-pub say_in_order : (given members : List SpecifierRecord) (test : PointTest) → IsInOrder given members → Say given test → Say members test
+pub say_in_order : (given members : List SpecifierRecord) (test : PointTest) → IsInOrder given members
+    → Say given test → Say members test
 say_in_order given members test order say = (
   list_all-map is_some release_range_of members
       ∙ same_all (λ member. is_some (release_range_of member)) given members order
       ∙ sym (list_all-map is_some release_range_of given) ∙ say.0,
   λ p.
       let holds : Option PointTest → Bool = λ range. range_holds range p in
-      list_all-map holds release_range_of members ∙ same_all (λ member. holds (release_range_of member)) given members order
+      list_all-map holds release_range_of members
+      ∙ same_all (λ member. holds (release_range_of member)) given members order
       ∙ sym (list_all-map holds release_range_of given) ∙ say.1 p,
 )

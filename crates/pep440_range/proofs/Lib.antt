@@ -15,4 +15,5 @@ pub mod NextNumbers
 pub mod Intervals
 pub mod Unions
 pub mod InOrder
+pub mod SetIntervals
 pub mod Neither

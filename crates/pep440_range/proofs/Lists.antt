@@ -1,15 +1,18 @@
 -- Lists: what all ranges of the members hold, where each member agrees with its range.
-use Rattle.std.proofs.Common.{◌≡◌, Bool, true, false, ◌&&◌, List, [], ◌∷◌, map, Option, Some, None, is_some, inr, refl, sym, true≢false}
+use Rattle.std.proofs.Common.{◌≡◌, Bool, true, false, ◌&&◌, List, [], ◌∷◌, map, Option, Some, None}
+use Rattle.std.proofs.Common.{is_some, inr, refl, sym, true≢false}
 use Rattle.std.specs.List.{All, AllByRecursion, list_all}
 use Rattle.std.proofs.lemmas.List.Elements.{recursion_from_All}
 use Rattle.version_ranges.specs.Point.{Point, At}
 use Rattle.pep440_version.specs.Record.{VersionRecord}
-use Rattle.pep440_specifier.specs.declared.operator.Operator.{Operator}
-use Rattle.pep440_specifier.specs.declared.operator.Operator.TheVariants.{Equal, EqualStar, ExactEqual, NotEqual}
-use Rattle.pep440_specifier.specs.declared.operator.Operator.TheVariants.{NotEqualStar, TildeEqual, LessThan}
-use Rattle.pep440_specifier.specs.declared.operator.Operator.TheVariants.{LessThanEqual, GreaterThan, GreaterThanEqual}
-use Rattle.pep440_specifier.specs.Matching.{SpecifierRecord}
-use Rattle.pep440_specifier_list.specs.Lists.{takes, matches_all}
+use Rattle.pep440_operator.specs.declared.operator.Operator.{Operator}
+use Rattle.pep440_operator.specs.declared.operator.Operator.TheVariants.{Equal, EqualStar, ExactEqual}
+use Rattle.pep440_operator.specs.declared.operator.Operator.TheVariants.{NotEqual}
+use Rattle.pep440_operator.specs.declared.operator.Operator.TheVariants.{NotEqualStar, TildeEqual, LessThan}
+use Rattle.pep440_operator.specs.declared.operator.Operator.TheVariants.{LessThanEqual, GreaterThan}
+use Rattle.pep440_operator.specs.declared.operator.Operator.TheVariants.{GreaterThanEqual}
+use Rattle.pep440_specifier.specs.Matching.{SpecifierRecord, takes}
+use Rattle.pep440_specifier_list.specs.Lists.{matches_all}
 use Rattle.pep440_range.specs.Ranges.{PointTest, range_holds, range_of}
 use Rattle.pep440_range.specs.Agreement.{IsSaid, Agrees, AgreesBesidePosts, IsAgreeing, IsWithoutPosts}
 use Rattle.pep440_range.proofs.Agreeing.{agrees}
@@ -29,8 +32,10 @@ held_as (Some test) p taken h f = f test refl
 held_as None p taken h f = absurd (true≢false (sym h))
 
 pub list_agrees : (range : SpecifierRecord → Option PointTest) (candidate : VersionRecord)
-    (asked : SpecifierRecord → Type 0) → ((member : SpecifierRecord) → asked member → AgreesAt range candidate member)
-    → (members : List SpecifierRecord) → AllByRecursion asked members → list_all is_some (map range members) ≡ true
+    (asked : SpecifierRecord → Type 0)
+    → ((member : SpecifierRecord) → asked member → AgreesAt range candidate member)
+    → (members : List SpecifierRecord) → AllByRecursion asked members
+    → list_all is_some (map range members) ≡ true
     → list_all (λ r. range_holds r (At candidate)) (map range members) ≡ matches_all members candidate
 list_agrees range candidate asked f [] all there = refl
 list_agrees range candidate asked f (member ∷ members) all there =
@@ -67,5 +72,6 @@ without_posts candidate none member m = record {
 }
 
 -- what is asked of each member, of all of them
-pub each : (asked : SpecifierRecord → Type 0) (members : List SpecifierRecord) → All asked members → AllByRecursion asked members
+pub each : (asked : SpecifierRecord → Type 0) (members : List SpecifierRecord) → All asked members
+    → AllByRecursion asked members
 each asked members all = recursion_from_All asked members all

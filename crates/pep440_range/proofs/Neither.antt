@@ -1,5 +1,6 @@
 -- Points that neither the range of an operator holds nor that of its negation.
-use Rattle.std.proofs.Common.{◌≡◌, ℕ, ◌+◌, ◌<◌, not, true, false, if◌then◌else◌, List, [], ◌∷◌, map, Option, Some, None, is_some, refl, ap, sym, ◌∙◌, arith}
+use Rattle.std.proofs.Common.{◌≡◌, ℕ, ◌+◌, ◌<◌, not, true, false, if◌then◌else◌, List, [], ◌∷◌, map}
+use Rattle.std.proofs.Common.{Option, Some, None, is_some, refl, ap, sym, ◌∙◌, arith}
 use Rattle.std.specs.Option.{option_map}
 use Rattle.std.specs.declared.cmp.Ordering.{Ordering}
 use Rattle.std.specs.declared.cmp.Ordering.TheVariants.{Less, Equal, Greater}
@@ -11,8 +12,9 @@ use Rattle.version_ranges.specs.Point.{At, JustAbove}
 use Rattle.pep440_text.specs.declared.Prerelease.{Prerelease}
 use Rattle.pep440_version.specs.Record.{Segment, VersionRecord}
 use Rattle.pep440_version.specs.Changes.{is_prerelease}
-use Rattle.pep440_version.specs.Order.{kind_rank, pre_key, post_key, absent_last, segment_key, version_cmp, version_cmp_total, key_cmp}
-use Rattle.pep440_specifier.specs.declared.operator.Operator.TheVariants as operators
+use Rattle.pep440_version.specs.Order.{kind_rank, pre_key, post_key, absent_last, segment_key}
+use Rattle.pep440_version.specs.Order.{version_cmp, version_cmp_total, key_cmp}
+use Rattle.pep440_operator.specs.declared.operator.Operator.TheVariants as operators
 use Rattle.pep440_range.specs.Agreement.{IsSaid}
 use Rattle.pep440_range.specs.Numbers.{raised}
 use Rattle.pep440_range.specs.Ranges.{range_holds, range_by, greater_range, from_bound}
@@ -28,10 +30,12 @@ itself version = tied_itself version_cmp_total version
 
 level_front : (version : VersionRecord) → front_cmp version version ≡ Equal
 level_front version =
-    equal_first (front_cmp version version) (tail_cmp version version) (sym (by_front version version) ∙ itself version)
+    equal_first (front_cmp version version) (tail_cmp version version)
+    (sym (by_front version version) ∙ itself version)
 
 -- where epoch and release are those of another version, the rest decides
-by_tail : (version other : VersionRecord) (o : Ordering) → front_cmp version other ≡ Equal → tail_cmp version other ≡ o
+by_tail : (version other : VersionRecord) (o : Ordering) → front_cmp version other ≡ Equal
+    → tail_cmp version other ≡ o
     → version_cmp version other ≡ o
 by_tail version other o front tail = by_front version other ∙ (λ i. ordering_then (front i) (tail i))
 
@@ -40,7 +44,8 @@ level_part part xs ys = ap (λ o. ordering_then o (key_cmp xs ys)) (tied_itself 
 
 -- ---- `<` and `>=`: a developmental release
 
-dev_before : (post : Option ℕ) → is_gt (key_cmp (tail_of None post None None None []) (tail_of None post (Some 0) None None [])) ≡ true
+dev_before : (post : Option ℕ)
+    → is_gt (key_cmp (tail_of None post None None None []) (tail_of None post (Some 0) None None [])) ≡ true
 dev_before None = refl
 dev_before (Some number) =
     ap (λ o. is_gt (ordering_then (ordering_then o Equal) Greater)) (tied_itself nat_cmp_total number)
@@ -61,7 +66,8 @@ dev_tail version said plain final =
     λ i. tail_of (pre i) version.post (Some 0) (said.no_least i) (said.no_most i) (plain i)
 
 -- a developmental release of a version that is none lies before it
-behind_its_dev : (version : VersionRecord) → IsSaid version → version.local ≡ [] → is_prerelease version ≡ false
+behind_its_dev : (version : VersionRecord) → IsSaid version → version.local ≡ [] → is_prerelease version
+    ≡ false
     → is_gt (version_cmp version (record version { dev = Some 0 })) ≡ true
 behind_its_dev version said plain final =
     let first : VersionRecord = record version { dev = Some 0 } in
@@ -72,7 +78,8 @@ behind_its_dev version said plain final =
 
 pub before : (version : VersionRecord) → IsSaid version → version.local ≡ [] → is_prerelease version ≡ false
     → (range_holds (range_by operators.LessThan version) (At (record version { dev = Some 0 })) ≡ false)
-    × (range_holds (range_by operators.GreaterThanEqual version) (At (record version { dev = Some 0 })) ≡ false)
+    × (range_holds (range_by operators.GreaterThanEqual version) (At (record version { dev = Some 0 }))
+    ≡ false)
 before version said plain final =
     let first : VersionRecord = record version { dev = Some 0 } in
     let also : IsSaid first = record { no_least = said.no_least; no_most = said.no_most } in (
@@ -89,39 +96,50 @@ behind_number d n Less e h = absurd (omega arith)
 behind_number d n Equal e h = absurd (omega arith)
 behind_number d n Greater e h = refl
 
-numbers_decide : (d n : ℕ) (xs ys : List (List ℕ)) → d + 1 ≡ n → key_cmp ((0 ∷ n ∷ []) ∷ xs) ((0 ∷ d ∷ []) ∷ ys) ≡ Greater
+numbers_decide : (d n : ℕ) (xs ys : List (List ℕ)) → d + 1 ≡ n
+    → key_cmp ((0 ∷ n ∷ []) ∷ xs) ((0 ∷ d ∷ []) ∷ ys) ≡ Greater
 numbers_decide d n xs ys e =
-    ap (λ o. ordering_then (ordering_then o Equal) (key_cmp xs ys)) (behind_number d n (nat_cmp n d) e (ranks n d))
+    ap (λ o. ordering_then (ordering_then o Equal) (key_cmp xs ys))
+    (behind_number d n (nat_cmp n d) e (ranks n d))
 
-level_parts : (c p q l : List ℕ) (xs ys : List (List ℕ)) → key_cmp (c ∷ p ∷ q ∷ l ∷ xs) (c ∷ p ∷ q ∷ l ∷ ys) ≡ key_cmp xs ys
+level_parts : (c p q l : List ℕ) (xs ys : List (List ℕ))
+    → key_cmp (c ∷ p ∷ q ∷ l ∷ xs) (c ∷ p ∷ q ∷ l ∷ ys) ≡ key_cmp xs ys
 level_parts c p q l xs ys =
-    level_part c (p ∷ q ∷ l ∷ xs) (p ∷ q ∷ l ∷ ys) ∙ level_part p (q ∷ l ∷ xs) (q ∷ l ∷ ys) ∙ level_part q (l ∷ xs) (l ∷ ys)
+    level_part c (p ∷ q ∷ l ∷ xs) (p ∷ q ∷ l ∷ ys) ∙ level_part p (q ∷ l ∷ xs) (q ∷ l ∷ ys)
+    ∙ level_part q (l ∷ xs) (l ∷ ys)
     ∙ level_part l xs ys
 
 -- a raised developmental release lies behind its version
 dev_behind : (pre : Option Prerelease) (post : Option ℕ) (d n : ℕ) (local : List Segment) → d + 1 ≡ n
-    → key_cmp (tail_of pre post (Some n) None None local) (tail_of pre post (Some d) None None local) ≡ Greater
+    → key_cmp (tail_of pre post (Some n) None None local) (tail_of pre post (Some d) None None local)
+    ≡ Greater
 dev_behind (Some pre) post d n local e =
     let rest : List (List ℕ) = map segment_key local in
-    level_parts ((2 + kind_rank pre.kind) ∷ []) (pre_key (Some pre)) (post_key post None) [] ((0 ∷ n ∷ []) ∷ rest) ((0 ∷ d ∷ []) ∷ rest)
+    level_parts ((2 + kind_rank pre.kind) ∷ []) (pre_key (Some pre)) (post_key post None) []
+    ((0 ∷ n ∷ []) ∷ rest) ((0 ∷ d ∷ []) ∷ rest)
     ∙ numbers_decide d n rest rest e
 dev_behind None (Some post) d n local e =
     let rest : List (List ℕ) = map segment_key local in
-    level_parts (6 ∷ []) [] (0 ∷ post ∷ []) [] ((0 ∷ n ∷ []) ∷ rest) ((0 ∷ d ∷ []) ∷ rest) ∙ numbers_decide d n rest rest e
+    level_parts (6 ∷ []) [] (0 ∷ post ∷ []) [] ((0 ∷ n ∷ []) ∷ rest) ((0 ∷ d ∷ []) ∷ rest)
+    ∙ numbers_decide d n rest rest e
 dev_behind None None d n local e =
     let rest : List (List ℕ) = map segment_key local in
-    level_parts (1 ∷ []) [] [] [] ((0 ∷ n ∷ []) ∷ rest) ((0 ∷ d ∷ []) ∷ rest) ∙ numbers_decide d n rest rest e
+    level_parts (1 ∷ []) [] [] [] ((0 ∷ n ∷ []) ∷ rest) ((0 ∷ d ∷ []) ∷ rest)
+    ∙ numbers_decide d n rest rest e
 
 -- and a raised post-release
 post_behind : (pre : Option Prerelease) (dev : Option ℕ) (p n : ℕ) (local : List Segment) → p + 1 ≡ n
     → key_cmp (tail_of pre (Some n) dev None None local) (tail_of pre (Some p) dev None None local) ≡ Greater
 post_behind (Some pre) dev p n local e =
     let rest : List (List ℕ) = [] ∷ absent_last dev ∷ map segment_key local in
-    level_part ((2 + kind_rank pre.kind) ∷ []) (pre_key (Some pre) ∷ (0 ∷ n ∷ []) ∷ rest) (pre_key (Some pre) ∷ (0 ∷ p ∷ []) ∷ rest)
-    ∙ level_part (pre_key (Some pre)) ((0 ∷ n ∷ []) ∷ rest) ((0 ∷ p ∷ []) ∷ rest) ∙ numbers_decide p n rest rest e
+    level_part ((2 + kind_rank pre.kind) ∷ []) (pre_key (Some pre) ∷ (0 ∷ n ∷ []) ∷ rest)
+    (pre_key (Some pre) ∷ (0 ∷ p ∷ []) ∷ rest)
+    ∙ level_part (pre_key (Some pre)) ((0 ∷ n ∷ []) ∷ rest) ((0 ∷ p ∷ []) ∷ rest)
+    ∙ numbers_decide p n rest rest e
 post_behind None dev p n local e =
     let rest : List (List ℕ) = [] ∷ absent_last dev ∷ map segment_key local in
-    level_part (6 ∷ []) ([] ∷ (0 ∷ n ∷ []) ∷ rest) ([] ∷ (0 ∷ p ∷ []) ∷ rest) ∙ level_part [] ((0 ∷ n ∷ []) ∷ rest) ((0 ∷ p ∷ []) ∷ rest)
+    level_part (6 ∷ []) ([] ∷ (0 ∷ n ∷ []) ∷ rest) ([] ∷ (0 ∷ p ∷ []) ∷ rest)
+    ∙ level_part [] ((0 ∷ n ∷ []) ∷ rest) ((0 ∷ p ∷ []) ∷ rest)
     ∙ numbers_decide p n rest rest e
 
 -- and the last of a version that is neither
@@ -130,12 +148,15 @@ most_behind : (pre : Option Prerelease) (local : List Segment)
 most_behind None local = refl
 most_behind (Some pre) local =
     let rest : List (List ℕ) = [] ∷ absent_last None ∷ map segment_key local in
-    level_part ((2 + kind_rank pre.kind) ∷ []) (pre_key (Some pre) ∷ (1 ∷ 0 ∷ []) ∷ rest) (pre_key (Some pre) ∷ [] ∷ rest)
+    level_part ((2 + kind_rank pre.kind) ∷ []) (pre_key (Some pre) ∷ (1 ∷ 0 ∷ []) ∷ rest)
+    (pre_key (Some pre) ∷ [] ∷ rest)
     ∙ level_part (pre_key (Some pre)) ((1 ∷ 0 ∷ []) ∷ rest) ([] ∷ rest)
 
-tail_with : (version : VersionRecord) (dev post : Option ℕ) → version.dev ≡ dev → version.post ≡ post → IsSaid version
+tail_with : (version : VersionRecord) (dev post : Option ℕ) → version.dev ≡ dev → version.post ≡ post
+    → IsSaid version
     → tail_key version ≡ tail_of version.pre post dev None None version.local
-tail_with version dev post d p said = λ i. tail_of version.pre (p i) (d i) (said.no_least i) (said.no_most i) version.local
+tail_with version dev post d p said =
+    λ i. tail_of version.pre (p i) (d i) (said.no_least i) (said.no_most i) version.local
 
 -- what begins at a raised version does not hold what lies just above the version
 later_held : (next : Option ℕ) (start : ℕ → VersionRecord) (version : VersionRecord)
@@ -144,19 +165,24 @@ later_held : (next : Option ℕ) (start : ℕ → VersionRecord) (version : Vers
 later_held None start version f = refl
 later_held (Some n) start version f = ap (λ o. not (is_gt (ordering_then o Less))) (f n refl)
 
-held_by : (version : VersionRecord) (dev post : Option ℕ) → version.dev ≡ dev → version.post ≡ post → IsSaid version
+held_by : (version : VersionRecord) (dev post : Option ℕ) → version.dev ≡ dev → version.post ≡ post
+    → IsSaid version
     → range_holds (greater_range version dev post) (JustAbove version) ≡ false
 held_by version (Some dev) post d p said =
     let start : ℕ → VersionRecord = λ n. record version { dev = Some n } in
     later_held (raised dev) start version
     (λ n e. by_tail (start n) version Greater (level_front version)
-    ((λ i. key_cmp (tail_with (start n) (Some n) post refl p record { no_least = said.no_least; no_most = said.no_most } i) (tail_with version (Some dev) post d p said i))
+    ((λ i. key_cmp (tail_with (start n) (Some n) post refl p record
+    { no_least = said.no_least; no_most = said.no_most } i)
+    (tail_with version (Some dev) post d p said i))
     ∙ dev_behind version.pre post dev n version.local (raised_is dev n e)))
 held_by version None (Some post) d p said =
     let start : ℕ → VersionRecord = λ n. record version { post = Some n } in
     later_held (raised post) start version
     (λ n e. by_tail (start n) version Greater (level_front version)
-    ((λ i. key_cmp (tail_with (start n) None (Some n) d refl record { no_least = said.no_least; no_most = said.no_most } i) (tail_with version None (Some post) d p said i))
+    ((λ i. key_cmp (tail_with (start n) None (Some n) d refl record
+    { no_least = said.no_least; no_most = said.no_most } i)
+    (tail_with version None (Some post) d p said i))
     ∙ post_behind version.pre None post n version.local (raised_is post n e)))
 held_by version None None d p said =
     let start : VersionRecord = record version { most = Some 0 } in
@@ -164,7 +190,8 @@ held_by version None None d p said =
     λ i. tail_of version.pre (p i) (d i) (said.no_least i) (Some 0) version.local in
     let right = tail_with version None None d p said in
     ap (λ o. not (is_gt o))
-    (by_tail start version Greater (level_front version) ((λ i. key_cmp (left i) (right i)) ∙ most_behind version.pre version.local))
+    (by_tail start version Greater (level_front version)
+    ((λ i. key_cmp (left i) (right i)) ∙ most_behind version.pre version.local))
 
 pub behind : (version : VersionRecord) → IsSaid version
     → (range_holds (range_by operators.LessThanEqual version) (JustAbove version) ≡ false)

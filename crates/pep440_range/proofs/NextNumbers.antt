@@ -1,5 +1,6 @@
 -- Points of equal versions, and the next minor release as numbers with the last one raised.
-use Rattle.std.proofs.Common.{◌≡◌, ℕ, ◌+◌, ◌<◌, ◌^◌, ◌==◌, nat_lt, Bool, true, false, cond, if◌then◌else◌, List, [], ◌∷◌, Some, None, refl, ap, sym, subst, ◌∙◌, true≢false, arith}
+use Rattle.std.proofs.Common.{◌≡◌, ℕ, ◌+◌, ◌<◌, ◌^◌, ◌==◌, nat_lt, Bool, true, false, cond, if◌then◌else◌}
+use Rattle.std.proofs.Common.{List, [], ◌∷◌, Some, None, refl, ap, sym, subst, ◌∙◌, true≢false, arith}
 use Rattle.std.proofs.lemmas.Bool.Decides.{nat_tests}
 use Rattle.std.specs.List.{AllByRecursion}
 use Rattle.std.specs.Option.{option_map}
@@ -7,13 +8,15 @@ use Rattle.std.specs.Ordering.{ordering_then}
 use Rattle.std.specs.declared.cmp.Ordering.TheVariants.{Greater}
 use Rattle.version_ranges.specs.Point.{Point, BelowAll, At, JustAbove, point_cmp}
 use Rattle.pep440_version.specs.Record.{VersionRecord, release_record}
-use Rattle.pep440_version.specs.Order.{key_of, key_cmp, same_key, before_stripped, stripped, version_cmp, version_eq}
+use Rattle.pep440_version.specs.Order.{key_of, key_cmp, same_key, before_stripped, stripped, version_cmp}
+use Rattle.pep440_version.specs.Order.{version_eq}
 use Rattle.pep440_specifier.specs.Bounds.{next_minor, equals_release}
 use Rattle.pep440_range.specs.Numbers.{last_raised}
 
 -- ---- equal versions
 
-pub equal_cmp : (v w other : VersionRecord) → version_eq v w ≡ true → version_cmp other v ≡ version_cmp other w
+pub equal_cmp : (v w other : VersionRecord) → version_eq v w ≡ true → version_cmp other v
+    ≡ version_cmp other w
 equal_cmp v w other h = ap (λ k. key_cmp (key_of other) k) (same_key v w h)
 
 -- a point lies beside equal versions alike
@@ -36,7 +39,8 @@ front_kept : (t : Bool) (number : ℕ) → number < 2 ^ 64 → Are64 (cond t [] 
 front_kept true number h = tt
 front_kept false number h = (h, tt)
 
-before_kept : (number : ℕ) (numbers : List ℕ) → number < 2 ^ 64 → Are64 numbers → Are64 (before_stripped number numbers)
+before_kept : (number : ℕ) (numbers : List ℕ) → number < 2 ^ 64 → Are64 numbers
+    → Are64 (before_stripped number numbers)
 before_kept number [] h k = front_kept (number == 0) number h
 before_kept number (next ∷ numbers) h k = (h, k)
 
@@ -55,16 +59,19 @@ two_stripped a b = ap (λ t. before_stripped a (cond t [] ((b + 1) ∷ []))) (no
 below_64 : (n : ℕ) → n < 2 ^ 64 → nat_lt n (2 ^ 64) ≡ true
 below_64 n h = grind (arith, nat_tests)
 
-fits_raised : (a b : ℕ) (next : VersionRecord) → version_eq (release_record (a ∷ (b + 1) ∷ [])) next ≡ true → Are64 next.release
+fits_raised : (a b : ℕ) (next : VersionRecord) → version_eq (release_record (a ∷ (b + 1) ∷ [])) next
+    ≡ true → Are64 next.release
     → last_raised (a ∷ b ∷ []) ≡ Some (a ∷ (b + 1) ∷ [])
 fits_raised a b next h k =
     let numbers : stripped next.release ≡ a ∷ (b + 1) ∷ [] =
     sym (equal_numbers (release_record (a ∷ (b + 1) ∷ [])) next h) ∙ two_stripped a b in
     let all : Are64 (a ∷ (b + 1) ∷ []) = subst Are64 numbers (stripped_kept next.release k) in
-    ap (λ t. option_map (λ later. a ∷ later) (option_map (λ n. n ∷ []) (if t then Some (b + 1) else None))) (below_64 (b + 1) all.1.0)
+    ap (λ t. option_map (λ later. a ∷ later)
+    (option_map (λ n. n ∷ []) (if t then Some (b + 1) else None))) (below_64 (b + 1) all.1.0)
 
 -- where the next minor release is of 64 bits, the last number can be raised to it
-pub minor_raised : (release : List ℕ) (next : VersionRecord) → equals_release (next_minor release) next ≡ true → Are64 next.release
+pub minor_raised : (release : List ℕ) (next : VersionRecord) → equals_release (next_minor release) next
+    ≡ true → Are64 next.release
     → (end : List ℕ) × (last_raised release ≡ Some end) × (version_eq (release_record end) next ≡ true)
 minor_raised [] next h k = absurd (true≢false (sym h))
 minor_raised (a ∷ []) next h k = absurd (true≢false (sym h))

@@ -1,5 +1,6 @@
 -- Answers of orders: turned round, one behind the other, and tested.
-use Rattle.std.proofs.Common.{◌≡◌, Bool, true, false, not, ◌&&◌, ◌||◌, Option, Some, None, is_some, refl, sym, true≢false}
+use Rattle.std.proofs.Common.{◌≡◌, Bool, true, false, not, ◌&&◌, ◌||◌, Option, Some, None, is_some, refl}
+use Rattle.std.proofs.Common.{sym, true≢false}
 use Rattle.std.specs.Option.{option_map}
 use Rattle.std.specs.declared.cmp.Ordering.{Ordering}
 use Rattle.std.specs.declared.cmp.Ordering.TheVariants.{Less, Equal, Greater}
@@ -34,7 +35,8 @@ not_greater Greater = refl
 
 -- ---- one answer behind another
 
-pub regroup : (o p q : Ordering) → ordering_then (ordering_then o Equal) (ordering_then p q) ≡ ordering_then (ordering_then o p) q
+pub regroup : (o p q : Ordering) → ordering_then (ordering_then o Equal) (ordering_then p q)
+    ≡ ordering_then (ordering_then o p) q
 regroup Less p q = refl
 regroup Equal p q = refl
 regroup Greater p q = refl
@@ -60,7 +62,8 @@ equal_first Less p h = h
 equal_first Equal p h = refl
 equal_first Greater p h = h
 
-pub neither_greater : (o p : Ordering) → is_gt o ≡ false → is_gt p ≡ false → is_gt (ordering_then o p) ≡ false
+pub neither_greater : (o p : Ordering) → is_gt o ≡ false → is_gt p ≡ false → is_gt (ordering_then o p)
+    ≡ false
 neither_greater Less p h k = refl
 neither_greater Equal p h k = k
 neither_greater Greater p h k = h
@@ -75,7 +78,8 @@ first_greater Less p h = h
 first_greater Equal p h = absurd (true≢false (sym h))
 first_greater Greater p h = refl
 
-pub later_greater : (o p q : Ordering) → (is_gt p ≡ true → is_gt q ≡ true) → is_gt (ordering_then o p) ≡ true → is_gt (ordering_then o q) ≡ true
+pub later_greater : (o p q : Ordering) → (is_gt p ≡ true → is_gt q ≡ true) → is_gt (ordering_then o p)
+    ≡ true → is_gt (ordering_then o q) ≡ true
 later_greater Less p q f h = h
 later_greater Equal p q f h = f h
 later_greater Greater p q f h = refl
@@ -99,6 +103,7 @@ is_none None h = refl
 is_none (Some x) h = absurd (true≢false h)
 
 -- what an option is that a function has changed
-pub mapped_from : {A B : Type 0} (f : A → B) (o : Option A) (y : B) → option_map f o ≡ Some y → (x : A) × (o ≡ Some x) × (f x ≡ y)
+pub mapped_from : {A B : Type 0} (f : A → B) (o : Option A) (y : B) → option_map f o ≡ Some y → (x : A)
+    × (o ≡ Some x) × (f x ≡ y)
 mapped_from f None y e = absurd (cc)
 mapped_from f (Some x) y e = let same : f x ≡ y = cc in (x, refl, same)

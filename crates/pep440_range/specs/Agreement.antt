@@ -1,11 +1,11 @@
 -- Where ranges and matching agree.
 use Rattle.std.specs.Prelude.{◌≡◌, ◌⊎◌, false, None}
 use Rattle.pep440_version.specs.Record.{VersionRecord}
-use Rattle.pep440_specifier.specs.declared.operator.Operator.{Operator}
-use Rattle.pep440_specifier.specs.declared.operator.Operator.TheVariants.{Equal, EqualStar, ExactEqual}
-use Rattle.pep440_specifier.specs.declared.operator.Operator.TheVariants.{NotEqual, NotEqualStar, TildeEqual}
-use Rattle.pep440_specifier.specs.declared.operator.Operator.TheVariants.{LessThan, LessThanEqual}
-use Rattle.pep440_specifier.specs.declared.operator.Operator.TheVariants.{GreaterThan, GreaterThanEqual}
+use Rattle.pep440_operator.specs.declared.operator.Operator.{Operator}
+use Rattle.pep440_operator.specs.declared.operator.Operator.TheVariants.{Equal, EqualStar, ExactEqual}
+use Rattle.pep440_operator.specs.declared.operator.Operator.TheVariants.{NotEqual, NotEqualStar, TildeEqual}
+use Rattle.pep440_operator.specs.declared.operator.Operator.TheVariants.{LessThan, LessThanEqual}
+use Rattle.pep440_operator.specs.declared.operator.Operator.TheVariants.{GreaterThan, GreaterThanEqual}
 use Rattle.pep440_specifier.specs.Building.{IsBuilt}
 use Rattle.pep440_specifier.specs.Matching.{SpecifierRecord, same_release}
 

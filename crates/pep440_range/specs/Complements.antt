@@ -2,11 +2,11 @@
 use Rattle.std.specs.Prelude.{◌≡◌, true}
 use Rattle.pep440_version.specs.Record.{VersionRecord}
 use Rattle.pep440_version.specs.Changes.{is_prerelease}
-use Rattle.pep440_specifier.specs.declared.operator.Operator.{Operator}
-use Rattle.pep440_specifier.specs.declared.operator.Operator.TheVariants.{Equal, EqualStar, ExactEqual}
-use Rattle.pep440_specifier.specs.declared.operator.Operator.TheVariants.{NotEqual, NotEqualStar, TildeEqual}
-use Rattle.pep440_specifier.specs.declared.operator.Operator.TheVariants.{LessThan, LessThanEqual}
-use Rattle.pep440_specifier.specs.declared.operator.Operator.TheVariants.{GreaterThan, GreaterThanEqual}
+use Rattle.pep440_operator.specs.declared.operator.Operator.{Operator}
+use Rattle.pep440_operator.specs.declared.operator.Operator.TheVariants.{Equal, EqualStar, ExactEqual}
+use Rattle.pep440_operator.specs.declared.operator.Operator.TheVariants.{NotEqual, NotEqualStar, TildeEqual}
+use Rattle.pep440_operator.specs.declared.operator.Operator.TheVariants.{LessThan, LessThanEqual}
+use Rattle.pep440_operator.specs.declared.operator.Operator.TheVariants.{GreaterThan, GreaterThanEqual}
 
 -- never for `<=` and `>`, which both leave out what lies just above their version; and for `<` and `>=`
 -- beside a pre- or developmental release alone, since `<` leaves out those of another release

@@ -8,11 +8,8 @@ use Rattle.version_ranges.specs.Point.{Point}
 use Rattle.version_ranges.specs.Bounds.{starts_by, goes_on_to, is_within}
 use Rattle.pep440_version.specs.Record.{VersionRecord}
 use Rattle.pep440_version.specs.Order.{version_cmp}
-use Rattle.pep440_specifier_list.specs.ListBounds.{gap_specifier}
+use Rattle.pep440_specifier_list.specs.ListBounds.{Interval, gap_specifier}
 use Rattle.pep440_range.specs.Ranges.{PointTest, all_hold}
-
-abbrev pub Interval : Type 0
-Interval = Bound VersionRecord × Bound VersionRecord
 
 -- the ranges are all there, and share just these points
 abbrev pub ShareJust : List (Option PointTest) → PointTest → Type 0

@@ -13,11 +13,11 @@ use Rattle.version_ranges.specs.Bounds.{starts_by, goes_on_to, is_within}
 use Rattle.pep440_version.specs.Record.{VersionRecord, release_record, epoch_record}
 use Rattle.pep440_version.specs.Changes.{is_prerelease}
 use Rattle.pep440_version.specs.Order.{version_cmp}
-use Rattle.pep440_specifier.specs.declared.operator.Operator.{Operator}
-use Rattle.pep440_specifier.specs.declared.operator.Operator.TheVariants.{Equal, EqualStar, ExactEqual}
-use Rattle.pep440_specifier.specs.declared.operator.Operator.TheVariants.{NotEqual, NotEqualStar, TildeEqual}
-use Rattle.pep440_specifier.specs.declared.operator.Operator.TheVariants.{LessThan, LessThanEqual}
-use Rattle.pep440_specifier.specs.declared.operator.Operator.TheVariants.{GreaterThan, GreaterThanEqual}
+use Rattle.pep440_operator.specs.declared.operator.Operator.{Operator}
+use Rattle.pep440_operator.specs.declared.operator.Operator.TheVariants.{Equal, EqualStar, ExactEqual}
+use Rattle.pep440_operator.specs.declared.operator.Operator.TheVariants.{NotEqual, NotEqualStar, TildeEqual}
+use Rattle.pep440_operator.specs.declared.operator.Operator.TheVariants.{LessThan, LessThanEqual}
+use Rattle.pep440_operator.specs.declared.operator.Operator.TheVariants.{GreaterThan, GreaterThanEqual}
 use Rattle.pep440_specifier.specs.Matching.{SpecifierRecord, without_last}
 use Rattle.pep440_range.specs.declared.range_error.RangeError.{RangeError}
 use Rattle.pep440_range.specs.declared.range_error.RangeError.TheVariants.{NumberAtEnd, Memory}

@@ -4,22 +4,26 @@ ghost use Rattle.std.specs.Prelude.{◌≡◌, ◌≢◌, ℕ, [], ◌∷◌, Li
 ghost use Rattle.std.specs.Option.{option_map};
 ghost use Rattle.version_ranges.specs.Point.{Point, At, JustAbove};
 ghost use Rattle.std.specs.declared.ops.Bound.{Bound};
-ghost use Rattle.version_ranges.specs.Bounds.{is_within};
-ghost use Rattle.version_ranges.specs.Held.{holds_at};
+ghost use Rattle.version_ranges.specs.Bounds.{is_within, intervals};
+ghost use Rattle.version_ranges.specs.Held.{holds_at, IsNormal};
 ghost use Rattle.pep440_version.specs.Record.{VersionRecord};
 ghost use Rattle.pep440_version.specs.Changes.{is_prerelease};
 ghost use Rattle.pep440_version.specs.Order.{version_cmp};
-ghost use Rattle.pep440_specifier.specs.declared.operator.Operator.{Operator};
-ghost use Rattle.pep440_specifier.specs.declared.operator.Operator.TheVariants.{ExactEqual, LessThan, LessThanEqual, GreaterThan, GreaterThanEqual};
+ghost use Rattle.pep440_operator.specs.declared.operator.Operator.{Operator};
+ghost use Rattle.pep440_operator.specs.declared.operator.Operator.TheVariants.{ExactEqual, LessThan, LessThanEqual, GreaterThan, GreaterThanEqual};
 ghost use Rattle.pep440_specifier.specs.Bounds.{IsReleaseVersion, IsReleaseBound, interval_specifiers};
-ghost use Rattle.pep440_specifier.specs.Building.{IsBuilt, negated};
+ghost use Rattle.pep440_operator.specs.Operators.{negated};
+ghost use Rattle.pep440_specifier.specs.Building.{IsBuilt};
 ghost use Rattle.pep440_specifier.specs.Matching.{SpecifierRecord, matches};
 ghost use Rattle.pep440_specifier_list.specs.Lists.{IsInOrder, matches_all};
-ghost use Rattle.pep440_specifier_list.specs.ListBounds.{AreReleaseIntervals, list_specifiers};
+ghost use Rattle.pep440_specifier_list.specs.ListBounds.{Interval, AreReleaseIntervals, list_specifiers};
 ghost use Rattle.pep440_range.specs.Agreement.{Agrees, IsSaid, IsAgreeing, IsWithoutPosts};
 ghost use Rattle.pep440_range.specs.Complements.{IsComplemented};
-ghost use Rattle.pep440_range.specs.Intervals.{Interval, ShareJust, HasNumbers, HaveNumbers, AreBehind, GapsAreSaid, is_in_one};
+ghost use Rattle.pep440_range.specs.Intervals.{ShareJust, HasNumbers, HaveNumbers, AreBehind, GapsAreSaid, is_in_one};
 ghost use Rattle.pep440_range.specs.Ranges.{PointTest, GivesAll, all_but, range_of, range_by, range_holds, release_range_of, release_range_by};
+
+use pep440_version::Version;
+use version_ranges::laws::intervals_hold_the_set;
 
 /// A specifier's range holds a version without a local part exactly where the specifier takes it; but for `===`, and for
 /// post-releases of one release beside `<` and `>`.
@@ -108,3 +112,16 @@ pub fn list_of_intervals_holds_their_union()
         IsInOrder (list_specifiers (first ∷ later)) members →
         ShareJust (map release_range_of members) (is_in_one (first ∷ later)) }
 {}
+
+/// The ranges among releases of the list of a set's intervals hold together just what the set holds, where each gap
+/// between two of the intervals is one version or a minor release; the set is not empty.
+pub fn list_of_a_set_holds_the_set()
+    ensures { (set : List (Point VersionRecord)) (first : Interval) (later : List Interval)
+        (members : List SpecifierRecord) →
+        IsNormal version_cmp set → intervals set ≡ first ∷ later →
+        AreReleaseIntervals (first ∷ later) → HaveNumbers (first ∷ later) → GapsAreSaid first.1 later →
+        IsInOrder (list_specifiers (first ∷ later)) members →
+        ShareJust (map release_range_of members) (holds_at version_cmp set) }
+{
+    intervals_hold_the_set::<Version>();
+}

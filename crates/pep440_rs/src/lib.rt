@@ -14,7 +14,7 @@ pub use pep440_specifier::{
     VersionSpecifierParseError,
 };
 pub use pep440_specifier_list::{
-    CountedSpecifiers, VersionSpecifiers, VersionSpecifiersParseError,
+    BareCommas, CountedSpecifiers, RefusedPiece, VersionSpecifiers, VersionSpecifiersParseError,
 };
 pub use pep440_version::{
     FromValueError, LocalSegment, Prerelease, PrereleaseKind, Version, VersionParseError,

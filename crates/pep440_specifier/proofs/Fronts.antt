@@ -1,18 +1,22 @@
 -- A text that is cut before the first character that passes a test.
-use Rattle.std.proofs.Common.{◌≡◌, ℕ, ◌+◌, ◌<◌, ◌≤◌, Bool, true, false, not, ◌==◌, cond, if◌then◌else◌, List, [], ◌∷◌, ◌++◌, length, take, drop, Some, None, Result, Ok, Err, refl, ap, sym, ◌∙◌, arith}
+use Rattle.std.proofs.Common.{◌≡◌, ℕ, ◌+◌, ◌<◌, ◌≤◌, Bool, true, false, not, ◌==◌, cond, if◌then◌else◌, List}
+use Rattle.std.proofs.Common.{[], ◌∷◌, ◌++◌, length, take, drop, Some, None, Result, Ok, Err, refl, ap, sym}
+use Rattle.std.proofs.Common.{◌∙◌, arith}
 use Rattle.std.proofs.Math.Seq.{take-append_seam}
 use Rattle.std.proofs.lemmas.Bool.Decides.{nat_tests}
 use Rattle.std.proofs.lemmas.List.{take-append-drop, length-take-le}
 use Rattle.std.proofs.lemmas.List.Prefix.{front_rest}
-use Rattle.std.proofs.lemmas.Str.{encodes-chars, chars-append, chars-nil, chars_from_encodes, chars_past_char, length-le-encodes, IsUtf8-take, IsUtf8-drop}
+use Rattle.std.proofs.lemmas.Str.{encodes-chars, chars-append, chars-nil, chars_from_encodes}
+use Rattle.std.proofs.lemmas.Str.{chars_past_char, length-le-encodes, IsUtf8-take, IsUtf8-drop}
 use Rattle.std.specs.List.{prefix_len, position_or_len}
 use Rattle.std.specs.Str.{chars, encode_utf8_all, IsUtf8, NonePass, trim_start, skip_leading_whitespace}
 use Rattle.std.specs.Str.Pattern.{FindsBy, MatchBeginsAt}
-use Rattle.pep440_specifier.specs.SpecifierReading.{cut_at, front_in, SpecifierFault, InvalidTrailing, ended, built_before, AnswersSpecifier, RefusesSpecifier, ReadsSpecifier, LacksSpecifier}
+use Rattle.pep440_specifier.specs.SpecifierReading.{cut_at, front_in, Reading, InvalidTrailing, ended}
+use Rattle.pep440_specifier.specs.SpecifierReading.{built_before}
 use Rattle.std.specs.Result.{result_ok}
 use Rattle.pep440_specifier.specs.Matching.{SpecifierRecord}
 use Rattle.pep440_specifier.specs.declared.build_error.VersionSpecifierBuildError.{VersionSpecifierBuildError}
-use Rattle.pep440_specifier.specs.declared.operator.OperatorParseError.TheVariants as operators
+use Rattle.pep440_operator.specs.declared.operator.OperatorParseError.TheVariants as operators
 use Rattle.pep440_specifier.specs.declared.parse_error.VersionSpecifierParseError.{VersionSpecifierParseError}
 use Rattle.pep440_specifier.specs.declared.parse_error.VersionSpecifierParseError.TheVariants as errors
 
@@ -88,14 +92,18 @@ nonempty [] h = absurd (omega arith)
 nonempty (c ∷ cs) h = omega arith
 
 -- characters that are left are trailing
-trailing_by : (cs : List ℕ) (specifier : SpecifierRecord) → 0 < length cs → ended cs specifier ≡ Err (InvalidTrailing cs)
+trailing_by : (cs : List ℕ) (specifier : SpecifierRecord) → 0 < length cs
+    → ended cs specifier ≡ Err (InvalidTrailing (encode_utf8_all cs))
 trailing_by [] specifier h = absurd (omega arith)
 trailing_by (c ∷ cs) specifier h = refl
 
-pub left_over : (text : List ℕ) (specifier : SpecifierRecord) → IsUtf8 text → 0 < length text → ended (chars text) specifier ≡ Err (InvalidTrailing (chars text))
+left_over : (text : List ℕ) (specifier : SpecifierRecord) → IsUtf8 text → 0 < length text
+    → ended (chars text) specifier ≡ Err (InvalidTrailing text)
 left_over text specifier u h =
-    let e : length (encode_utf8_all (chars text)) ≡ length text = ap length (encodes-chars text u) in
+    let same : encode_utf8_all (chars text) ≡ text = encodes-chars text u in
+    let e : length (encode_utf8_all (chars text)) ≡ length text = ap length same in
     trailing_by (chars text) specifier (nonempty (chars text) (omega (arith, e)))
+    ∙ ap (λ bs. Err (InvalidTrailing bs)) same
 
 empty_is : (bs : List ℕ) → true ≡ (length bs == 0) → bs ≡ []
 empty_is [] h = refl
@@ -106,27 +114,18 @@ more_than_none [] h = absurd (cc)
 more_than_none (b ∷ bs) h = omega arith
 
 -- what is left behind a pattern that makes a specifier
-pub left_behind : (left rest : List ℕ) (made : Result SpecifierRecord VersionSpecifierBuildError) (specifier : SpecifierRecord) → made ≡ Ok specifier → IsUtf8 rest
-    → chars rest ≡ skip_leading_whitespace (chars left) → false ≡ (length rest == 0) → built_before (chars left) made ≡ Err (InvalidTrailing (chars rest))
+pub left_behind : (left rest : List ℕ) (made : Result SpecifierRecord VersionSpecifierBuildError)
+    (specifier : SpecifierRecord) → made ≡ Ok specifier → IsUtf8 rest
+    → chars rest ≡ skip_leading_whitespace (chars left) → false ≡ (length rest == 0)
+    → built_before (chars left) made ≡ Err (InvalidTrailing rest)
 left_behind left rest made specifier e u s h =
-    ap (built_before (chars left)) e ∙ ap (λ cs. ended cs specifier) (sym s) ∙ left_over rest specifier u (more_than_none rest h)
+    ap (built_before (chars left)) e ∙ ap (λ cs. ended cs specifier) (sym s)
+    ∙ left_over rest specifier u (more_than_none rest h)
 
-pub none_behind : (left rest : List ℕ) (made : Result SpecifierRecord VersionSpecifierBuildError) (specifier : SpecifierRecord) → made ≡ Ok specifier
-    → chars rest ≡ skip_leading_whitespace (chars left) → true ≡ (length rest == 0) → built_before (chars left) made ≡ Ok specifier
+pub none_behind : (left rest : List ℕ) (made : Result SpecifierRecord VersionSpecifierBuildError)
+    (specifier : SpecifierRecord) → made ≡ Ok specifier
+    → chars rest ≡ skip_leading_whitespace (chars left) → true ≡ (length rest == 0)
+    → built_before (chars left) made ≡ Ok specifier
 none_behind left rest made specifier e s h =
-    ap (built_before (chars left)) e ∙ ap (λ cs. ended cs specifier) (sym s ∙ ap chars (empty_is rest h) ∙ chars-nil)
-
--- an error's fault leaves no specifier
-lacks : (error : VersionSpecifierParseError) (read : Result SpecifierRecord SpecifierFault) → RefusesSpecifier error read → LacksSpecifier error (result_ok read)
-lacks errors.Memory read h = tt
-lacks errors.MissingOperator read h = ap result_ok h
-lacks (errors.InvalidOperator operators.Memory) read h = absurd h
-lacks (errors.InvalidOperator (operators.Unknown text)) read h = ap result_ok h
-lacks errors.MissingVersion read h = ap result_ok h
-lacks (errors.InvalidVersion error) read h = ap result_ok h.1
-lacks (errors.InvalidSpecifier error) read h = ap result_ok h
-lacks (errors.InvalidTrailing text) read h = ap result_ok h
-
-pub answer_reads : (answer : Result SpecifierRecord VersionSpecifierParseError) (read : Result SpecifierRecord SpecifierFault) → AnswersSpecifier answer read → ReadsSpecifier answer (result_ok read)
-answer_reads (Ok specifier) read h = ap result_ok h
-answer_reads (Err error) read h = lacks error read h
+    ap (built_before (chars left)) e
+    ∙ ap (λ cs. ended cs specifier) (sym s ∙ ap chars (empty_is rest h) ∙ chars-nil)

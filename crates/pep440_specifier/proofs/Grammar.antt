@@ -1,5 +1,7 @@
 -- What is read of a text is the specifier that the grammar gives it.
-use Rattle.std.proofs.Common.{◌≡◌, ℕ, ◌+◌, ◌<◌, ◌==◌, ◌↔◌, Bool, true, false, not, cond, if◌then◌else◌, IsTrue, List, [], ◌∷◌, ◌++◌, length, take, drop, Option, Some, None, Result, Ok, Err, suc, refl, ap, sym, subst, ◌∙◌, arith}
+use Rattle.std.proofs.Common.{◌≡◌, ℕ, ◌+◌, ◌<◌, ◌==◌, ◌↔◌, Bool, true, false, not, cond, if◌then◌else◌}
+use Rattle.std.proofs.Common.{IsTrue, List, [], ◌∷◌, ◌++◌, length, take, drop, Option, Some, None, Result}
+use Rattle.std.proofs.Common.{Ok, Err, suc, refl, ap, sym, subst, ◌∙◌, arith}
 use Rattle.std.proofs.Math.Seq.{take-append_seam}
 use Rattle.std.proofs.lemmas.Bool.Decides.{nat_tests}
 use Rattle.std.proofs.lemmas.List.{take-append-drop, append-nil}
@@ -12,14 +14,21 @@ use Rattle.std.specs.Str.{chars, encode_utf8_all, skip_leading_whitespace}
 use Rattle.pep440_version.specs.Record.{PatternRecord}
 use Rattle.pep440_version.specs.Reading.{pattern_of}
 use Rattle.pep440_version.specs.Text.{IsPatternText}
-use Rattle.pep440_specifier.specs.declared.operator.Operator.{Operator}
+use Rattle.pep440_version.specs.VersionReading.{VersionFault, pattern_reading}
+use Rattle.pep440_version.proofs.Found.{is_pattern, pattern_found}
+use Rattle.pep440_operator.specs.declared.operator.Operator.{Operator}
 use Rattle.pep440_specifier.specs.declared.build_error.VersionSpecifierBuildError.{VersionSpecifierBuildError}
 use Rattle.pep440_specifier.specs.Matching.{SpecifierRecord}
 use Rattle.pep440_specifier.specs.Building.{built_of_pattern}
-use Rattle.pep440_specifier.specs.SpecifierPrint.{operator_text}
+use Rattle.pep440_operator.specs.OperatorPrint.{operator_text}
 use Rattle.pep440_specifier.specs.SpecifierText.{AreSpaces, IsSpecifierText}
-use Rattle.pep440_specifier.specs.SpecifierReading.{ends_operator, operator_of, front_in, SpecifierFault, ended, built_before, beside_pattern, before_version, behind_operator, beside_operator, before_operator, read_specifier, specifier_of}
-use Rattle.pep440_specifier.proofs.Operators.{operator_found, operator_again, operator_characters, operator_nonempty, operator_ascii, operator_unspaced}
+use Rattle.pep440_operator.specs.OperatorReading.{ends_operator, operator_of, operator_or_text}
+use Rattle.pep440_operator.specs.OperatorReading.{operator_reading}
+use Rattle.pep440_specifier.specs.SpecifierReading.{front_in, Reading, ended, built_before, beside_pattern}
+use Rattle.pep440_specifier.specs.SpecifierReading.{before_version, behind_operator, beside_operator}
+use Rattle.pep440_specifier.specs.SpecifierReading.{before_operator, specifier_reading, specifier_of}
+use Rattle.pep440_operator.proofs.Operators.{operator_found, operator_again, operator_characters}
+use Rattle.pep440_operator.proofs.Operators.{operator_nonempty, operator_ascii, operator_unspaced}
 use Rattle.pep440_specifier.proofs.PatternTexts.{AreAscii, Starts, mapped, pattern_ascii, pattern_starts}
 
 -- patterns are read as their grammar says
@@ -36,11 +45,11 @@ some_same : {A : Type 0} (x y : A) → Some x ≡ Some y → x ≡ y
 unfolding is_or
 some_same x y e = ap (is_or x) e
 
-ok_or : SpecifierRecord → Result SpecifierRecord SpecifierFault → SpecifierRecord
+ok_or : SpecifierRecord → Reading → SpecifierRecord
 ok_or y (Err e) = y
 ok_or y (Ok x) = x
 
-ok_same : (read : Result SpecifierRecord SpecifierFault) (x y : SpecifierRecord) → read ≡ Ok x → read ≡ Ok y → x ≡ y
+ok_same : (read : Reading) (x y : SpecifierRecord) → read ≡ Ok x → read ≡ Ok y → x ≡ y
 unfolding ok_or
 ok_same read x y e f = ap (ok_or x) (sym e ∙ f)
 
@@ -168,49 +177,66 @@ built_by : (left : List ℕ) (made : Result SpecifierRecord VersionSpecifierBuil
 built_by left (Ok one) specifier h = let e = ended_by (skip_leading_whitespace left) one specifier h in (ap Ok e.1, e.0)
 built_by left (Err error) specifier h = absurd (cc)
 
-pattern_by : (operator : Operator) (left piece : List ℕ) (found : Option PatternRecord) (specifier : SpecifierRecord) → beside_pattern operator left piece found ≡ Ok specifier
-    → (pattern : PatternRecord) × (found ≡ Some pattern) × (built_of_pattern operator pattern ≡ Ok specifier) × (skip_leading_whitespace left ≡ [])
-pattern_by operator left piece None specifier h = absurd (cc)
-pattern_by operator left piece (Some pattern) specifier h = let b = built_by left (built_of_pattern operator pattern) specifier h in (pattern, refl, b.0, b.1)
+pattern_by : (operator : Operator) (left : List ℕ) (read : Result PatternRecord VersionFault)
+    (specifier : SpecifierRecord) → beside_pattern operator left read ≡ Ok specifier
+    → (pattern : PatternRecord) × (read ≡ Ok pattern) × (built_of_pattern operator pattern ≡ Ok specifier)
+    × (skip_leading_whitespace left ≡ [])
+pattern_by operator left (Err fault) specifier h = absurd (cc)
+pattern_by operator left (Ok pattern) specifier h =
+    let b = built_by left (built_of_pattern operator pattern) specifier h in (pattern, refl, b.0, b.1)
 
 version_by : (operator : Operator) (parts : Option (List ℕ × List ℕ)) (specifier : SpecifierRecord) → before_version operator parts ≡ Ok specifier
-    → (both : List ℕ × List ℕ) × (parts ≡ Some both) × (beside_pattern operator both.1 both.0 (pattern_of both.0) ≡ Ok specifier)
+    → (both : List ℕ × List ℕ) × (parts ≡ Some both)
+    × (beside_pattern operator both.1 (pattern_reading both.0) ≡ Ok specifier)
 version_by operator None specifier h = absurd (cc)
 version_by operator (Some both) specifier h = (both, refl, h)
 
-operator_by : (left piece : List ℕ) (found : Option Operator) (specifier : SpecifierRecord) → beside_operator left piece found ≡ Ok specifier
-    → (operator : Operator) × (found ≡ Some operator) × (behind_operator operator left ≡ Ok specifier)
-operator_by left piece None specifier h = absurd (cc)
-operator_by left piece (Some operator) specifier h = (operator, refl, h)
+operator_by : (left : List ℕ) (read : Result Operator (List ℕ)) (specifier : SpecifierRecord)
+    → beside_operator left read ≡ Ok specifier
+    → (operator : Operator) × (read ≡ Ok operator) × (behind_operator operator left ≡ Ok specifier)
+operator_by left (Err text) specifier h = absurd (cc)
+operator_by left (Ok operator) specifier h = (operator, refl, h)
+
+-- a text that is read as an operator is one
+operator_is : (text : List ℕ) (found : Option Operator) (operator : Operator)
+    → operator_or_text text found ≡ Ok operator → found ≡ Some operator
+operator_is text None operator h = absurd (cc)
+operator_is text (Some one) operator h = cc
+
+pattern_is : (read : Result PatternRecord VersionFault) (pattern : PatternRecord)
+    → result_ok read ≡ Some pattern → read ≡ Ok pattern
+pattern_is (Ok one) pattern h = ap Ok (some_same one pattern h)
+pattern_is (Err fault) pattern h = absurd (cc)
 
 front_of_by : (parts : Option (List ℕ × List ℕ)) (specifier : SpecifierRecord) → before_operator parts ≡ Ok specifier
-    → (both : List ℕ × List ℕ) × (parts ≡ Some both) × (beside_operator both.1 both.0 (operator_of both.0) ≡ Ok specifier)
+    → (both : List ℕ × List ℕ) × (parts ≡ Some both)
+    × (beside_operator both.1 (operator_reading both.0) ≡ Ok specifier)
 front_of_by None specifier h = absurd (cc)
 front_of_by (Some both) specifier h = (both, refl, h)
 
-read_by : (read : Result SpecifierRecord SpecifierFault) (specifier : SpecifierRecord) → result_ok read ≡ Some specifier → read ≡ Ok specifier
+read_by : (read : Reading) (specifier : SpecifierRecord) → result_ok read ≡ Some specifier → read ≡ Ok specifier
 read_by (Ok one) specifier h = ap Ok (some_same one specifier h)
 read_by (Err fault) specifier h = absurd (cc)
 
 -- a text that is read is a specifier's
 pub specifier_found : PatternLaw → (text : List ℕ) (specifier : SpecifierRecord) → specifier_of text ≡ Some specifier → IsSpecifierText text specifier
-unfolding specifier_of read_specifier behind_operator
+unfolding specifier_of specifier_reading behind_operator
 specifier_found law text specifier h =
     let cs : List ℕ = chars text in
-    let read = read_by (read_specifier text) specifier h in
+    let read = read_by (specifier_reading text) specifier h in
     let a = front_of_by (front_in ends_operator (skip_leading_whitespace cs)) specifier read in
-    let b = operator_by a.0.1 a.0.0 (operator_of a.0.0) specifier a.2 in
+    let b = operator_by a.0.1 (operator_reading a.0.0) specifier a.2 in
     let d = version_by b.0 (front_in is_whitespace (skip_leading_whitespace a.0.1)) specifier b.2 in
-    let p = pattern_by b.0 d.0.1 d.0.0 (pattern_of d.0.0) specifier d.2 in
+    let p = pattern_by b.0 d.0.1 (pattern_reading d.0.0) specifier d.2 in
     let before = spaces_found cs in
     let f = front_found ends_operator (skip_leading_whitespace cs) a.0 a.1 in
     let between = spaces_found a.0.1 in
     let w = front_found is_whitespace (skip_leading_whitespace a.0.1) d.0 d.1 in
     let after = spaces_found d.0.1 in
-    let prints = operator_found a.0.0 b.0 b.1 in
+    let prints = operator_found a.0.0 b.0 (operator_is a.0.0 (operator_of a.0.0) b.0 b.1) in
     let op : f.front ≡ operator_text b.0 = own_encoding f.front (operator_text b.0) (f.encoded ∙ sym prints.1) (operator_text_ascii b.0) in
-    let is_pattern : IsPatternText d.0.0 p.0 = (law d.0.0 p.0).0 p.1 in
-    let written : w.front ≡ d.0.0 = own_encoding w.front d.0.0 w.encoded (pattern_ascii d.0.0 p.0 is_pattern) in
+    let is_text : IsPatternText d.0.0 p.0 = (law d.0.0 p.0).0 (is_pattern d.0.0 p.0 p.1) in
+    let written : w.front ≡ d.0.0 = own_encoding w.front d.0.0 w.encoded (pattern_ascii d.0.0 p.0 is_text) in
     let last : d.0.1 ≡ after.spaces = after.split ∙ ap (λ xs. after.spaces ++ xs) p.3 ∙ append-nil after.spaces in
     let P : List ℕ → Type 0 = λ xs. IsPatternText xs p.0 in
     record {
@@ -229,7 +255,7 @@ specifier_found law text specifier h =
       spaces_before = before.are_spaces;
       starless = prints.0;
       spaces_between = between.are_spaces;
-      is_pattern = subst P (sym written) is_pattern;
+      is_pattern = subst P (sym written) is_text;
       unspaced = w.passes;
       spaces_after = after.are_spaces;
       builds = p.2;
@@ -262,7 +288,7 @@ word_ends (c ∷ cs) h = h.0
 
 -- a specifier's text is read
 pub specifier_again : PatternLaw → (text : List ℕ) (specifier : SpecifierRecord) → IsSpecifierText text specifier → specifier_of text ≡ Some specifier
-unfolding specifier_of read_specifier behind_operator
+unfolding specifier_of specifier_reading behind_operator
 specifier_again law text specifier h =
     let op : List ℕ = operator_text h.operator in
     let later : List ℕ = h.written ++ h.after in
@@ -276,14 +302,18 @@ specifier_again law text specifier h =
     let second : skip_leading_whitespace (h.between ++ later) ≡ later = spaces_again h.between later h.spaces_between (starts_unspaced h.written h.after starts) in
     let word : front_in is_whitespace later ≡ Some (h.written, h.after) =
     front_again is_whitespace h.written h.after h.unspaced (word_ends h.after h.spaces_after) (starts_nonempty h.written starts) ∙ ap (λ xs. Some (xs, h.after)) own in
+    let read : pattern_reading h.written ≡ Ok h.pattern =
+    pattern_is (pattern_reading h.written) h.pattern
+    (sym (pattern_found h.written) ∙ (law h.written h.pattern).1 h.is_pattern) in
     let third : skip_leading_whitespace h.after ≡ [] =
     ap skip_leading_whitespace (sym (append-nil h.after)) ∙ spaces_again h.after [] h.spaces_after tt in
     ap (λ xs. result_ok (before_operator (front_in ends_operator xs))) first
     ∙ ap (λ parts. result_ok (before_operator parts)) cut
-    ∙ ap (λ found. result_ok (beside_operator (h.between ++ later) op found)) (operator_again op h.operator (h.starless, refl))
+    ∙ ap (λ found. result_ok (beside_operator (h.between ++ later) (operator_or_text op found)))
+    (operator_again op h.operator (h.starless, refl))
     ∙ ap (λ xs. result_ok (before_version h.operator (front_in is_whitespace xs))) second
     ∙ ap (λ parts. result_ok (before_version h.operator parts)) word
-    ∙ ap (λ found. result_ok (beside_pattern h.operator h.after h.written found)) ((law h.written h.pattern).1 h.is_pattern)
+    ∙ ap (λ read. result_ok (beside_pattern h.operator h.after read)) read
     ∙ ap (λ made. result_ok (built_before h.after made)) h.builds
     ∙ ap (λ xs. result_ok (ended xs specifier)) third
 

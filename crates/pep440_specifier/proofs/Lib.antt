@@ -1,5 +1,6 @@
 pub mod Fronts
 pub mod Grammar
-pub mod Operators
 pub mod PatternTexts
 pub mod NextMinor
+pub mod Said
+pub mod Told

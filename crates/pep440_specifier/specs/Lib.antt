@@ -1,3 +1,7 @@
+pub use Rattle.pep440_operator.specs.Operators
+pub use Rattle.pep440_operator.specs.OperatorPrint
+pub use Rattle.pep440_operator.specs.OperatorReading
+pub use Rattle.pep440_operator.specs.OperatorErrors
 pub mod Matching
 pub mod Building
 pub mod SpecifierPrint
@@ -5,5 +9,6 @@ pub mod SpecifierOrder
 pub mod SpecifierText
 pub mod SpecifierReading
 pub mod SpecifierHash
+pub mod SpecifierOrderLaws
 pub mod SpecifierErrorPrints
 pub mod Bounds

@@ -1,36 +1,10 @@
--- What operators and specifiers print (PEP 440, "Version specifiers").
-use Rattle.std.specs.Prelude.{ℕ, codes, List, [], ◌++◌}
+-- What specifiers print (PEP 440, "Version specifiers").
+use Rattle.std.specs.Prelude.{ℕ, List, ◌++◌}
 use Rattle.pep440_version.specs.Print.{version_text}
-use Rattle.pep440_specifier.specs.declared.operator.Operator.{Operator}
-use Rattle.pep440_specifier.specs.declared.operator.Operator.TheVariants.{Equal, EqualStar, ExactEqual, NotEqual, NotEqualStar, TildeEqual, LessThan, LessThanEqual, GreaterThan, GreaterThanEqual}
+use Rattle.pep440_operator.specs.OperatorPrint.{operator_text, star_text}
 use Rattle.pep440_specifier.specs.Matching.{SpecifierRecord}
-
--- an operator, without the star, which follows the version
-abbrev pub operator_text : Operator → List ℕ
-operator_text Equal = codes "=="
-operator_text EqualStar = codes "=="
-operator_text ExactEqual = codes "==="
-operator_text NotEqual = codes "!="
-operator_text NotEqualStar = codes "!="
-operator_text TildeEqual = codes "~="
-operator_text LessThan = codes "<"
-operator_text LessThanEqual = codes "<="
-operator_text GreaterThan = codes ">"
-operator_text GreaterThanEqual = codes ">="
-
--- what follows the version
-abbrev pub star_text : Operator → List ℕ
-star_text Equal = []
-star_text EqualStar = codes ".*"
-star_text ExactEqual = []
-star_text NotEqual = []
-star_text NotEqualStar = codes ".*"
-star_text TildeEqual = []
-star_text LessThan = []
-star_text LessThanEqual = []
-star_text GreaterThan = []
-star_text GreaterThanEqual = []
 
 -- the operator and the version, with no blank between them
 abbrev pub specifier_text : SpecifierRecord → List ℕ
-specifier_text specifier = operator_text specifier.operator ++ version_text specifier.version ++ star_text specifier.operator
+specifier_text specifier =
+    operator_text specifier.operator ++ version_text specifier.version ++ star_text specifier.operator

@@ -1,137 +1,107 @@
--- What is read of the text of a specifier, character by character from its front on: the specifier, or the first fault.
-use Rattle.std.specs.Prelude.{◌≡◌, ◌≢◌, ℕ, ◌==◌, ◌||◌, not, Bool, if◌then◌else◌, List, [], ◌∷◌, take, drop, codes, Option, Some, None, Result, Ok, Err, encode_utf8_all}
+-- What there is to read of the text of a specifier, character by character from its front on: the specifier, or
+-- its first fault with the texts in it.
+use Rattle.std.specs.Prelude.{◌≡◌, ◌≢◌, ℕ, ◌==◌, Bool, if◌then◌else◌, List, [], ◌∷◌, take, drop, Option}
+use Rattle.std.specs.Prelude.{Some, None, Result, Ok, Err, encode_utf8_all}
 use Rattle.std.specs.Char.{is_whitespace}
 use Rattle.std.specs.List.{before_first, position_or_len}
+use Rattle.std.specs.Option.{option_map}
 use Rattle.std.specs.Result.{result_ok}
-use Rattle.std.specs.Str.{chars, bytes_eq, skip_leading_whitespace}
+use Rattle.std.specs.Str.{chars, skip_leading_whitespace}
 use Rattle.std.specs.String.{string_bytes}
 use Rattle.pep440_version.specs.Record.{PatternRecord}
-use Rattle.pep440_version.specs.Reading.{pattern_of, read_pattern}
-use Rattle.pep440_version.specs.ParseErrors.{RefusesPattern}
-use Rattle.pep440_version.specs.declared.parse_error.VersionPatternParseError.TheVariants as patterns
-use Rattle.pep440_specifier.specs.declared.operator.Operator.{Operator}
-use Rattle.pep440_specifier.specs.declared.operator.Operator.TheVariants.{Equal, ExactEqual, NotEqual, TildeEqual, LessThan, LessThanEqual, GreaterThan, GreaterThanEqual}
-use Rattle.pep440_specifier.specs.declared.operator.OperatorParseError.{OperatorParseError}
-use Rattle.pep440_specifier.specs.declared.operator.OperatorParseError.TheVariants as operators
+use Rattle.pep440_version.specs.VersionReading.{VersionFault, NoLeadingNumber, pattern_reading, told_pattern}
+use Rattle.pep440_operator.specs.declared.operator.Operator.{Operator}
+use Rattle.pep440_operator.specs.OperatorReading.{ends_operator, operator_reading, told_operator}
 use Rattle.pep440_specifier.specs.declared.build_error.VersionSpecifierBuildError.{VersionSpecifierBuildError}
 use Rattle.pep440_specifier.specs.declared.parse_error.VersionSpecifierParseError.{VersionSpecifierParseError}
 use Rattle.pep440_specifier.specs.declared.parse_error.VersionSpecifierParseError.TheVariants as errors
 use Rattle.pep440_specifier.specs.Matching.{SpecifierRecord}
 use Rattle.pep440_specifier.specs.Building.{built_of_pattern}
 
--- ---- operators
-
--- the operator that a text is; the star follows the version and is no part of it
-unfoldable pub operator_of : List ℕ → Option Operator
-operator_of text =
-    if bytes_eq text (codes "==") then Some Equal
-    else (if bytes_eq text (codes "===") then Some ExactEqual
-    else (if bytes_eq text (codes "!=") then Some NotEqual
-    else (if bytes_eq text (codes "~=") then Some TildeEqual
-    else (if bytes_eq text (codes "<") then Some LessThan
-    else (if bytes_eq text (codes "<=") then Some LessThanEqual
-    else (if bytes_eq text (codes ">") then Some GreaterThan
-    else (if bytes_eq text (codes ">=") then Some GreaterThanEqual else None)))))))
-
--- an answer is the operator that a text is; only want of memory leaves open whether there is one
-abbrev pub ReadsOperator : List ℕ → Result Operator OperatorParseError → Type 0
-ReadsOperator text (Ok operator) = operator_of text ≡ Some operator
-ReadsOperator text (Err operators.Memory) = Unit {0}
-ReadsOperator text (Err (operators.Unknown given)) = (operator_of text ≡ None) × (string_bytes given ≡ text)
-
 -- ---- pieces
-
--- a character of which no operator is made
-abbrev pub ends_operator : ℕ → Bool
-ends_operator c = not (c == 61 || (c == 60 || (c == 62 || (c == 126 || c == 33))))
 
 -- the text before a place, and the characters from there on; nothing where that is the start
 abbrev pub cut_at : List ℕ → ℕ → Option (List ℕ × List ℕ)
 cut_at text end = if end == 0 then None else Some (take end text, chars (drop end text))
 
--- the text before the first character that passes a test, and the characters from it on; nothing where the first passes
+-- the text before the first character that passes a test, and the characters from it on; nothing where the first
+-- passes
 abbrev pub front_in : (ℕ → Bool) → List ℕ → Option (List ℕ × List ℕ)
 front_in test cs =
-    if position_or_len test cs == 0 then None else Some (encode_utf8_all (before_first test cs), drop (position_or_len test cs) cs)
+    if position_or_len test cs == 0 then None
+    else Some (encode_utf8_all (before_first test cs), drop (position_or_len test cs) cs)
 
 -- ---- the whole
 
--- the first fault of a text
+-- why a text is no specifier; where its operator or its version is none, why that is
 pub data SpecifierFault : Type 0 where
   MissingOperator : SpecifierFault
   InvalidOperator : List ℕ → SpecifierFault
   MissingVersion : SpecifierFault
-  InvalidVersion : List ℕ → SpecifierFault
+  InvalidVersion : VersionFault → SpecifierFault
   InvalidSpecifier : VersionSpecifierBuildError → SpecifierFault
   InvalidTrailing : List ℕ → SpecifierFault
 
--- nothing may be left
-abbrev pub ended : List ℕ → SpecifierRecord → Result SpecifierRecord SpecifierFault
-ended [] specifier = Ok specifier
-ended (c ∷ cs) specifier = Err (InvalidTrailing (c ∷ cs))
+-- the specifier of a text, or its first fault
+abbrev pub Reading : Type 0
+Reading = Result SpecifierRecord SpecifierFault
 
-abbrev pub built_before : List ℕ → Result SpecifierRecord VersionSpecifierBuildError → Result SpecifierRecord SpecifierFault
+-- nothing may be left
+abbrev pub ended : List ℕ → SpecifierRecord → Reading
+ended [] specifier = Ok specifier
+ended (c ∷ cs) specifier = Err (InvalidTrailing (encode_utf8_all (c ∷ cs)))
+
+abbrev pub built_before : List ℕ → Result SpecifierRecord VersionSpecifierBuildError → Reading
 built_before left (Ok specifier) = ended (skip_leading_whitespace left) specifier
 built_before left (Err error) = Err (InvalidSpecifier error)
 
 -- what a pattern's text says beside an operator
-abbrev pub beside_pattern : Operator → List ℕ → List ℕ → Option PatternRecord → Result SpecifierRecord SpecifierFault
-beside_pattern operator left piece None = Err (InvalidVersion piece)
-beside_pattern operator left piece (Some pattern) = built_before left (built_of_pattern operator pattern)
+abbrev pub beside_pattern : Operator → List ℕ → Result PatternRecord VersionFault → Reading
+beside_pattern operator left (Ok pattern) = built_before left (built_of_pattern operator pattern)
+beside_pattern operator left (Err fault) = Err (InvalidVersion fault)
 
-abbrev pub before_version : Operator → Option (List ℕ × List ℕ) → Result SpecifierRecord SpecifierFault
+abbrev pub before_version : Operator → Option (List ℕ × List ℕ) → Reading
 before_version operator None = Err MissingVersion
-before_version operator (Some parts) = beside_pattern operator parts.1 parts.0 (pattern_of parts.0)
+before_version operator (Some parts) = beside_pattern operator parts.1 (pattern_reading parts.0)
 
 -- what follows an operator
-unfoldable pub behind_operator : Operator → List ℕ → Result SpecifierRecord SpecifierFault
+unfoldable pub behind_operator : Operator → List ℕ → Reading
 behind_operator operator cs = before_version operator (front_in is_whitespace (skip_leading_whitespace cs))
 
-abbrev pub beside_operator : List ℕ → List ℕ → Option Operator → Result SpecifierRecord SpecifierFault
-beside_operator left piece None = Err (InvalidOperator piece)
-beside_operator left piece (Some operator) = behind_operator operator left
+abbrev pub beside_operator : List ℕ → Result Operator (List ℕ) → Reading
+beside_operator left (Ok operator) = behind_operator operator left
+beside_operator left (Err text) = Err (InvalidOperator text)
 
-abbrev pub before_operator : Option (List ℕ × List ℕ) → Result SpecifierRecord SpecifierFault
+abbrev pub before_operator : Option (List ℕ × List ℕ) → Reading
 before_operator None = Err MissingOperator
-before_operator (Some parts) = beside_operator parts.1 parts.0 (operator_of parts.0)
+before_operator (Some parts) = beside_operator parts.1 (operator_reading parts.0)
 
 -- the specifier of a text, or its first fault: white space, an operator, white space, a pattern, white space
-unfoldable pub read_specifier : List ℕ → Result SpecifierRecord SpecifierFault
-read_specifier text = before_operator (front_in ends_operator (skip_leading_whitespace (chars text)))
+unfoldable pub specifier_reading : List ℕ → Reading
+specifier_reading text = before_operator (front_in ends_operator (skip_leading_whitespace (chars text)))
 
 -- the specifier that a text is
 unfoldable pub specifier_of : List ℕ → Option SpecifierRecord
-specifier_of text = result_ok (read_specifier text)
+specifier_of text = result_ok (specifier_reading text)
 
--- ---- what is answered
+-- ---- errors
 
--- an error names the fault with which reading ends; want of memory says nothing and is never inside another error
-abbrev pub RefusesSpecifier : VersionSpecifierParseError → Result SpecifierRecord SpecifierFault → Type 0
-RefusesSpecifier errors.Memory read = Unit {0}
-RefusesSpecifier errors.MissingOperator read = read ≡ Err MissingOperator
-RefusesSpecifier (errors.InvalidOperator operators.Memory) read = ⊥
-RefusesSpecifier (errors.InvalidOperator (operators.Unknown text)) read = read ≡ Err (InvalidOperator (string_bytes text))
-RefusesSpecifier errors.MissingVersion read = read ≡ Err MissingVersion
-RefusesSpecifier (errors.InvalidVersion error) read = (piece : List ℕ) × (read ≡ Err (InvalidVersion piece)) × (error ≢ patterns.Memory) × RefusesPattern error (read_pattern piece)
-RefusesSpecifier (errors.InvalidSpecifier error) read = read ≡ Err (InvalidSpecifier error)
-RefusesSpecifier (errors.InvalidTrailing text) read = read ≡ Err (InvalidTrailing (chars (string_bytes text)))
+-- the fault that an error tells; want of memory tells none
+abbrev pub told_specifier : VersionSpecifierParseError → Option SpecifierFault
+told_specifier errors.Memory = None
+told_specifier errors.MissingOperator = Some MissingOperator
+told_specifier (errors.InvalidOperator error) = option_map InvalidOperator (told_operator error)
+told_specifier errors.MissingVersion = Some MissingVersion
+told_specifier (errors.InvalidVersion error) = option_map InvalidVersion (told_pattern error)
+told_specifier (errors.InvalidSpecifier error) = Some (InvalidSpecifier error)
+told_specifier (errors.InvalidTrailing text) = Some (InvalidTrailing (string_bytes text))
 
--- an answer is what reading gives
-abbrev pub AnswersSpecifier : Result SpecifierRecord VersionSpecifierParseError → Result SpecifierRecord SpecifierFault → Type 0
-AnswersSpecifier (Ok specifier) read = read ≡ Ok specifier
-AnswersSpecifier (Err error) read = RefusesSpecifier error read
+-- an error that tells no fault is want of memory itself, which is never inside another error
+abbrev pub IsPlain : VersionSpecifierParseError → Type 0
+IsPlain error = told_specifier error ≡ None → error ≡ errors.Memory
 
--- an error but want of memory says that there is no specifier
-abbrev pub LacksSpecifier : VersionSpecifierParseError → Option SpecifierRecord → Type 0
-LacksSpecifier errors.Memory found = Unit {0}
-LacksSpecifier errors.MissingOperator found = found ≡ None
-LacksSpecifier (errors.InvalidOperator error) found = found ≡ None
-LacksSpecifier errors.MissingVersion found = found ≡ None
-LacksSpecifier (errors.InvalidVersion error) found = found ≡ None
-LacksSpecifier (errors.InvalidSpecifier error) found = found ≡ None
-LacksSpecifier (errors.InvalidTrailing text) found = found ≡ None
-
--- an answer is the specifier that a text is; only want of memory leaves open whether there is one
-abbrev pub ReadsSpecifier : Result SpecifierRecord VersionSpecifierParseError → Option SpecifierRecord → Type 0
-ReadsSpecifier (Ok specifier) found = found ≡ Some specifier
-ReadsSpecifier (Err error) found = LacksSpecifier error found
+-- memory is taken for what is read: not before an operator, a version and its first number are there
+abbrev pub HasGrown : Reading → Type 0
+HasGrown reading =
+    (reading ≢ Err MissingOperator) × (reading ≢ Err MissingVersion)
+    × (reading ≢ Err (InvalidVersion NoLeadingNumber))

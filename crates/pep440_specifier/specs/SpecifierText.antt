@@ -1,14 +1,16 @@
--- The text of a specifier: an operator and a pattern, with white space around each (PEP 440, "Version specifiers").
+-- The text of a specifier: an operator and a pattern, with white space around each
+-- (PEP 440, "Version specifiers").
 use Rattle.std.specs.Prelude.{◌≡◌, ℕ, false, List, ◌++◌, IsTrue, Ok}
 use Rattle.std.specs.Char.{is_whitespace}
 use Rattle.std.specs.List.{AllByRecursion}
 use Rattle.std.specs.Str.{chars}
 use Rattle.pep440_version.specs.Record.{PatternRecord}
 use Rattle.pep440_version.specs.Text.{IsPatternText}
-use Rattle.pep440_specifier.specs.declared.operator.Operator.{Operator}
+use Rattle.pep440_operator.specs.declared.operator.Operator.{Operator}
 use Rattle.pep440_specifier.specs.Matching.{SpecifierRecord}
-use Rattle.pep440_specifier.specs.Building.{is_star, built_of_pattern}
-use Rattle.pep440_specifier.specs.SpecifierPrint.{operator_text}
+use Rattle.pep440_operator.specs.Operators.{is_star}
+use Rattle.pep440_specifier.specs.Building.{built_of_pattern}
+use Rattle.pep440_operator.specs.OperatorPrint.{operator_text}
 
 -- white space, of any script
 abbrev pub AreSpaces : List ℕ → Type 0

@@ -7,7 +7,6 @@ mod bounds;
 mod build_error;
 pub mod laws;
 mod matching;
-mod operator;
 mod ordering;
 mod parse_error;
 mod reading;
@@ -16,11 +15,6 @@ mod value;
 
 pub use bounds::{BoundError, is_next_minor};
 pub use build_error::VersionSpecifierBuildError;
-pub use operator::{Operator, OperatorParseError};
 pub use parse_error::VersionSpecifierParseError;
+pub use pep440_operator::{Operator, OperatorParseError};
 pub use specifier::VersionSpecifier;
-
-#[cfg(test)]
-mod bounds_tests;
-#[cfg(test)]
-mod tests;

@@ -1,11 +1,18 @@
 //! The reading of specifiers.
 
-ghost use Rattle.std.specs.Prelude.{◌≡◌, false, Err};
+ghost use Rattle.std.specs.Prelude.{◌≡◌, false, IfErr, Err};
 ghost use Rattle.std.specs.Char.{is_whitespace};
 ghost use Rattle.std.specs.Option.{option_map};
 ghost use Rattle.std.specs.Str.{chars, skip_leading_whitespace, IsCharBoundary};
-ghost use Rattle.pep440_specifier.specs.Building.{is_star, built_of_pattern};
-ghost use Rattle.pep440_specifier.specs.SpecifierReading.{cut_at, ends_operator, front_in, InvalidTrailing, built_before, behind_operator, read_specifier, AnswersSpecifier, RefusesSpecifier};
+ghost use Rattle.read_outcome.specs.Outcome.{Answers, Tells};
+ghost use Rattle.pep440_operator.specs.OperatorReading.{ends_operator};
+ghost use Rattle.pep440_operator.specs.Operators.{is_star};
+ghost use Rattle.pep440_specifier.specs.declared.parse_error.VersionSpecifierParseError.TheVariants as errors;
+ghost use Rattle.pep440_specifier.specs.Matching.{SpecifierRecord};
+ghost use Rattle.pep440_specifier.specs.Building.{built_of_pattern};
+ghost use Rattle.pep440_specifier.specs.SpecifierReading.{cut_at, front_in, SpecifierFault, InvalidTrailing};
+ghost use Rattle.pep440_specifier.specs.SpecifierReading.{built_before, behind_operator, specifier_reading};
+ghost use Rattle.pep440_specifier.specs.SpecifierReading.{told_specifier, IsPlain, HasGrown};
 
 use crate::{Operator, OperatorParseError, VersionSpecifier, VersionSpecifierParseError};
 use pep440_version::{VersionPattern, VersionPatternParseError};
@@ -38,7 +45,8 @@ fn cut_at(text: &str, end: usize) -> Option<(&str, &str)>
 
 /// The characters of an operator at the front, and what follows them.
 fn split_operator(text: &str) -> Option<(&str, &str)>
-    ensures { option_map (λ parts. (parts.0.now, chars parts.1.now)) result ≡ front_in ends_operator (chars text.now) }
+    ensures { option_map (λ parts. (parts.0.now, chars parts.1.now)) result
+        ≡ front_in ends_operator (chars text.now) }
 {
     match text.find(|c: char| ends_operator(c)) {
         Some(end) => cut_at(text, end),
@@ -48,7 +56,8 @@ fn split_operator(text: &str) -> Option<(&str, &str)>
 
 /// The text before the first white space, and that white space with what follows it.
 fn split_word(text: &str) -> Option<(&str, &str)>
-    ensures { option_map (λ parts. (parts.0.now, chars parts.1.now)) result ≡ front_in is_whitespace (chars text.now) }
+    ensures { option_map (λ parts. (parts.0.now, chars parts.1.now)) result
+        ≡ front_in is_whitespace (chars text.now) }
 {
     match text.find(|c: char| c.is_whitespace()) {
         Some(end) => cut_at(text, end),
@@ -58,7 +67,8 @@ fn split_word(text: &str) -> Option<(&str, &str)>
 
 /// The error of a text that stands behind the whole.
 fn trailing(alloc: Global, text: &str) -> VersionSpecifierParseError
-    ensures { RefusesSpecifier result (Err (InvalidTrailing (chars text.now))) }
+    ensures told { Tells {Y = SpecifierRecord} (told_specifier result) (Err (InvalidTrailing text.now)) }
+    ensures plain { IsPlain result }
 {
     match String::from_str(alloc, text) {
         Ok(text) => VersionSpecifierParseError::InvalidTrailing(text),
@@ -74,7 +84,9 @@ fn build(
     left: &str,
 ) -> Result<VersionSpecifier, VersionSpecifierParseError>
     requires { is_star operator ≡ false }
-    ensures { AnswersSpecifier result (built_before (chars left.now) (built_of_pattern operator pattern)) }
+    ensures answered { Answers (λ specifier. specifier) told_specifier result
+        (built_before (chars left.now) (built_of_pattern operator pattern)) }
+    ensures plain { IfErr result IsPlain }
 {
     let specifier = match VersionSpecifier::from_pattern(operator, pattern) {
         Ok(specifier) => specifier,
@@ -95,7 +107,10 @@ fn read_behind_operator(
     text: &str,
 ) -> Result<VersionSpecifier, VersionSpecifierParseError>
     requires { is_star operator ≡ false }
-    ensures { AnswersSpecifier result (behind_operator operator (chars text.now)) }
+    ensures answered { Answers (λ specifier. specifier) told_specifier result
+        (behind_operator operator (chars text.now)) }
+    ensures plain { IfErr result IsPlain }
+    ensures grown { result ≡ Err errors.Memory → HasGrown (behind_operator operator (chars text.now)) }
 {
     let Some((piece, left)) = split_word(skip_white(text)) else {
         return Err(VersionSpecifierParseError::MissingVersion);
@@ -108,12 +123,14 @@ fn read_behind_operator(
 }
 
 /// The specifier that a text is, or its first fault.
-#[tactic(auto, unfolding(crate::specs::SpecifierReading::read_specifier))]
+#[tactic(auto, unfolding(crate::specs::SpecifierReading::specifier_reading))]
 pub(crate) fn read_specifier(
     alloc: Global,
     text: &str,
 ) -> Result<VersionSpecifier, VersionSpecifierParseError>
-    ensures { AnswersSpecifier result (read_specifier text.now) }
+    ensures answered { Answers (λ specifier. specifier) told_specifier result (specifier_reading text.now) }
+    ensures plain { IfErr result IsPlain }
+    ensures grown { result ≡ Err errors.Memory → HasGrown (specifier_reading text.now) }
 {
     let Some((piece, left)) = split_operator(skip_white(text)) else {
         return Err(VersionSpecifierParseError::MissingOperator);

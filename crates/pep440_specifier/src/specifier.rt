@@ -1,12 +1,15 @@
 //! Specifiers.
 
 ghost use Rattle.std.specs.Prelude.{◌≡◌, [], true, IfOk, IfErr, Some};
-ghost use Rattle.pep440_version.specs.Record.{VersionRecord};
 ghost use Rattle.pep440_version.specs.Changes.{is_prerelease};
 ghost use Rattle.pep440_specifier.specs.Matching.{SpecifierRecord};
-ghost use Rattle.pep440_specifier.specs.Building.{IsBuilt, IsStarVersion, is_star, bounds_below, takes_local, built, built_of_pattern};
+ghost use Rattle.pep440_operator.specs.Operators.{is_star, bounds_below, takes_local};
+ghost use Rattle.pep440_specifier.specs.Building.{IsBuilt, IsStarVersion, built, built_of_pattern};
 ghost use Rattle.pep440_specifier.specs.SpecifierPrint.{specifier_text};
-ghost use Rattle.pep440_specifier.specs.SpecifierReading.{ReadsSpecifier, RefusesSpecifier, read_specifier, specifier_of};
+ghost use Rattle.pep440_specifier.specs.declared.parse_error.VersionSpecifierParseError.TheVariants as errors;
+ghost use Rattle.pep440_specifier.specs.SpecifierReading.{specifier_reading, told_specifier, IsPlain};
+ghost use Rattle.pep440_specifier.specs.SpecifierReading.{HasGrown};
+ghost use Rattle.read_outcome.specs.Outcome.{Answers};
 
 use crate::reading::read_specifier;
 use crate::{Operator, VersionSpecifierBuildError, VersionSpecifierParseError};
@@ -161,15 +164,17 @@ impl VersionSpecifier {
 
     /// Reads an operator and a version behind it, as `>= 1.2` or `==1.2.*`, with white space around each.
     ///
-    /// Linear in the text; takes memory for the version, and for the text of an error. The error names the first fault
-    /// from the left, and is `Memory` wherever memory runs out.
-    #[tactic(auto, using(crate::proofs::Fronts::answer_reads), unfolding(crate::specs::SpecifierReading::specifier_of))]
+    /// Linear in the text; takes memory for the version, and for the texts of an error, and none before an operator and a
+    /// first number were read. The error names the first fault from the left, and is `Memory` itself where memory runs
+    /// out.
     pub fn from_str(
         alloc: Global,
         text: &str,
     ) -> Result<VersionSpecifier, VersionSpecifierParseError>
-        ensures specifier { ReadsSpecifier result (specifier_of text.now) }
-        ensures fault { IfErr result (λ fault. RefusesSpecifier fault (read_specifier text.now)) }
+        ensures answered { Answers (λ specifier. specifier) told_specifier result
+            (specifier_reading text.now) }
+        ensures plain { IfErr result IsPlain }
+        ensures grown { result ≡ Err errors.Memory → HasGrown (specifier_reading text.now) }
     {
         read_specifier(alloc, text)
     }
@@ -204,7 +209,9 @@ impl VersionSpecifier {
         self.version.any_prerelease()
     }
 
-    /// Whether it takes no version below its own: so for `==`, `===`, `~=`, `>` and `>=`.
+    /// Whether its version says where the versions that it takes begin: so for `==`, `===`, `~=`, `>` and `>=`.
+    ///
+    /// With a star they begin below that version: `==1.2.*` takes `1.2.dev0`.
     pub fn has_lower_bound(&self) -> bool
         ensures { result ≡ bounds_below self.now.operator }
     {

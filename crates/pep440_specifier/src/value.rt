@@ -1,11 +1,13 @@
 //! Specifiers as JSON values.
 
-ghost use Rattle.std.specs.Prelude.{◌≡◌, IfOk, IfErr, Some};
+ghost use Rattle.std.specs.Prelude.{◌≡◌, IfOk, IfErr, Some, Err};
 ghost use Rattle.serde_json.specs.View.{view};
 ghost use Rattle.serde_json.specs.Find.{as_str};
-ghost use Rattle.pep440_version.specs.Values.{ReadsText};
+ghost use Rattle.read_outcome.specs.Outcome.{Answers, ReadsText};
+ghost use Rattle.pep440_specifier.specs.declared.parse_error.VersionSpecifierParseError.TheVariants as errors;
 ghost use Rattle.pep440_specifier.specs.SpecifierPrint.{specifier_text};
-ghost use Rattle.pep440_specifier.specs.SpecifierReading.{ReadsSpecifier, RefusesSpecifier, read_specifier, specifier_of};
+ghost use Rattle.pep440_specifier.specs.SpecifierReading.{specifier_reading, told_specifier, IsPlain};
+ghost use Rattle.pep440_specifier.specs.SpecifierReading.{HasGrown};
 
 use crate::{VersionSpecifier, VersionSpecifierParseError};
 use pep440_version::FromValueError;
@@ -25,12 +27,19 @@ impl VersionSpecifier {
         alloc: Global,
         value: &Value,
     ) -> Result<VersionSpecifier, FromValueError<VersionSpecifierParseError>>
-        ensures specifier { ReadsText (λ text read. ReadsSpecifier read (specifier_of text)) (as_str (view value.now)) result }
-        ensures fault { ReadsText (λ text read. IfErr read (λ fault. RefusesSpecifier fault (read_specifier text))) (as_str (view value.now)) result }
+        ensures answered { ReadsText
+            (λ text read. Answers (λ specifier. specifier) told_specifier read (specifier_reading text))
+            (as_str (view value.now)) result }
+        ensures plain { ReadsText (λ text read. IfErr read IsPlain) (as_str (view value.now)) result }
+        ensures grown { ReadsText (λ text read. read ≡ Err errors.Memory → HasGrown (specifier_reading text))
+            (as_str (view value.now)) result }
     {
         let Some(text) = value.as_str() else {
             return Err(FromValueError::Shape);
         };
-        VersionSpecifier::from_str(alloc, text).map_err(FromValueError::Text)
+        match VersionSpecifier::from_str(alloc, text) {
+            Ok(specifier) => Ok(specifier),
+            Err(error) => Err(FromValueError::Text(error)),
+        }
     }
 }

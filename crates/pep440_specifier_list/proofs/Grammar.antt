@@ -1,5 +1,7 @@
 -- What is read is the text of a list, and the text of a list is read.
-use Rattle.std.proofs.Common.{◌≡◌, ◌≢◌, ℕ, suc, ◌+◌, ◌<◌, ◌==◌, ◌↔◌, ◌&&◌, not, cond, Bool, true, false, List, [], ◌∷◌, ◌++◌, length, get_or, take, drop, All, Some, inl, inr, refl, ap, sym, subst, ◌∙◌, length-append, arith, lit<}
+use Rattle.std.proofs.Common.{◌≡◌, ◌≢◌, ℕ, suc, ◌+◌, ◌<◌, ◌==◌, ◌↔◌, ◌&&◌, not, cond, Bool, true, false}
+use Rattle.std.proofs.Common.{List, [], ◌∷◌, ◌++◌, length, get_or, take, drop, All, Some, inl, inr, refl, ap}
+use Rattle.std.proofs.Common.{sym, subst, ◌∙◌, length-append, arith, lit<}
 use Rattle.std.proofs.lemmas.Bool.Decides.{nat_tests}
 use Rattle.std.proofs.lemmas.List.{get_or_default}
 use Rattle.std.proofs.lemmas.List.Splits.{slice_split_none, slice_split_at, join_with_byte-slice_split}
@@ -11,17 +13,18 @@ use Rattle.std.specs.List.{AllZip, AllByRecursion, join_with_byte, filter}
 use Rattle.std.specs.List.Sorted.{ties}
 use Rattle.std.specs.Str.{IsUtf8, IsCharBoundary, chars}
 use Rattle.pep440_version.specs.Order.{version_cmp, version_cmp_total}
-use Rattle.pep440_specifier.specs.declared.operator.Operator.{Operator}
-use Rattle.pep440_specifier.specs.declared.operator.Operator.TheVariants as operators
+use Rattle.pep440_operator.specs.declared.operator.Operator.{Operator}
+use Rattle.pep440_operator.specs.declared.operator.Operator.TheVariants as operators
 use Rattle.pep440_specifier.specs.Matching.{SpecifierRecord}
-use Rattle.pep440_specifier.specs.SpecifierPrint.{operator_text}
+use Rattle.pep440_operator.specs.OperatorPrint.{operator_text}
 use Rattle.pep440_specifier.specs.SpecifierText.{IsSpecifierText}
 use Rattle.pep440_specifier.specs.SpecifierReading.{specifier_of}
 use Rattle.pep440_specifier_list.specs.Lists.{IsInOrder}
 use Rattle.pep440_specifier_list.specs.ListText.{IsSpecifierListText}
-use Rattle.pep440_specifier_list.specs.ListReading.{all_read, pieces_of, specifiers_of}
+use Rattle.pep440_specifier_list.specs.ListReading.{pieces_of, specifiers_of}
 use Rattle.pep440_specifier_list.proofs.Commas.{NoComma, specifier}
-use Rattle.pep440_specifier_list.proofs.Pieces.{first_and_others, with_both, some_piece}
+use Rattle.pep440_specifier_list.proofs.Pieces.{all_read, first_and_others, with_both, some_piece}
+use Rattle.pep440_specifier_list.proofs.Places.{front_of, before_comma, behind_comma}
 use Rattle.pep440_specifier_list.proofs.Whole.{nil_when, whole, nothing_read, nothing_in_order}
 
 -- a text is read as a specifier exactly where it is the text of that specifier
@@ -30,35 +33,14 @@ SpecifierLaw = (text : List ℕ) (specifier : SpecifierRecord) → IsUtf8 text �
 
 -- ---- pieces of a text
 
-front_of : (xs ys : List ℕ) → take (length xs) (xs ++ ys) ≡ xs
-front_of [] ys = refl
-front_of (x ∷ xs) ys = ap (λ zs. x ∷ zs) (front_of xs ys)
-
-rest_of : (xs ys : List ℕ) → drop (length xs) (xs ++ ys) ≡ ys
-rest_of [] ys = refl
-rest_of (x ∷ xs) ys = rest_of xs ys
-
-behind_one : (xs : List ℕ) (y : ℕ) (ys : List ℕ) → drop (length xs + 1) (xs ++ y ∷ ys) ≡ ys
-behind_one [] y ys = refl
-behind_one (x ∷ xs) y ys = (let e : length (x ∷ xs) + 1 ≡ suc (length xs + 1) = omega arith in ap (λ n. drop n (x ∷ (xs ++ y ∷ ys))) e ∙ behind_one xs y ys)
-
-at_comma : (xs ys : List ℕ) → get_or (xs ++ 44 ∷ ys) (length xs) 0 ≡ 44
-at_comma [] ys = refl
-at_comma (x ∷ xs) ys = at_comma xs ys
-
 -- pieces of a text are texts
 pub utf8_pieces : (pieces : List (List ℕ)) → IsUtf8 (join_with_byte 44 pieces) → AllByRecursion IsUtf8 pieces
 utf8_pieces [] u = tt
 utf8_pieces (p ∷ []) u = (u, tt)
 utf8_pieces (p ∷ q ∷ ps) u =
-    let rest = join_with_byte 44 (q ∷ ps) in
-    let text = p ++ 44 ∷ rest in
-    let comma = at_comma p rest in
-    let long = length-append p (44 ∷ rest) in
-    let edge : IsCharBoundary text (length p) = (omega (arith, long), λ within high. absurd (omega (arith, comma, high))) in
-    let behind = IsCharBoundary-after_ascii text (length p) u (omega (arith, long)) (omega (arith, comma)) in (
-      subst IsUtf8 (front_of p (44 ∷ rest)) (IsUtf8-take text (length p) u edge),
-      utf8_pieces (q ∷ ps) (subst IsUtf8 (behind_one p 44 rest) (IsUtf8-drop text (length p + 1) u behind)),
+    let rest = join_with_byte 44 (q ∷ ps) in (
+      subst IsUtf8 (front_of p (44 ∷ rest)) (IsUtf8-take (p ++ 44 ∷ rest) (length p) u (before_comma p rest)),
+      utf8_pieces (q ∷ ps) (behind_comma p rest u),
     )
 
 other : (c : ℕ) → c ≢ 44 → (c == 44) ≡ false
@@ -81,18 +63,18 @@ split_joined (p ∷ q ∷ ps) (m ∷ ms) some u h =
 -- ---- members
 
 module _ (law : SpecifierLaw) where
-  found_pieces : (pieces : List (List ℕ)) (given : List SpecifierRecord) → AllByRecursion IsUtf8 pieces → all_read specifier_of pieces ≡ Some given → AllZip IsSpecifierText pieces given
+  found_pieces : (pieces : List (List ℕ)) (given : List SpecifierRecord) → AllByRecursion IsUtf8 pieces → all_read pieces ≡ Some given → AllZip IsSpecifierText pieces given
   found_pieces [] [] u h = tt
   found_pieces [] (m ∷ ms) u h = absurd (cc)
   found_pieces (p ∷ ps) given u h =
-      let are = first_and_others (specifier_of p) (all_read specifier_of ps) given h in
+      let are = first_and_others (specifier_of p) (all_read ps) given h in
       subst (AllZip IsSpecifierText (p ∷ ps)) (sym are.members_are) ((law p are.member u.0).0 are.first_is, found_pieces ps are.more u.1 are.others_are)
 
-  again_pieces : (pieces : List (List ℕ)) (given : List SpecifierRecord) → AllByRecursion IsUtf8 pieces → AllZip IsSpecifierText pieces given → all_read specifier_of pieces ≡ Some given
+  again_pieces : (pieces : List (List ℕ)) (given : List SpecifierRecord) → AllByRecursion IsUtf8 pieces → AllZip IsSpecifierText pieces given → all_read pieces ≡ Some given
   again_pieces [] [] u h = refl
   again_pieces [] (m ∷ ms) u h = absurd h
   again_pieces (p ∷ ps) [] u h = absurd h
-  again_pieces (p ∷ ps) (m ∷ ms) u h = with_both (specifier_of p) (all_read specifier_of ps) m ms ((law p m u.0).1 h.0) (again_pieces ps ms u.1 h.1)
+  again_pieces (p ∷ ps) (m ∷ ms) u h = with_both (specifier_of p) (all_read ps) m ms ((law p m u.0).1 h.0) (again_pieces ps ms u.1 h.1)
 
 -- ---- no text is empty
 
@@ -176,7 +158,7 @@ again_by law text members u (inr h) =
     let texts = utf8_pieces are.pieces (subst IsUtf8 are.joined u) in
     let cut : pieces_of text ≡ are.pieces = ap pieces_of are.joined ∙ split_joined are.pieces h.0 are.nonempty texts are.are_specifiers in
     let some : (length text == 0) ≡ false = ap (λ t. length t == 0) are.joined ∙ some_joined are.pieces h.0 are.nonempty are.are_specifiers in
-    (h.0, whole text some ∙ ap (all_read specifier_of) cut ∙ again_pieces law are.pieces h.0 texts are.are_specifiers, h.2)
+    (h.0, whole text some ∙ ap all_read cut ∙ again_pieces law are.pieces h.0 texts are.are_specifiers, h.2)
 
 pub list_law : (law : SpecifierLaw) (text : List ℕ) (members : List SpecifierRecord) → IsUtf8 text
     → ((given : List SpecifierRecord) × (specifiers_of text ≡ Some given) × IsInOrder given members) ↔ IsSpecifierListText text members

@@ -5,3 +5,5 @@ pub mod Whole
 pub mod Commas
 pub mod Grammar
 pub mod ListBounds
+pub mod Places
+pub mod Members

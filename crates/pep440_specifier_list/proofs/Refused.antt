@@ -1,12 +1,17 @@
 -- Where asking stops.
-use Rattle.std.proofs.Common.{◌≡◌, ◌≢◌, ℕ, suc, ◌+◌, ◌<◌, ◌&&◌, true, false, cond, List, ◌∷◌, ◌++◌, length, take, drop, get_or, All, IsTrue, refl, sym, ap, ◌∙◌, arith, add-one, drop-cons}
+use Rattle.std.proofs.Common.{◌≡◌, ◌≢◌, ℕ, suc, ◌+◌, ◌<◌, ◌&&◌, true, false, if◌then◌else◌, List, ◌∷◌, ◌++◌}
+use Rattle.std.proofs.Common.{length, take, drop, get_or, All, IsTrue, refl, sym, ap, ◌∙◌, arith, add-one}
+use Rattle.std.proofs.Common.{drop-cons}
 use Rattle.std.proofs.lemmas.List.{take-append-drop, length-take}
 use Rattle.std.proofs.lemmas.List.Elements.{All-more}
 use Rattle.pep440_version.specs.Record.{VersionRecord}
-use Rattle.pep440_specifier.specs.declared.operator.Operator.{Operator}
-use Rattle.pep440_specifier.specs.declared.operator.Operator.TheVariants.{Equal, EqualStar, ExactEqual, NotEqual, NotEqualStar, TildeEqual, LessThan, LessThanEqual, GreaterThan, GreaterThanEqual}
-use Rattle.pep440_specifier.specs.Matching.{SpecifierRecord}
-use Rattle.pep440_specifier_list.specs.Lists.{takes, matches_all, asked}
+use Rattle.pep440_operator.specs.declared.operator.Operator.{Operator}
+use Rattle.pep440_operator.specs.declared.operator.Operator.TheVariants.{Equal, EqualStar, ExactEqual}
+use Rattle.pep440_operator.specs.declared.operator.Operator.TheVariants.{NotEqual, NotEqualStar, TildeEqual}
+use Rattle.pep440_operator.specs.declared.operator.Operator.TheVariants.{LessThan, LessThanEqual}
+use Rattle.pep440_operator.specs.declared.operator.Operator.TheVariants.{GreaterThan, GreaterThanEqual}
+use Rattle.pep440_specifier.specs.Matching.{SpecifierRecord, takes}
+use Rattle.pep440_specifier_list.specs.Lists.{matches_all, asked}
 use Rattle.pep440_specifier_list.specs.Refusals.{IsRefusal}
 
 -- an operator that can't be another one is `===`
@@ -34,7 +39,7 @@ all_left members candidate i member h e t =
 asked_left : (members : List SpecifierRecord) (candidate : VersionRecord) (i : ℕ) (member : SpecifierRecord) → i < length members → member ≡ get_or members i member → takes candidate member ≡ true
     → asked (drop i members) candidate ≡ 1 + asked (drop (i + 1) members) candidate
 asked_left members candidate i member h e t =
-    ap (λ left. asked left candidate) (left_at members i member h e) ∙ ap (λ b. 1 + cond b (asked (drop (i + 1) members) candidate) 0) t
+    ap (λ left. asked left candidate) (left_at members i member h e) ∙ ap (λ b. if b then 1 + asked (drop (i + 1) members) candidate else 1) t
 
 -- how asking goes on: so many were asked, all take the candidate, and those left decide
 pub record IsAsking (members : List SpecifierRecord) (candidate : VersionRecord) (count index : ℕ) : Type 0 where
@@ -57,7 +62,7 @@ pub asking_refused : (members : List SpecifierRecord) (candidate : VersionRecord
     → (false ≡ matches_all members candidate) × (count + 1 ≡ asked members candidate)
 asking_refused members candidate count index member asking h e t = (
   sym (sym asking.answer ∙ ap (λ left. matches_all left candidate) (left_at members index member h e) ∙ ap (λ b. b && matches_all (drop (index + 1) members) candidate) t),
-  (let at : asked (drop index members) candidate ≡ 1 = ap (λ left. asked left candidate) (left_at members index member h e) ∙ ap (λ b. 1 + cond b (asked (drop (index + 1) members) candidate) 0) t in
+  (let at : asked (drop index members) candidate ≡ 1 = ap (λ left. asked left candidate) (left_at members index member h e) ∙ ap (λ b. if b then 1 + asked (drop (index + 1) members) candidate else 1) t in
       let before = asking.number in let counts = asking.counts in omega (arith, at, before, counts)),
 )
 

@@ -1,47 +1,69 @@
 -- What a whole text says, from what its pieces say.
-use Rattle.std.proofs.Common.{◌≡◌, ℕ, ◌==◌, true, false, List, [], ◌∷◌, length, Option, Some, refl, sym, ap, subst, ◌∙◌, arith}
+use Rattle.std.proofs.Common.{◌≡◌, ℕ, ◌==◌, true, false, List, [], ◌∷◌, length, Option, Some, None, Result}
+use Rattle.std.proofs.Common.{Ok, Err, refl, sym, ap, subst, ◌∙◌, arith}
 use Rattle.std.proofs.lemmas.Bool.Decides.{nat_tests}
+use Rattle.std.specs.Option.{option_map}
+use Rattle.std.specs.Result.{result_ok}
+use Rattle.read_outcome.specs.Outcome.{Tells}
 use Rattle.pep440_specifier.specs.Matching.{SpecifierRecord}
-use Rattle.pep440_specifier.specs.SpecifierReading.{specifier_of}
-use Rattle.pep440_specifier_list.specs.declared.parse_error.VersionSpecifiersParseError.{VersionSpecifiersParseError}
-use Rattle.pep440_specifier_list.specs.declared.parse_error.VersionSpecifiersParseError.TheVariants.{Memory, Specifier}
+use Rattle.pep440_specifier.specs.SpecifierReading.{SpecifierFault}
 use Rattle.pep440_specifier_list.specs.Lists.{IsInOrder}
-use Rattle.pep440_specifier_list.specs.ListReading.{all_read, read_list, pieces_of, specifiers_of, RefusesList}
-use Rattle.pep440_specifier_list.specs.Pieces.{RefusesMembers}
-use Rattle.pep440_specifier_list.proofs.Pieces.{all_read_none}
+use Rattle.pep440_specifier_list.specs.ListReading.{ListFault, fault_at, pieces_reading, pieces_of}
+use Rattle.pep440_specifier_list.specs.ListReading.{line_reading, list_reading, specifiers_of}
+use Rattle.pep440_specifier_list.proofs.Pieces.{all_read, all_are_read}
 
 same : (m n : ℕ) → (m == n) ≡ true → m ≡ n
 same m n h = grind (arith, nat_tests)
 
 pub nil_when : (text : List ℕ) → (length text == 0) ≡ true → text ≡ []
 nil_when [] h = refl
-nil_when (b ∷ bs) h = absurd (let n : length (b ∷ bs) ≡ 0 = same (length (b ∷ bs)) 0 h in omega (arith, n))
+nil_when (b ∷ bs) h =
+    absurd (let n : length (b ∷ bs) ≡ 0 = same (length (b ∷ bs)) 0 h in omega (arith, n))
 
 -- a text that isn't empty is read by its pieces
-by_pieces : (read : List ℕ → Option SpecifierRecord) (text : List ℕ) → (length text == 0) ≡ false → read_list read text ≡ all_read read (pieces_of text)
-by_pieces read [] h = absurd (let e : (0 == 0) ≡ false = h in grind (arith, nat_tests))
-by_pieces read (b ∷ bs) h = refl
+by_pieces : (text : List ℕ) → (length text == 0) ≡ false → line_reading text ≡ pieces_reading text 0 (pieces_of text)
+by_pieces [] h = absurd (let e : (0 == 0) ≡ false = h in grind (arith, nat_tests))
+by_pieces (b ∷ bs) h = refl
 
-pub whole : (text : List ℕ) → (length text == 0) ≡ false → specifiers_of text ≡ all_read specifier_of (pieces_of text)
+pub read_by_pieces : (text : List ℕ) → (length text == 0) ≡ false
+    → list_reading text ≡ pieces_reading text 0 (pieces_of text)
+unfolding list_reading
+read_by_pieces text h = by_pieces text h
+
+pub whole : (text : List ℕ) → (length text == 0) ≡ false → specifiers_of text ≡ all_read (pieces_of text)
 unfolding specifiers_of
-whole text h = by_pieces specifier_of text h
+whole text h = ap result_ok (read_by_pieces text h) ∙ all_are_read text 0 (pieces_of text)
+
+nothing_there : list_reading [] ≡ Ok []
+unfolding list_reading
+nothing_there = refl
 
 pub nothing_read : specifiers_of [] ≡ Some []
 unfolding specifiers_of
-nothing_read = refl
+nothing_read = ap result_ok nothing_there
 
 pub nothing_in_order : IsInOrder [] []
 nothing_in_order = record { sorted = λ k d low high. absurd (omega arith); stable = λ x. refl }
 
-pub empty_is_read : (text : List ℕ) (list : List SpecifierRecord) → (length text == 0) ≡ true → list ≡ [] → (given : List SpecifierRecord) × (specifiers_of text ≡ Some given) × IsInOrder given list
-empty_is_read text list t e = ([], ap specifiers_of (nil_when text t) ∙ nothing_read, subst (IsInOrder []) (sym e) nothing_in_order)
+pub empty_is_read : (text : List ℕ) (list : List SpecifierRecord) → (length text == 0) ≡ true → list ≡ []
+    → (given : List SpecifierRecord) × (list_reading text ≡ Ok given) × IsInOrder given list
+empty_is_read text list t e =
+    ([], ap list_reading (nil_when text t) ∙ nothing_there, subst (IsInOrder []) (sym e) nothing_in_order)
 
-pub pieces_are_read : (text : List ℕ) (members list : List SpecifierRecord) → (length text == 0) ≡ false → all_read specifier_of (pieces_of text) ≡ Some members → IsInOrder members list
-    → (given : List SpecifierRecord) × (specifiers_of text ≡ Some given) × IsInOrder given list
-pieces_are_read text members list t e order = (members, whole text t ∙ e, order)
+pub pieces_are_read : (text : List ℕ) (members list : List SpecifierRecord) → (length text == 0) ≡ false
+    → pieces_reading text 0 (pieces_of text) ≡ Ok members → IsInOrder members list
+    → (given : List SpecifierRecord) × (list_reading text ≡ Ok given) × IsInOrder given list
+pieces_are_read text members list t e order = (members, read_by_pieces text t ∙ e, order)
 
-pub fault_is_told : (text : List ℕ) (error : VersionSpecifiersParseError) → (length text == 0) ≡ false → RefusesMembers error text → RefusesList error text
-fault_is_told text Memory t h = tt
-fault_is_told text (Specifier error line start end) t h =
-    let refused = h.1 in
-    (h.0, h.1, h.2, whole text t ∙ ap (all_read specifier_of) refused.split ∙ all_read_none specifier_of refused.before refused.after h.0 refused.refused)
+pub fault_is_told : (text : List ℕ) (told : Option ListFault) → (length text == 0) ≡ false
+    → Tells told (pieces_reading text 0 (pieces_of text)) → Tells told (list_reading text)
+fault_is_told text None t h = tt
+fault_is_told text (Some fault) t h = read_by_pieces text t ∙ h
+
+-- ---- errors
+
+-- the fault of a piece, at its place
+pub told_none : (line : List ℕ) (start end : ℕ) (told : Option SpecifierFault)
+    → option_map (fault_at line start end) told ≡ None → told ≡ None
+told_none line start end None h = refl
+told_none line start end (Some fault) h = absurd (cc)

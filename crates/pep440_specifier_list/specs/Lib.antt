@@ -1,10 +1,11 @@
+pub mod Places
 pub mod Lists
 pub mod ListText
 pub mod Separated
 pub mod ListOrder
 pub mod ListHash
+pub mod ListOrderLaws
 pub mod Refusals
 pub mod ListReading
 pub mod ListBounds
 pub mod ListErrors
-pub mod Pieces

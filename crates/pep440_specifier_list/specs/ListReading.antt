@@ -1,69 +1,91 @@
--- What is read of the text of a list: the pieces between commas, each a specifier; or the first piece that is none.
-use Rattle.std.specs.Prelude.{◌≡◌, ◌≢◌, ℕ, ◌+◌, ◌==◌, List, [], ◌∷◌, ◌++◌, length, sum_by, Option, Some, None, Result, Ok, Err}
+-- What there is to read of the text of a list: the pieces between commas, each a specifier; or the first piece that
+-- is none, with its place in the text.
+use Rattle.std.specs.Prelude.{◌≡◌, ℕ, ◌+◌, ◌==◌, List, [], ◌∷◌, length, Option, Some, None, Result, Ok, Err}
 use Rattle.std.specs.List.{slice_split}
+use Rattle.std.specs.Option.{option_map}
+use Rattle.std.specs.Result.{result_ok}
 use Rattle.std.specs.String.{string_bytes}
-use Rattle.pep440_specifier.specs.declared.parse_error.VersionSpecifierParseError.{VersionSpecifierParseError}
-use Rattle.pep440_specifier.specs.declared.parse_error.VersionSpecifierParseError.TheVariants as errors
+use Rattle.read_outcome.specs.Outcome.{Tells}
 use Rattle.pep440_specifier.specs.Matching.{SpecifierRecord}
-use Rattle.pep440_specifier.specs.SpecifierReading.{specifier_of, read_specifier, RefusesSpecifier}
+use Rattle.pep440_specifier.specs.SpecifierReading.{SpecifierFault, specifier_reading, specifier_of}
+use Rattle.pep440_specifier.specs.SpecifierReading.{told_specifier}
 use Rattle.pep440_specifier_list.specs.declared.parse_error.VersionSpecifiersParseError.{VersionSpecifiersParseError}
-use Rattle.pep440_specifier_list.specs.declared.parse_error.VersionSpecifiersParseError.TheVariants.{Memory, Specifier}
+use Rattle.pep440_specifier_list.specs.declared.parse_error.VersionSpecifiersParseError.TheVariants.{Memory}
+use Rattle.pep440_specifier_list.specs.declared.parse_error.VersionSpecifiersParseError.TheVariants.{Specifier}
 use Rattle.pep440_specifier_list.specs.Lists.{IsInOrder}
 
 -- ---- reading
 
-abbrev pub with_first : Option SpecifierRecord → Option (List SpecifierRecord) → Option (List SpecifierRecord)
-with_first None others = None
-with_first (Some first) None = None
-with_first (Some first) (Some others) = Some (first ∷ others)
+-- why a text is no list: the text, where its first piece that is no specifier begins and ends in it, in bytes, and
+-- that piece's fault
+pub record ListFault : Type 0 where
+  pub line : List ℕ
+  pub start : ℕ
+  pub end : ℕ
+  pub fault : SpecifierFault
 
--- what all pieces are, if each is a specifier
-abbrev pub all_read : (List ℕ → Option SpecifierRecord) → List (List ℕ) → Option (List SpecifierRecord)
-all_read read [] = Some []
-all_read read (piece ∷ pieces) = with_first (read piece) (all_read read pieces)
+-- the fault of the piece at a place of a line
+abbrev pub fault_at : List ℕ → ℕ → ℕ → SpecifierFault → ListFault
+fault_at line start end fault = record { line = line; start = start; end = end; fault = fault }
+
+-- the reading of that piece
+abbrev pub placed_reading : List ℕ → ℕ → ℕ → Result SpecifierRecord SpecifierFault
+    → Result SpecifierRecord ListFault
+placed_reading line start end (Ok member) = Ok member
+placed_reading line start end (Err fault) = Err (fault_at line start end fault)
+
+-- the members of a text in the order given, or its fault
+abbrev pub ListReading : Type 0
+ListReading = Result (List SpecifierRecord) ListFault
+
+-- a first member and others; the first fault is that of the whole
+abbrev pub with_first : Result SpecifierRecord ListFault → ListReading → ListReading
+with_first (Err fault) others = Err fault
+with_first (Ok first) (Err fault) = Err fault
+with_first (Ok first) (Ok others) = Ok (first ∷ others)
+
+-- the pieces of a line from a place on, a comma behind each but the last
+abbrev pub pieces_reading : List ℕ → ℕ → List (List ℕ) → ListReading
+pieces_reading line start [] = Ok []
+pieces_reading line start (piece ∷ pieces) =
+    with_first (placed_reading line start (start + length piece) (specifier_reading piece))
+    (pieces_reading line (start + length piece + 1) pieces)
 
 -- what stands between the commas
 abbrev pub pieces_of : List ℕ → List (List ℕ)
 pieces_of text = slice_split (λ b. b == 44) text
 
 -- the empty text has no members
-abbrev pub read_list : (List ℕ → Option SpecifierRecord) → List ℕ → Option (List SpecifierRecord)
-read_list read [] = Some []
-read_list read (byte ∷ bytes) = all_read read (pieces_of (byte ∷ bytes))
+abbrev pub line_reading : List ℕ → ListReading
+line_reading [] = Ok []
+line_reading (byte ∷ bytes) = pieces_reading (byte ∷ bytes) 0 (pieces_of (byte ∷ bytes))
 
--- the members of a text in the order given
+-- the members of a text in the order given, or the first piece that is no specifier
+unfoldable pub list_reading : List ℕ → ListReading
+list_reading text = line_reading text
+
+-- the members of a text in the order given, if it is that of a list
 unfoldable pub specifiers_of : List ℕ → Option (List SpecifierRecord)
-specifiers_of text = read_list specifier_of text
+specifiers_of text = result_ok (list_reading text)
+
+-- a specifier as which some text is read
+abbrev pub IsReadFromText : SpecifierRecord → Type 0
+IsReadFromText specifier = (text : List ℕ) × (specifier_of text ≡ Some specifier)
 
 -- ---- what is answered
 
--- how far the pieces reach, with the comma behind each
-abbrev pub extent : List (List ℕ) → ℕ
-extent pieces = sum_by (λ piece. length piece + 1) pieces
+-- the fault that an error tells; want of memory tells none
+abbrev pub told_list : VersionSpecifiersParseError → Option ListFault
+told_list Memory = None
+told_list (Specifier piece) =
+    option_map (fault_at (string_bytes piece.line) piece.start piece.end) (told_specifier piece.error)
 
--- the first piece that is no specifier, and its place in the text
-pub record IsFirstRefused (text piece : List ℕ) (start end : ℕ) : Type 0 where
-  pub before : List (List ℕ)
-  pub after : List (List ℕ)
-  pub split : pieces_of text ≡ before ++ (piece ∷ after)
-  pub members : List SpecifierRecord
-  pub are_read : all_read specifier_of before ≡ Some members
-  pub refused : specifier_of piece ≡ None
-  pub starts : start ≡ extent before
-  pub ends : end ≡ start + length piece
+-- an error that tells no fault is want of memory itself, which is never inside another error
+abbrev pub TellsOrMemory : VersionSpecifiersParseError → Type 0
+TellsOrMemory error = told_list error ≡ None → error ≡ Memory
 
--- the fault of a piece, and the whole text
-pub record IsPieceFault (text piece line : List ℕ) (error : VersionSpecifierParseError) : Type 0 where
-  pub fault : RefusesSpecifier error (read_specifier piece)
-  pub no_memory : error ≢ errors.Memory
-  pub whole : line ≡ text
-
--- an error names the first piece that is refused, and its fault; want of memory says nothing
-abbrev pub RefusesList : VersionSpecifiersParseError → List ℕ → Type 0
-RefusesList Memory text = Unit {0}
-RefusesList (Specifier error line start end) text = (piece : List ℕ) × IsFirstRefused text piece start end × IsPieceFault text piece (string_bytes line) error × (specifiers_of text ≡ None)
-
--- an answer is what the text says, in order
+-- an answer is what the text says, its members in order
 abbrev pub ReadsList : Result (List SpecifierRecord) VersionSpecifiersParseError → List ℕ → Type 0
-ReadsList (Ok list) text = (given : List SpecifierRecord) × (specifiers_of text ≡ Some given) × IsInOrder given list
-ReadsList (Err error) text = RefusesList error text
+ReadsList (Ok list) text =
+    (given : List SpecifierRecord) × (list_reading text ≡ Ok given) × IsInOrder given list
+ReadsList (Err error) text = Tells (told_list error) (list_reading text)

@@ -1,10 +1,10 @@
 -- Lists of specifiers: their order, which versions they take, and how many members are asked for that.
-use Rattle.std.specs.Prelude.{ℕ, ◌+◌, ◌-◌, ◌^◌, Bool, cond, nat_lt, if◌then◌else◌, List, [], ◌∷◌}
+use Rattle.std.specs.Prelude.{ℕ, ◌+◌, ◌-◌, ◌^◌, Bool, nat_lt, if◌then◌else◌, List, [], ◌∷◌}
 use Rattle.std.specs.List.{list_all}
 use Rattle.std.specs.List.Sorted.{IsSortedByKey, IsStableByKey}
 use Rattle.pep440_version.specs.Record.{VersionRecord}
 use Rattle.pep440_version.specs.Order.{version_cmp}
-use Rattle.pep440_specifier.specs.Matching.{SpecifierRecord, matches}
+use Rattle.pep440_specifier.specs.Matching.{SpecifierRecord, takes}
 
 -- by version
 abbrev pub IsByVersion : List SpecifierRecord → Type 0
@@ -16,16 +16,13 @@ pub record IsInOrder (given : List SpecifierRecord) (members : List SpecifierRec
   pub stable : IsStableByKey (λ s. s.version) version_cmp given members
 
 -- a list takes what each member takes (PEP 440, "Version specifiers")
-abbrev pub takes : VersionRecord → SpecifierRecord → Bool
-takes candidate specifier = matches specifier.operator specifier.version candidate
-
 abbrev pub matches_all : List SpecifierRecord → VersionRecord → Bool
 matches_all members candidate = list_all (takes candidate) members
 
 -- how many members are asked: up to the first that refuses, and it too
 abbrev pub asked : List SpecifierRecord → VersionRecord → ℕ
 asked [] candidate = 0
-asked (member ∷ members) candidate = 1 + cond (takes candidate member) (asked members candidate) 0
+asked (member ∷ members) candidate = if takes candidate member then 1 + asked members candidate else 1
 
 -- a list with the number of its members that were asked so far, up to 2 ^ 64 - 1
 pub record CountedRecord : Type 0 where
@@ -34,4 +31,5 @@ pub record CountedRecord : Type 0 where
 
 -- so many more, as far as 64 bits hold them
 abbrev pub counted : CountedRecord → ℕ → CountedRecord
-counted old more = record old { tests = if nat_lt (old.tests + more) (2 ^ 64) then old.tests + more else 2 ^ 64 - 1 }
+counted old more =
+    record old { tests = if nat_lt (old.tests + more) (2 ^ 64) then old.tests + more else 2 ^ 64 - 1 }

@@ -1,7 +1,7 @@
 //! Asking the members of a list, one after another.
 
 ghost use Rattle.std.specs.Prelude.{◌≡◌, ◌≢◌, ◌≤◌, length, All, IsOk, IfOk, OnOk, OnErr};
-ghost use Rattle.pep440_specifier.specs.declared.operator.Operator.TheVariants.{ExactEqual};
+ghost use Rattle.pep440_operator.specs.declared.operator.Operator.TheVariants.{ExactEqual};
 ghost use Rattle.pep440_specifier_list.specs.Lists.{matches_all, asked};
 ghost use Rattle.pep440_specifier_list.specs.Refusals.{IsRefusal};
 

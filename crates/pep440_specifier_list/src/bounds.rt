@@ -1,9 +1,11 @@
 //! Lists of the specifiers of intervals.
 
-ghost use Rattle.std.specs.Prelude.{◌≡◌, IfOk};
-ghost use Rattle.pep440_specifier.specs.Bounds.{IsReleaseBound};
+ghost use Rattle.std.specs.Prelude.{◌≡◌, ◌∷◌, ◌++◌, length, map, option_to_list, IfOk, IsOk, OnOk};
+ghost use Rattle.version_ranges.specs.Bounds.{last_upper, lent_bounds};
+ghost use Rattle.pep440_specifier.specs.Bounds.{lent_bound, IsReleaseBound};
 ghost use Rattle.pep440_specifier_list.specs.Lists.{IsInOrder};
-ghost use Rattle.pep440_specifier_list.specs.ListBounds.{AreReleaseIntervals, gap_specifier, gap_specifiers, last_upper, list_specifiers};
+ghost use Rattle.pep440_specifier_list.specs.ListBounds.{AreReleaseIntervals, gap_specifier, gap_specifiers};
+ghost use Rattle.pep440_specifier_list.specs.ListBounds.{list_specifiers};
 
 use crate::VersionSpecifiers;
 use pep440_specifier::{VersionSpecifier, is_next_minor};
@@ -18,74 +20,94 @@ impl VersionSpecifiers {
     /// one, and an upper bound is not above the next lower one. A gap of one version is said by `!=`, one from `a.b` to
     /// below `a.(b+1)` by `!=a.b.*`, and any other gap by nothing, so that the list takes its versions too.
     ///
-    /// Linear in the intervals, but for bringing the members in order. Takes memory for the list and copies of versions.
+    /// Linear in the intervals, but for bringing the members in order. Takes memory for the list and copies of versions,
+    /// and none where there are no intervals.
     pub fn from_release_only_bounds(
         alloc: Global,
-        bounds: &[(Bound<Version>, Bound<Version>)],
+        bounds: &[(Bound<&Version>, Bound<&Version>)],
     ) -> Result<VersionSpecifiers, AllocError>
-        requires { AreReleaseIntervals bounds.now }
-        ensures { IfOk result (λ list. IsInOrder (list_specifiers bounds.now) list) }
+        requires { AreReleaseIntervals (map lent_bounds bounds.now) }
+        ensures list { IfOk result (λ list. IsInOrder (list_specifiers (map lent_bounds bounds.now)) list) }
+        ensures empty { length bounds.now ≡ 0 → IsOk result }
     {
-        VersionSpecifiers::from_specifiers(alloc, list_specifiers(alloc, bounds)?)
+        let Some((first, later)) = bounds.split_first() else {
+            return Ok(VersionSpecifiers::empty(alloc));
+        };
+        VersionSpecifiers::from_specifiers(alloc, list_specifiers(alloc, first.0, first.1, later)?)
     }
 }
 
-fn list_specifiers(
+/// The specifiers of an interval and those behind it.
+fn list_specifiers<'a>(
     alloc: Global,
-    bounds: &[(Bound<Version>, Bound<Version>)],
+    lower: Bound<&'a Version>,
+    upper: Bound<&'a Version>,
+    later: &'a [(Bound<&'a Version>, Bound<&'a Version>)],
 ) -> Result<Vec<VersionSpecifier>, AllocError>
-    requires { AreReleaseIntervals bounds.now }
-    ensures { IfOk result (λ found. found.items ≡ list_specifiers bounds.now) }
+    requires lower { IsReleaseBound (lent_bound lower) }
+    requires upper { IsReleaseBound (lent_bound upper) }
+    requires later { AreReleaseIntervals (map lent_bounds later.now) }
+    ensures { IfOk result (λ found. found.items
+        ≡ list_specifiers ((lent_bound lower.entry, lent_bound upper.entry) ∷ map lent_bounds later.now)) }
 {
-    let Some((first, later)) = bounds.split_first() else {
-        return Ok(Vec::new(alloc));
-    };
-    let mut found = gap_specifiers(alloc, &first.1, later)?;
-    let upper = last_upper(&first.1, later);
-    let mut outer = VersionSpecifier::from_release_only_bounds(
-        alloc,
-        (first.0.as_ref(), upper.as_ref()),
-    )?;
+    let mut found = gap_specifiers(alloc, upper, later)?;
+    let last = last_upper(upper, later);
+    let mut outer = VersionSpecifier::from_release_only_bounds(alloc, (lower, last))?;
     found.append(&mut outer)?;
     Ok(found)
 }
 
 /// The specifiers of the gaps behind an upper bound.
-fn gap_specifiers(
+fn gap_specifiers<'a>(
     alloc: Global,
-    first: &Bound<Version>,
-    later: &[(Bound<Version>, Bound<Version>)],
+    first: Bound<&'a Version>,
+    later: &'a [(Bound<&'a Version>, Bound<&'a Version>)],
 ) -> Result<Vec<VersionSpecifier>, AllocError>
-    requires first { IsReleaseBound first.now }
-    requires later { AreReleaseIntervals later.now }
-    ensures { IfOk result (λ found. found.items ≡ gap_specifiers first.now later.now) }
+    requires first { IsReleaseBound (lent_bound first) }
+    requires later { AreReleaseIntervals (map lent_bounds later.now) }
+    ensures { IfOk result (λ found.
+        found.items ≡ gap_specifiers (lent_bound first.entry) (map lent_bounds later.now)) }
 {
     let mut found = Vec::new(alloc);
     let mut upper = first;
-    let mut left = later;
-    while let Some((next, behind)) = left.split_first() {
-        if let Some(gap) = gap_specifier(alloc, upper, &next.0)? {
-            found.push(gap)?;
-        }
-        upper = &next.1;
-        left = behind;
+    for next in later {
+        push_gap(alloc, &mut found, upper, next.0)?;
+        upper = next.1;
     }
     Ok(found)
 }
 
+fn push_gap(
+    alloc: Global,
+    found: &mut Vec<VersionSpecifier>,
+    upper: Bound<&Version>,
+    lower: Bound<&Version>,
+) -> Result<(), AllocError>
+    requires upper { IsReleaseBound (lent_bound upper) }
+    requires lower { IsReleaseBound (lent_bound lower) }
+    ensures { OnOk result (found.new.items
+        ≡ found.old.items
+        ++ option_to_list (gap_specifier (lent_bound upper.entry) (lent_bound lower.entry))) }
+{
+    if let Some(gap) = gap_specifier(alloc, upper, lower)? {
+        found.push(gap)?;
+    }
+    Ok(())
+}
+
 /// The upper bound of the last interval, or else the one given.
 fn last_upper<'a>(
-    upper: &'a Bound<Version>,
-    later: &'a [(Bound<Version>, Bound<Version>)],
-) -> &'a Bound<Version>
-    requires upper { IsReleaseBound upper.now }
-    requires later { AreReleaseIntervals later.now }
-    ensures last { result.now ≡ last_upper upper.now later.now }
-    ensures release { IsReleaseBound result.now }
+    upper: Bound<&'a Version>,
+    later: &'a [(Bound<&'a Version>, Bound<&'a Version>)],
+) -> Bound<&'a Version>
+    requires upper { IsReleaseBound (lent_bound upper) }
+    requires later { AreReleaseIntervals (map lent_bounds later.now) }
+    ensures last { lent_bound result ≡ last_upper (lent_bound upper.entry) (map lent_bounds later.now) }
+    ensures release { IsReleaseBound (lent_bound result) }
 {
     match later.split_last() {
         None => upper,
-        Some((last, _)) => &last.1,
+        Some((last, _)) => last.1,
     }
 }
 
@@ -93,12 +115,13 @@ fn last_upper<'a>(
 #[tactic(auto, using(crate::proofs::ListBounds::release_is_star))]
 fn gap_specifier(
     alloc: Global,
-    upper: &Bound<Version>,
-    lower: &Bound<Version>,
+    upper: Bound<&Version>,
+    lower: Bound<&Version>,
 ) -> Result<Option<VersionSpecifier>, AllocError>
-    requires upper { IsReleaseBound upper.now }
-    requires lower { IsReleaseBound lower.now }
-    ensures { IfOk result (λ found. found ≡ gap_specifier upper.now lower.now) }
+    requires upper { IsReleaseBound (lent_bound upper) }
+    requires lower { IsReleaseBound (lent_bound lower) }
+    ensures { IfOk result (λ found.
+        found ≡ gap_specifier (lent_bound upper.entry) (lent_bound lower.entry)) }
 {
     match (upper, lower) {
         (Bound::Excluded(upper), Bound::Excluded(lower)) => {

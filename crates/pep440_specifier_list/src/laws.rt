@@ -3,16 +3,17 @@
 ghost use Rattle.std.specs.Prelude.{◌≡◌, ◌↔◌, ℕ, [], true, List, All, IsTrue, Some};
 ghost use Rattle.std.specs.Str.{IsUtf8};
 ghost use Rattle.pep440_version.specs.Record.{VersionRecord};
-ghost use Rattle.pep440_specifier.specs.Matching.{SpecifierRecord};
-ghost use Rattle.pep440_specifier_list.specs.Lists.{matches_all, takes, IsInOrder};
+ghost use Rattle.pep440_specifier.specs.Matching.{SpecifierRecord, takes};
+ghost use Rattle.pep440_specifier_list.specs.Lists.{matches_all, IsInOrder};
 ghost use Rattle.pep440_specifier_list.specs.ListText.{IsSpecifierListText};
-ghost use Rattle.pep440_specifier_list.specs.ListReading.{specifiers_of};
+ghost use Rattle.pep440_specifier_list.specs.ListReading.{specifiers_of, IsReadFromText};
 
 use pep440_specifier::laws::specifier_text_is_read;
 
 /// A list takes a version exactly where each of its members does (PEP 440, "Version specifiers").
 pub fn a_list_takes_what_each_member_takes()
-    ensures { (members : List SpecifierRecord) (candidate : VersionRecord) → IsTrue (matches_all members candidate) ↔ All (λ member. IsTrue (takes candidate member)) members }
+    ensures { (members : List SpecifierRecord) (candidate : VersionRecord)
+        → IsTrue (matches_all members candidate) ↔ All (λ member. IsTrue (takes candidate member)) members }
 {}
 
 /// The empty list takes every version.
@@ -22,7 +23,15 @@ pub fn the_empty_list_takes_all()
 
 /// A text is read as a list exactly where it is the text of that list: specifiers with commas between them, or nothing.
 pub fn list_text_is_read()
-    ensures { (text : List ℕ) (members : List SpecifierRecord) → IsUtf8 text → ((given : List SpecifierRecord) × (specifiers_of text ≡ Some given) × IsInOrder given members) ↔ IsSpecifierListText text members }
+    ensures { (text : List ℕ) (members : List SpecifierRecord) → IsUtf8 text
+        → ((given : List SpecifierRecord) × (specifiers_of text ≡ Some given) × IsInOrder given members)
+        ↔ IsSpecifierListText text members }
 {
     specifier_text_is_read();
 }
+
+/// Each member of a list that was read is a specifier as which some text is read.
+pub fn members_are_read_from_texts()
+    ensures { (text : List ℕ) (given members : List SpecifierRecord) → specifiers_of text ≡ Some given
+        → IsInOrder given members → All IsReadFromText members }
+{}

@@ -11,14 +11,12 @@ mod ordering;
 mod parse_error;
 mod print;
 mod reading;
+mod refused_piece;
 mod specifiers;
 mod value;
 
 pub use counted::CountedSpecifiers;
 pub use parse_error::VersionSpecifiersParseError;
+pub use print::BareCommas;
+pub use refused_piece::RefusedPiece;
 pub use specifiers::VersionSpecifiers;
-
-#[cfg(test)]
-mod bounds_tests;
-#[cfg(test)]
-mod tests;

@@ -3,7 +3,7 @@
 ghost use Rattle.std.specs.Prelude.{◌≡◌, Some};
 ghost use Rattle.pep440_specifier_list.specs.ListErrors.{line_of, error_text};
 
-use pep440_specifier::VersionSpecifierParseError;
+use crate::RefusedPiece;
 use std::alloc::{AllocError, AllocFailed};
 use std::error::Error;
 use std::fmt;
@@ -14,16 +14,7 @@ pub enum VersionSpecifiersParseError {
     /// Memory ran out while reading.
     Memory,
     /// The first piece between commas that is no specifier.
-    Specifier {
-        /// What is wrong with the piece; never want of memory.
-        error: VersionSpecifierParseError,
-        /// The whole text.
-        line: String,
-        /// Where the piece begins in the text, in bytes.
-        start: usize,
-        /// Where it ends.
-        end: usize,
-    },
+    Specifier(RefusedPiece),
 }
 
 impl VersionSpecifiersParseError {
@@ -33,7 +24,7 @@ impl VersionSpecifiersParseError {
     {
         match self {
             VersionSpecifiersParseError::Memory => "",
-            VersionSpecifiersParseError::Specifier { line, .. } => line.as_str(),
+            VersionSpecifiersParseError::Specifier(piece) => piece.line(),
         }
     }
 }
@@ -66,7 +57,8 @@ impl fmt::Display for VersionSpecifiersParseError {
     fn fmt<W: fmt::Write>(&self, f: &mut fmt::Formatter<W>) -> fmt::Result {
         match self {
             VersionSpecifiersParseError::Memory => write!(f, "out of memory"),
-            VersionSpecifiersParseError::Specifier { error, .. } => {
+            VersionSpecifiersParseError::Specifier(piece) => {
+                let error = piece.error();
                 write!(f, "Failed to parse version: {error}")
             }
         }

@@ -1,14 +1,15 @@
 //! The prints of lists.
 
-ghost use Rattle.std.specs.Prelude.{Some, ◌++◌};
+ghost use Rattle.std.specs.Prelude.{◌≡◌, Some, ◌++◌};
 ghost use Rattle.std.specs.List.{flat_map};
 ghost use Rattle.pep440_specifier.specs.SpecifierPrint.{specifier_text};
-ghost use Rattle.pep440_specifier_list.specs.ListText.{list_text};
+ghost use Rattle.pep440_specifier_list.specs.ListText.{list_text, list_value_text};
 ghost use Rattle.pep440_specifier_list.specs.Separated.{separated, behind_separator};
 
 use crate::VersionSpecifiers;
 use pep440_specifier::VersionSpecifier;
 use std::fmt;
+use std::marker::Model;
 
 /// A member, and more with a separator before each.
 #[derive(Clone, Copy)]
@@ -19,7 +20,8 @@ struct Members<'a> {
 }
 
 impl fmt::Display for Members<'_> {
-    ghost output = { λ text. Some (specifier_text text.first.now ++ flat_map (behind_separator text.separator.now) text.others.now) };
+    ghost output = { λ text. Some (specifier_text text.first.now
+        ++ flat_map (behind_separator text.separator.now) text.others.now) };
 
     fn fmt<W: fmt::Write>(&self, f: &mut fmt::Formatter<W>) -> fmt::Result {
         let first = self.first;
@@ -34,9 +36,9 @@ impl fmt::Display for Members<'_> {
 
 /// Members with a separator between them.
 #[derive(Clone, Copy)]
-pub(crate) struct Separated<'a> {
-    pub(crate) members: &'a [VersionSpecifier],
-    pub(crate) separator: &'a str,
+struct Separated<'a> {
+    members: &'a [VersionSpecifier],
+    separator: &'a str,
 }
 
 impl fmt::Display for Separated<'_> {
@@ -73,6 +75,49 @@ impl fmt::Display for VersionSpecifiers {
                 separator: ", "
             }
         )
+    }
+}
+
+/// The members of a list with bare commas between them, as `>=1.16,<2.0`: the list as it stands in JSON and in a
+/// requirement's text. It borrows the list.
+#[derive(Drop)]
+pub struct BareCommas<'a> {
+    members: &'a [VersionSpecifier],
+}
+
+impl<'a> Model for BareCommas<'a> {
+    ghost use Rattle.std.specs.Prelude.{List};
+    ghost use Rattle.pep440_specifier.specs.Matching.{SpecifierRecord};
+
+    ghost Value = { List SpecifierRecord };
+
+    ghost view = { λ text. text.members.now };
+}
+
+impl fmt::Display for BareCommas<'_> {
+    ghost output = { λ members. Some (list_value_text members) };
+
+    #[tactic(auto, using(crate::proofs::Printing::value_separated))]
+    fn fmt<W: fmt::Write>(&self, f: &mut fmt::Formatter<W>) -> fmt::Result {
+        write!(
+            f,
+            "{}",
+            Separated {
+                members: self.members,
+                separator: ","
+            }
+        )
+    }
+}
+
+impl VersionSpecifiers {
+    /// The list as a text with bare commas between its members. Takes no memory; printing it is linear in the text.
+    pub fn bare_commas(&self) -> BareCommas<'_>
+        ensures { result ≡ self.now }
+    {
+        BareCommas {
+            members: self.as_slice(),
+        }
     }
 }
 

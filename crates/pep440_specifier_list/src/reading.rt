@@ -1,22 +1,29 @@
 //! Reading the text of a list.
 
-ghost use Rattle.pep440_specifier_list.specs.ListReading.{ReadsList};
-ghost use Rattle.pep440_specifier_list.specs.Pieces.{ReadsMembers, ReadsPiece};
+ghost use Rattle.std.specs.Prelude.{◌≡◌, length, IfErr, IsOk};
+ghost use Rattle.read_outcome.specs.Outcome.{Answers};
+ghost use Rattle.pep440_specifier.specs.SpecifierReading.{specifier_reading};
+ghost use Rattle.pep440_specifier_list.specs.Places.{IsPlaced};
+ghost use Rattle.pep440_specifier_list.specs.ListReading.{placed_reading, pieces_reading, pieces_of};
+ghost use Rattle.pep440_specifier_list.specs.ListReading.{told_list, TellsOrMemory, ReadsList};
 
-use crate::{VersionSpecifiers, VersionSpecifiersParseError};
+use crate::{RefusedPiece, VersionSpecifiers, VersionSpecifiersParseError};
 use pep440_specifier::{VersionSpecifier, VersionSpecifierParseError};
 use std::alloc::Global;
 
 impl VersionSpecifiers {
-    /// Reads specifiers with commas between them, as `>=1.16, <2.0`; the empty text is the empty list.
+    /// Reads specifiers with commas between them, as `>=1.16, <2.0`; the empty text is the empty list (PEP 440, "Version
+    /// specifiers").
     ///
-    /// Linear in the text; takes memory for the members. The error names the first piece between commas that is no
-    /// specifier.
+    /// Linear in the text, but for bringing the members in order; takes memory for the members, and none for the empty
+    /// text. The error names the first piece between commas that is no specifier.
     pub fn from_str(
         alloc: Global,
         text: &str,
     ) -> Result<VersionSpecifiers, VersionSpecifiersParseError>
-        ensures { ReadsList result text.now }
+        ensures answered { ReadsList result text.now }
+        ensures plain { IfErr result TellsOrMemory }
+        ensures empty { length text.now ≡ 0 → IsOk result }
     {
         if text.is_empty() {
             return Ok(VersionSpecifiers::empty(alloc));
@@ -34,7 +41,9 @@ fn read_members(
     alloc: Global,
     text: &str,
 ) -> Result<Vec<VersionSpecifier>, VersionSpecifiersParseError>
-    ensures { ReadsMembers (λ members. members.items) result text.now }
+    ensures answered { Answers (λ members. members.items) told_list result
+        (pieces_reading text.now 0 (pieces_of text.now)) }
+    ensures plain { IfErr result TellsOrMemory }
 {
     let mut members = Vec::new(alloc);
     let mut start = 0;
@@ -54,16 +63,19 @@ fn read_piece(
     start: usize,
     end: usize,
 ) -> Result<VersionSpecifier, VersionSpecifiersParseError>
-    ensures { ReadsPiece text.now piece.now start end result }
+    requires { IsPlaced text.now start end }
+    ensures answered { Answers (λ member. member) told_list result
+        (placed_reading text.now start end (specifier_reading piece.now)) }
+    ensures plain { IfErr result TellsOrMemory }
 {
     match VersionSpecifier::from_str(alloc, piece) {
         Ok(member) => Ok(member),
         Err(VersionSpecifierParseError::Memory) => Err(VersionSpecifiersParseError::Memory),
-        Err(error) => Err(VersionSpecifiersParseError::Specifier {
+        Err(error) => Err(VersionSpecifiersParseError::Specifier(RefusedPiece {
             error,
             line: String::from_str(alloc, text)?,
             start,
             end,
-        }),
+        })),
     }
 }

@@ -1,14 +1,12 @@
 //! Lists as JSON values.
 
-ghost use Rattle.std.specs.Prelude.{◌≡◌, IfOk, Some};
-ghost use Rattle.std.specs.String.{string_bytes};
+ghost use Rattle.std.specs.Prelude.{◌≡◌, IfOk, IfErr, Some};
 ghost use Rattle.serde_json.specs.View.{view};
 ghost use Rattle.serde_json.specs.Find.{as_str};
-ghost use Rattle.pep440_version.specs.Values.{ReadsText};
+ghost use Rattle.read_outcome.specs.Outcome.{ReadsText};
 ghost use Rattle.pep440_specifier_list.specs.ListText.{list_value_text};
-ghost use Rattle.pep440_specifier_list.specs.ListReading.{ReadsList};
+ghost use Rattle.pep440_specifier_list.specs.ListReading.{TellsOrMemory, ReadsList};
 
-use crate::print::Separated;
 use crate::{VersionSpecifiers, VersionSpecifiersParseError};
 use pep440_version::FromValueError;
 use serde_json::Value;
@@ -19,7 +17,7 @@ impl VersionSpecifiers {
     pub fn to_value(&self, alloc: Global) -> Result<Value, AllocError>
         ensures { IfOk result (λ value. as_str (view value) ≡ Some (list_value_text self.now)) }
     {
-        Ok(Value::String(value_text(alloc, self)?))
+        Ok(Value::String(self.bare_commas().to_string(alloc)?))
     }
 
     /// Reads a JSON text as `from_str` does; another value is refused as `Shape`.
@@ -27,22 +25,15 @@ impl VersionSpecifiers {
         alloc: Global,
         value: &Value,
     ) -> Result<VersionSpecifiers, FromValueError<VersionSpecifiersParseError>>
-        ensures { ReadsText (λ text read. ReadsList read text) (as_str (view value.now)) result }
+        ensures answered { ReadsText (λ text read. ReadsList read text) (as_str (view value.now)) result }
+        ensures plain { ReadsText (λ text read. IfErr read TellsOrMemory) (as_str (view value.now)) result }
     {
         let Some(text) = value.as_str() else {
             return Err(FromValueError::Shape);
         };
-        VersionSpecifiers::from_str(alloc, text).map_err(FromValueError::Text)
+        match VersionSpecifiers::from_str(alloc, text) {
+            Ok(list) => Ok(list),
+            Err(error) => Err(FromValueError::Text(error)),
+        }
     }
-}
-
-#[tactic(auto, using(crate::proofs::Printing::value_separated))]
-fn value_text(alloc: Global, list: &VersionSpecifiers) -> Result<String, AllocError>
-    ensures { IfOk result (λ text. string_bytes text ≡ list_value_text list.now) }
-{
-    let text = Separated {
-        members: list.as_slice(),
-        separator: ",",
-    };
-    text.to_string(alloc)
 }

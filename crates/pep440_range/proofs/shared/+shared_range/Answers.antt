@@ -14,7 +14,8 @@ pub returns : goal.returns
 returns t c =
     let members = c.args.members.now in
     let parts = c.split_at.ensures in
-    halves_share (range_among c.args.among) members c.split_at.result.0.now c.split_at.result.1.now c.in_ok-front.front
+    halves_share (range_among c.args.among) members c.split_at.result.0.now c.split_at.result.1.now
+    c.in_ok-front.front
     c.in_ok-back.back c.both.result
     ((λ i. parts.front i ++ parts.back i) ∙ take-append-drop (length members / 2) members)
     c.in_ok-front.ensures c.in_ok-back.ensures c.both.ensures.points c.both.ensures.memory

@@ -1,6 +1,6 @@
 use Rattle.std.proofs.Common.{rules, ◌∙◌}
 use Rattle.std.proofs.lemmas.List.Sorted.{answers_always}
-use Rattle.pep440_specifier.specs.SpecifierReading.{ends_operator}
+use Rattle.pep440_operator.specs.OperatorReading.{ends_operator}
 use Rattle.pep440_specifier.proofs.Fronts.{cut_some, cut_none}
 use Rattle.pep440_specifier.proofs.reading.split_operator.Goals as goal
 

@@ -1,11 +1,11 @@
-use Rattle.std.proofs.Common.{◌≡◌, ◌++◌, length}
-use Rattle.pep440_specifier.specs.Bounds.{IsReleaseBound}
+use Rattle.std.proofs.Common.{◌≡◌, ◌++◌, drop, map}
+use Rattle.version_ranges.specs.Bounds.{lent_bounds}
+use Rattle.pep440_specifier.specs.Bounds.{lent_bound, IsReleaseBound}
 use Rattle.pep440_specifier_list.specs.ListBounds.{AreReleaseIntervals, gap_specifiers}
 use Rattle.pep440_specifier_list.proofs.bounds.gap_specifiers.Given as goal
 
 abbrev pub invariant-loop-next : goal.invariant-loop-next
 invariant-loop-next l =
-    IsReleaseBound l.upper × AreReleaseIntervals l.left × (l.found.items ++ gap_specifiers l.upper l.left ≡ gap_specifiers l.fn.first l.fn.later)
-
-abbrev pub decreases-loop-next : goal.decreases-loop-next
-decreases-loop-next l = length l.left
+    IsReleaseBound (lent_bound l.upper) × AreReleaseIntervals (map lent_bounds (drop l.next-index l.later))
+    × (l.found.items ++ gap_specifiers (lent_bound l.upper) (map lent_bounds (drop l.next-index l.later))
+    ≡ gap_specifiers (lent_bound l.fn.first) (map lent_bounds l.later))

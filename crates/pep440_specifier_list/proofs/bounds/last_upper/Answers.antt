@@ -1,11 +1,13 @@
-use Rattle.pep440_specifier_list.proofs.ListBounds.{last_of_none, last_of_some, last_release_of}
+use Rattle.pep440_specifier.specs.Bounds.{lent_bound}
+use Rattle.pep440_specifier_list.proofs.ListBounds.{last_of_some, last_release_of}
 use Rattle.pep440_specifier_list.proofs.bounds.last_upper.Goals as goal
 
-pub returns-in-None-clause-last : goal.returns-in-None-clause-last
-returns-in-None-clause-last c = last_of_none c.args.upper.now c.args.later.now c.in-None.ensures.cases
-
 pub returns-in-Some-clause-last : goal.returns-in-Some-clause-last
-returns-in-Some-clause-last c = last_of_some c.args.upper.now c.args.later.now c.in-Some.field-0-1.now c.in-Some.last.now c.in-Some.ensures.cases.0
+returns-in-Some-clause-last c =
+    last_of_some (lent_bound c.args.upper) c.args.later.now c.in-Some.field-0-1.now c.in-Some.last.now
+    c.in-Some.ensures.cases.0
 
 pub returns-in-Some-clause-release : goal.returns-in-Some-clause-release
-returns-in-Some-clause-release c = last_release_of c.args.later.now c.in-Some.field-0-1.now c.in-Some.last.now c.in-Some.ensures.cases.0 c.requires.later
+returns-in-Some-clause-release c =
+    last_release_of c.args.later.now c.in-Some.field-0-1.now c.in-Some.last.now c.in-Some.ensures.cases.0
+    c.requires.later

@@ -1,10 +1,11 @@
 //! Operators.
 
-ghost use Rattle.std.specs.Prelude.{◌≡◌, false, IfOk, Some};
-ghost use Rattle.pep440_specifier.specs.Building.{is_star, negated};
-ghost use Rattle.pep440_specifier.specs.SpecifierErrorPrints.{operator_error_text};
-ghost use Rattle.pep440_specifier.specs.SpecifierPrint.{operator_text};
-ghost use Rattle.pep440_specifier.specs.SpecifierReading.{ReadsOperator};
+ghost use Rattle.std.specs.Prelude.{◌≡◌, false, IfOk, Some, None, Err};
+ghost use Rattle.read_outcome.specs.Outcome.{Answers};
+ghost use Rattle.pep440_operator.specs.Operators.{is_star, negated};
+ghost use Rattle.pep440_operator.specs.OperatorErrors.{operator_error_text};
+ghost use Rattle.pep440_operator.specs.OperatorPrint.{operator_text};
+ghost use Rattle.pep440_operator.specs.OperatorReading.{operator_of, told_operator, operator_reading};
 
 use std::alloc::Global;
 use std::error::Error;
@@ -57,11 +58,12 @@ impl fmt::Display for Operator {
 impl Operator {
     /// Reads an operator, as `>=`, with no white space around it; never one with a star, which follows the version.
     ///
-    /// Takes memory for the error alone, which keeps the text.
-    #[tactic(auto, unfolding(crate::specs::SpecifierReading::operator_of))]
+    /// Takes memory for the error alone, which keeps the text. Linear in the text.
+    #[tactic(auto, unfolding(crate::specs::OperatorReading::operator_of))]
     pub fn from_str(alloc: Global, text: &str) -> Result<Operator, OperatorParseError>
-        ensures operator { ReadsOperator text.now result }
+        ensures operator { Answers (λ operator. operator) told_operator result (operator_reading text.now) }
         ensures starless { IfOk result (λ operator. is_star operator ≡ false) }
+        ensures grown { result ≡ Err OperatorParseError.Memory → operator_of text.now ≡ None }
     {
         match text {
             "==" => Ok(Operator::Equal),
@@ -79,7 +81,10 @@ impl Operator {
         }
     }
 
-    /// The operator that takes what this one refuses; `!=` for `===`, and none for `~=`.
+    /// The operator of the negated sign: `!=` for `==` and `===`, `>=` for `<`, and none for `~=`.
+    ///
+    /// `==` and `!=`, with a star and without, take exactly what their negations refuse (PEP 440, "Version exclusion").
+    /// `<` and `>` do not: both `<1.0` and `>=1.0` refuse `1.0.dev0`, and both `>1.0` and `<=1.0` refuse `1.0.post1`.
     pub fn negate(self) -> Option<Operator>
         ensures { result ≡ negated self }
     {

@@ -1,0 +1,4 @@
+pub mod Operators
+pub mod OperatorPrint
+pub mod OperatorReading
+pub mod OperatorErrors

@@ -1,5 +1,0 @@
-use Rattle.pep440_specifier.proofs.Operators.{operator_found, operator_again}
-use Rattle.pep440_specifier.proofs.laws.operator_text_is_read.Goals as goal
-
-pub returns : goal.returns
-returns c = λ text operator. (operator_found text operator, operator_again text operator)

@@ -1,0 +1,57 @@
+//! The piece of a text for which the text is no list.
+
+ghost use Rattle.std.specs.Prelude.{◌≡◌, ◌-◌, take, drop};
+ghost use Rattle.std.specs.String.{string_bytes};
+ghost use Rattle.pep440_specifier_list.specs.Places.{IsPlaced};
+
+use pep440_specifier::VersionSpecifierParseError;
+
+/// The first piece between commas of a text that is no specifier: what is wrong with it, and where it stands in the text.
+#[derive(Debug, PartialEq, Eq, Drop)]
+pub struct RefusedPiece {
+    pub(crate) error: VersionSpecifierParseError,
+    pub(crate) line: String,
+    pub(crate) start: usize,
+    pub(crate) end: usize,
+    pub(crate) ghost placed: { IsPlaced (string_bytes line) start end },
+}
+
+impl RefusedPiece {
+    /// What is wrong with the piece; never want of memory.
+    pub fn error(&self) -> &VersionSpecifierParseError
+        ensures { result.now ≡ self.now.error }
+    {
+        &self.error
+    }
+
+    /// The whole text.
+    pub fn line(&self) -> &str
+        ensures { result.now ≡ string_bytes self.now.line }
+    {
+        self.line.as_str()
+    }
+
+    /// Where the piece begins in the text, in bytes.
+    pub fn start(&self) -> usize
+        ensures start { result ≡ self.now.start }
+        ensures placed { IsPlaced (string_bytes self.now.line) self.now.start self.now.end }
+    {
+        self.start
+    }
+
+    /// Where it ends.
+    pub fn end(&self) -> usize
+        ensures end { result ≡ self.now.end }
+        ensures placed { IsPlaced (string_bytes self.now.line) self.now.start self.now.end }
+    {
+        self.end
+    }
+
+    /// The piece itself. Takes no memory.
+    pub fn piece(&self) -> &str
+        ensures { result.now
+            ≡ take (self.now.end - self.now.start) (drop self.now.start (string_bytes self.now.line)) }
+    {
+        &self.line.as_str()[self.start..self.end]
+    }
+}
