@@ -32,8 +32,8 @@ member_name SysPlatform = codes "sys_platform"
 -- the members, in the order in which they are looked at
 abbrev pub members : List EnvironmentMember
 members =
-    ImplementationName ∷ ImplementationVersion ∷ OsName ∷ PlatformMachine ∷ PlatformPythonImplementation ∷ PlatformRelease ∷ PlatformSystem ∷ PlatformVersion
-    ∷ PythonFullVersion ∷ PythonVersion ∷ SysPlatform ∷ []
+    ImplementationName ∷ ImplementationVersion ∷ OsName ∷ PlatformMachine ∷ PlatformPythonImplementation
+    ∷ PlatformRelease ∷ PlatformSystem ∷ PlatformVersion ∷ PythonFullVersion ∷ PythonVersion ∷ SysPlatform ∷ []
 
 -- whether a member's text has to be a version (PEP 440, "Version scheme")
 abbrev pub is_version : EnvironmentMember → Bool
@@ -61,26 +61,32 @@ member_version value member = option_and_then version_of (member_text value memb
 unfoldable pub member_fault : Data → EnvironmentMember → Option EnvironmentError
 member_fault value member =
     if not (is_some (member_text value member)) then Some (Member member)
-    else (if is_version member && not (is_some (member_version value member)) then Some (Version member) else None)
+    else (if is_version member && not (is_some (member_version value member))
+          then Some (Version member)
+          else None)
 
 -- what is wrong with the members, in their order
 abbrev pub faults : Data → List EnvironmentError
 faults value = filter_map (member_fault value) members
 
 -- the first fault, or the environment; a version that is missing is a fault of its member
-abbrev pub first_fault_or : List EnvironmentError → Option VersionRecord → Result EnvironmentRecord EnvironmentError
+abbrev pub first_fault_or : List EnvironmentError → Option VersionRecord
+    → Result EnvironmentRecord EnvironmentError
 first_fault_or (fault ∷ others) version = Err fault
 first_fault_or [] (Some version) = Ok (record { python_full_version = version })
 first_fault_or [] None = Err (Version PythonFullVersion)
 
--- the environment that a value is, or the first that is wrong: a float anywhere, then the shape, then the members
+-- the environment that a value is, or the first that is wrong: a float anywhere, then the shape, then
+-- the members
 unfoldable pub environment_of : Data → Result EnvironmentRecord EnvironmentError
 environment_of value =
     if has_float value then Err Float
-    else (if not (is_some (as_object value)) then Err Shape else first_fault_or (faults value) (member_version value PythonFullVersion))
+    else (if not (is_some (as_object value))
+          then Err Shape
+          else first_fault_or (faults value) (member_version value PythonFullVersion))
 
--- the text of this member is looked at: there is an object without floats, the members before this one are right, and it
--- is a text
+-- the text of this member is looked at: there is an object without floats, the members before this one
+-- are right, and it is a text
 pub record IsReached (value : Data) (member : EnvironmentMember) : Type 0 where
   pub no_float : has_float value ≡ false
   pub is_object : IsTrue (is_some (as_object value))

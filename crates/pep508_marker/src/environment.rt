@@ -18,7 +18,8 @@ use std::marker::Model;
 #[tactic(auto, unfolding(crate::specs::Environment::member_fault))]
 fn text<'a>(value: &'a Value, member: EnvironmentMember) -> Result<&'a str, EnvironmentError>
     ensures ok { IfOk result (λ text. member_text (view value.entry.now) member ≡ Some text.now) }
-    ensures fine { OnOk result (is_version member ≡ false → member_fault (view value.entry.now) member ≡ None) }
+    ensures fine { OnOk result
+        (is_version member ≡ false → member_fault (view value.entry.now) member ≡ None) }
     ensures fault { IfErr result (λ fault. member_fault (view value.entry.now) member ≡ Some fault) }
     ensures named { IfErr result (λ fault. fault ≡ EnvironmentError.Member member) }
 {
@@ -40,7 +41,8 @@ fn version(
     ensures fine { OnOk result (member_fault (view value.now) member ≡ None) }
     ensures fault { IfErr result (λ error.
         IfSome (told_environment error) (λ fault. member_fault (view value.now) member ≡ Some fault)) }
-    ensures grown { result ≡ Err EnvironmentError.Memory → IsTrue (is_some (member_text (view value.now) member)) }
+    ensures grown { result ≡ Err EnvironmentError.Memory →
+        IsTrue (is_some (member_text (view value.now) member)) }
 {
     match Version::from_str(alloc, text(value, member)?) {
         Ok(version) => Ok(version),
@@ -65,15 +67,18 @@ impl Model for MarkerEnvironment {
 }
 
 impl MarkerEnvironment {
-    /// The environment that a value is: an object with the eleven members as texts, of which those on versions read
-    /// as versions. Other members are passed over.
+    /// The environment that a value is (PEP 508, "Environment Markers"): an object with the eleven
+    /// members as texts, of which those on versions read as versions. Other members are passed over.
     ///
-    /// A float anywhere is refused first, then a value that is no object, then the first member in their order that
-    /// is wrong. Goes once through the value, as deep as it nests.
+    /// A float anywhere is refused first, then a value that is no object, then the first member in
+    /// their order that is wrong. Memory is wanted only while a version is read, so never before a
+    /// fault that stands earlier. Goes once through the value, as deep as it nests.
     #[tactic(auto, unfolding(crate::specs::Environment::environment_of))]
     pub fn from_value(alloc: Global, value: &Value) -> Result<MarkerEnvironment, EnvironmentError>
-        ensures answered { Answers (λ environment. environment) told_environment result (environment_of (view value.now)) }
-        ensures grown { result ≡ Err EnvironmentError.Memory → (member : EnvironmentMember) × IsReached (view value.now) member }
+        ensures answered { Answers (λ environment. environment) told_environment result
+            (environment_of (view value.now)) }
+        ensures grown { result ≡ Err EnvironmentError.Memory →
+            (member : EnvironmentMember) × IsReached (view value.now) member }
     {
         if has_float(value) {
             return Err(EnvironmentError::Float);

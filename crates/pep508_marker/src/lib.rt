@@ -1,4 +1,5 @@
-//! Marker environments of Python packages, as PEP 508 has them: what the interpreter is that packages are chosen for.
+//! Marker environments of Python packages, as PEP 508 has them: what the interpreter is that packages
+//! are chosen for.
 //!
 //! An environment is given as a JSON value. Contracts see a `MarkerEnvironment` as an `EnvironmentRecord`.
 #![tactic(auto)]

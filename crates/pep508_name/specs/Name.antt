@@ -1,5 +1,5 @@
--- Names of packages and extras: which texts are names (PEP 508, "Names"), and the normal form of each (PEP 503,
--- "Normalized Names").
+-- Names of packages and extras: which texts are names (PEP 508, "Names"), and the normal form of each
+-- (PEP 503, "Normalized Names").
 use Rattle.std.specs.Prelude.{◌≡◌, ℕ, ◌-◌, ◌==◌, ◌&&◌, ◌||◌, Bool, true, false, if◌then◌else◌, List, [], ◌∷◌, ◌++◌, length, map, filter, codes, Option, Some, None, unwrap_or, Result}
 use Rattle.std.specs.Option.{option_map_or, ok_or}
 use Rattle.std.specs.List.{slice_get, slice_split, join_with_byte, list_all}
@@ -19,7 +19,8 @@ use Rattle.pep508_name.specs.declared.InvalidNameError.TheVariants.{Memory, Inva
 abbrev pub is_alphanumeric : ℕ → Bool
 is_alphanumeric byte = is_ascii_alphanumeric byte
 
--- whether a byte is `-`, `_` or `.`, which are all alike between the parts of a name (PEP 503, "Normalized Names")
+-- whether a byte is `-`, `_` or `.`, which are all alike between the parts of a name (PEP 503,
+-- "Normalized Names")
 abbrev pub is_separator : ℕ → Bool
 is_separator byte = byte == 45 || byte == 95 || byte == 46
 
@@ -31,9 +32,11 @@ is_name_byte byte = is_alphanumeric byte || is_separator byte
 abbrev pub is_alphanumeric_at : List ℕ → ℕ → Bool
 is_alphanumeric_at text place = option_map_or is_alphanumeric (slice_get text place) false
 
--- whether a text is a name: bytes of names, of which the first and the last are letters or digits (PEP 508, "Names")
+-- whether a text is a name: bytes of names, of which the first and the last are letters or digits (PEP
+-- 508, "Names")
 abbrev pub is_name : List ℕ → Bool
-is_name text = list_all is_name_byte text && is_alphanumeric_at text 0 && is_alphanumeric_at text (length text - 1)
+is_name text =
+    list_all is_name_byte text && is_alphanumeric_at text 0 && is_alphanumeric_at text (length text - 1)
 
 -- whether a part between two separators is not empty
 abbrev pub is_part : List ℕ → Bool
@@ -44,7 +47,8 @@ is_part (byte ∷ bytes) = true
 abbrev pub name_parts : List ℕ → List (List ℕ)
 name_parts text = filter is_part (slice_split is_separator text)
 
--- the normal form of a name: its parts in lower case, with one `-` between each two (PEP 503, "Normalized Names")
+-- the normal form of a name: its parts in lower case, with one `-` between each two (PEP 503,
+-- "Normalized Names")
 unfoldable pub normal_name : List ℕ → List ℕ
 normal_name text = map to_ascii_lowercase (join_with_byte 45 (name_parts text))
 
@@ -70,7 +74,8 @@ abbrev pub error_text : InvalidNameError → List ℕ
 error_text Memory = codes "out of memory"
 error_text (InvalidName text) =
     codes "Not a valid package or extra name: \"" ++ string_bytes text
-    ++ codes "\". Names must start and end with a letter or digit and may only contain -, _, ., and alphanumeric characters."
+    ++ codes "\". Names must start and end with a letter or digit and may only contain "
+    ++ codes "-, _, ., and alphanumeric characters."
 
 -- names are equal where they are byte by byte
 abbrev pub name_eq : List ℕ → List ℕ → Bool

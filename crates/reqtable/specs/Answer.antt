@@ -44,14 +44,19 @@ by_version a b = version_cmp a.version b.version
 
 -- the greatest candidate of a package that some lines all match, the first in the text among equals
 abbrev pub greatest_match : List RequirementLine → List Candidate → Option Candidate
-greatest_match lines candidates = first_greatest by_version (filter (λ c. all_match lines c.version) candidates)
+greatest_match lines candidates =
+    first_greatest by_version (filter (λ c. all_match lines c.version) candidates)
 
-unfoldable pub package_answer : EnvironmentRecord → List RequirementLine → List Candidate → List ℕ → Option VersionRecord
+unfoldable pub package_answer : EnvironmentRecord → List RequirementLine → List Candidate → List ℕ
+    → Option VersionRecord
 package_answer environment lines candidates name =
-    option_map (λ c. c.version) (greatest_match (filter (is_asked environment name) lines) (filter (is_candidate name) candidates))
+    option_map (λ c. c.version)
+    (greatest_match (filter (is_asked environment name) lines) (filter (is_candidate name) candidates))
 
--- the packages that have a row, each once and in the order of their names' bytes: those that a line which applies names
-pub record AreThePackages (environment : EnvironmentRecord) (lines : List RequirementLine) (packages : List (List ℕ)) : Type 0 where
+-- the packages that have a row, each once and in the order of their names' bytes: those that a line
+-- which applies names
+pub record AreThePackages (environment : EnvironmentRecord) (lines : List RequirementLine)
+    (packages : List (List ℕ)) : Type 0 where
   pub rising : IsStrictlySortedBy (slice_cmp nat_cmp) packages
   pub named : (name : List ℕ) → list_any (bytes_eq name) packages ≡ list_any (is_asked environment name) lines
 
@@ -64,11 +69,14 @@ abbrev pub row_text : List ℕ × Option VersionRecord → List ℕ
 row_text (name, outcome) = name ++ (codes " " ++ (outcome_text outcome ++ codes "\n"))
 
 -- the rows of the answer: each package with the version that is taken, if any
-abbrev pub IsAnswer : EnvironmentRecord → List RequirementLine → List Candidate → List (List ℕ × Option VersionRecord) → Type 0
+abbrev pub IsAnswer : EnvironmentRecord → List RequirementLine → List Candidate
+    → List (List ℕ × Option VersionRecord) → Type 0
 IsAnswer environment lines candidates rows =
-    (packages : List (List ℕ)) × AreThePackages environment lines packages × (rows ≡ map (λ p. (p, package_answer environment lines candidates p)) packages)
+    (packages : List (List ℕ)) × AreThePackages environment lines packages
+    × (rows ≡ map (λ p. (p, package_answer environment lines candidates p)) packages)
 
 -- the text of the answer
 abbrev pub IsCheckText : EnvironmentRecord → List RequirementLine → List Candidate → List ℕ → Type 0
 IsCheckText environment lines candidates text =
-    (rows : List (List ℕ × Option VersionRecord)) × IsAnswer environment lines candidates rows × (text ≡ flat_map row_text rows)
+    (rows : List (List ℕ × Option VersionRecord)) × IsAnswer environment lines candidates rows
+    × (text ≡ flat_map row_text rows)

@@ -36,7 +36,8 @@ impl Answer<'_> {
     ///
     /// Linear in the text.
     pub fn text(&self, alloc: Global) -> Result<String, AllocError>
-        ensures { IfOk result (λ text. string_bytes text ≡ flat_map row_text (map row_seen self.now.rows.items)) }
+        ensures { IfOk result (λ text.
+            string_bytes text ≡ flat_map row_text (map row_seen self.now.rows.items)) }
     {
         let mut text = String::new(alloc);
         for row in &self.rows {

@@ -34,7 +34,8 @@ pub fn judge<'a>(
     environment: &MarkerEnvironment,
     candidates: &'a Candidates,
 ) -> Result<Answer<'a>, AllocError>
-    ensures { IfOk result (λ answer. IsAnswer environment.now requirements.now candidates.now (map row_seen answer.rows.items)) }
+    ensures { IfOk result (λ answer.
+        IsAnswer environment.now requirements.now candidates.now (map row_seen answer.rows.items)) }
 {
     let lines = applying_lines(alloc, environment, requirements.lines())?;
     let candidates = candidates_by_package(alloc, candidates.items())?;
@@ -56,7 +57,8 @@ fn outcome<'a>(
     lines: &[&RequirementLine],
     candidates: &Groups<'a, Candidate>,
 ) -> Result<Outcome<'a>, AllocError>
-    ensures { IfOk result (λ outcome. outcome_seen outcome ≡ option_map (λ c. c.version) (greatest_match (map (λ l. l.now) lines.now) (group_of candidates.now name.now))) }
+    ensures { IfOk result (λ outcome. outcome_seen outcome ≡ option_map (λ c. c.version)
+        (greatest_match (map (λ l. l.now) lines.now) (group_of candidates.now name.now))) }
 {
     match candidates.get(name) {
         Some(candidates) => greatest(alloc, lines, candidates),
@@ -70,8 +72,10 @@ fn applying_lines<'a>(
     environment: &MarkerEnvironment,
     lines: &'a [RequirementLine],
 ) -> Result<Groups<'a, RequirementLine>, AllocError>
-    ensures lines { IfOk result (λ groups. (q : List ℕ) → group_of groups q ≡ filter (is_asked environment.now q) lines.now) }
-    ensures packages { IfOk result (λ groups. (q : List ℕ) → is_some (get_by (λ k. slice_cmp nat_cmp q k.now) groups) ≡ list_any (is_asked environment.now q) lines.now) }
+    ensures lines { IfOk result (λ groups. (q : List ℕ) →
+        group_of groups q ≡ filter (is_asked environment.now q) lines.now) }
+    ensures packages { IfOk result (λ groups. (q : List ℕ) →
+        is_some (get_by (λ k. slice_cmp nat_cmp q k.now) groups) ≡ list_any (is_asked environment.now q) lines.now) }
 {
     let mut groups: Groups<'a, RequirementLine> = BTreeMap::new(alloc);
     for line in lines {
@@ -87,7 +91,8 @@ fn candidates_by_package<'a>(
     alloc: Global,
     candidates: &'a [Candidate],
 ) -> Result<Groups<'a, Candidate>, AllocError>
-    ensures { IfOk result (λ groups. (q : List ℕ) → group_of groups q ≡ filter (is_candidate q) candidates.now) }
+    ensures { IfOk result (λ groups. (q : List ℕ) →
+        group_of groups q ≡ filter (is_candidate q) candidates.now) }
 {
     let mut groups: Groups<'a, Candidate> = BTreeMap::new(alloc);
     for candidate in candidates {
@@ -105,7 +110,8 @@ fn greatest<'a>(
     lines: &[&RequirementLine],
     candidates: &[&'a Candidate],
 ) -> Result<Outcome<'a>, AllocError>
-    ensures { IfOk result (λ outcome. outcome_seen outcome ≡ option_map (λ c. c.version) (greatest_match (map (λ l. l.now) lines.now) (map (λ c. c.now) candidates.now))) }
+    ensures { IfOk result (λ outcome. outcome_seen outcome ≡ option_map (λ c. c.version)
+        (greatest_match (map (λ l. l.now) lines.now) (map (λ c. c.now) candidates.now))) }
 {
     let mut best = Outcome::Nothing;
     for candidate in candidates {

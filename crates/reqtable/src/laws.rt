@@ -8,5 +8,7 @@ ghost use Rattle.reqtable.specs.Answer.{IsCheckText};
 
 /// Lines, candidates and an environment have one answer, and so one text of it.
 pub fn the_answer_has_one_text()
-    ensures { (environment : EnvironmentRecord) (lines : List RequirementLine) (candidates : List Candidate) (a b : List ℕ) → IsCheckText environment lines candidates a → IsCheckText environment lines candidates b → a ≡ b }
+    ensures { (environment : EnvironmentRecord) (lines : List RequirementLine) (candidates : List Candidate)
+        (a b : List ℕ) →
+        IsCheckText environment lines candidates a → IsCheckText environment lines candidates b → a ≡ b }
 {}

@@ -20,7 +20,8 @@ version_text_of body = trim_start (encode_utf8_all (after_first is_whitespace (c
 
 -- both, where there is white space
 abbrev pub parts_in : List ℕ → Option (List ℕ × List ℕ)
-parts_in body = if list_any is_whitespace (chars body) then Some (name_text body, version_text_of body) else None
+parts_in body =
+    if list_any is_whitespace (chars body) then Some (name_text body, version_text_of body) else None
 
 -- whether a name stands before the white space
 abbrev pub has_name : List ℕ → Bool

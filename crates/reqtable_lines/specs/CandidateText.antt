@@ -1,5 +1,5 @@
--- Which texts are candidate lines, in their characters: a name, white space and a version (PEP 508, "Names"; PEP 440,
--- "Version scheme"), perhaps with white space around them.
+-- Which texts are candidate lines, in their characters: a name, white space and a version (PEP 508,
+-- "Names"; PEP 440, "Version scheme"), perhaps with white space around them.
 use Rattle.std.specs.Prelude.{◌≡◌, ℕ, ◌<◌, IsTrue, List, ◌++◌, ◌∷◌, length, Some, None, encode_utf8_all}
 use Rattle.std.specs.List.{AllByRecursion, AllZip}
 use Rattle.std.specs.Char.{is_whitespace}
@@ -21,7 +21,8 @@ pub record IsBare (cs : List ℕ) : Type 0 where
   pub front : skip_leading_whitespace cs ≡ cs
   pub back : drop_trailing_whitespace cs ≡ cs
 
--- the characters of a line are a first word, white space, and more that ends in no white space, with white space around
+-- the characters of a line are a first word, white space, and more that ends in no white space, with
+-- white space around
 pub record AreItsParts (line name version : List ℕ) : Type 0 where
   pub before : List ℕ
   pub between : List ℕ

@@ -18,7 +18,10 @@ candidate_at number text = at_line number (candidate_of text)
 
 -- the candidates of a list, or where its bytes stop being UTF-8, or else its first line that is no candidate
 unfoldable pub candidates_of : List ℕ → Result (List Candidate) CandidatesError
-candidates_of bytes = if is_utf8 bytes then each_line candidate_at (text_lines bytes) else Err (NotText (utf8_valid_len bytes))
+candidates_of bytes =
+    if is_utf8 bytes
+    then each_line candidate_at (text_lines bytes)
+    else Err (NotText (utf8_valid_len bytes))
 
 -- what an error says of a text, if it is not want of memory
 abbrev pub told_candidates : CandidatesError → Option CandidatesError

@@ -43,16 +43,19 @@ behind word text = if starts_with eqb text word then Some (drop (length word) te
 -- a comparison at the front, and what follows it
 unfoldable pub comparator_at : List ℕ → Option (Comparator × List ℕ)
 comparator_at text =
-    option_or (option_map (λ rest. (Equal, rest)) (behind (codes "==") text)) (option_map (λ rest. (GreaterThanEqual, rest)) (behind (codes ">=") text))
+    option_or (option_map (λ rest. (Equal, rest)) (behind (codes "==") text))
+    (option_map (λ rest. (GreaterThanEqual, rest)) (behind (codes ">=") text))
 
 -- what stands before a quote that blanks alone follow
 abbrev pub before_quote : ℕ → List ℕ → Option (List ℕ)
 before_quote quote text =
-    if nat_lt (position_or_len (λ b. b == quote) text) (length text) && length (after_blanks (after_first (λ b. b == quote) text)) == 0
+    if nat_lt (position_or_len (λ b. b == quote) text) (length text)
+    && length (after_blanks (after_first (λ b. b == quote) text)) == 0
     then Some (before_first (λ b. b == quote) text)
     else None
 
--- what stands before the second of two single or two double quotes, from what follows a first one of each kind
+-- what stands before the second of two single or two double quotes, from what follows a first one of
+-- each kind
 abbrev pub quoted_by : Option (List ℕ) → Option (List ℕ) → Option (List ℕ)
 quoted_by (Some single) double = before_quote 39 single
 quoted_by None double = double >>= before_quote 34
@@ -63,21 +66,32 @@ in_quotes text = quoted_by (behind (codes "'") text) (behind (34 ∷ []) text)
 
 -- a comparison with a version in quotes, up to the end
 unfoldable pub comparison_by : Comparator × List ℕ → Option Comparison
-comparison_by found = in_quotes (after_blanks found.1) >>= λ inner. option_map (λ version. record { comparator = found.0; version = version }) (release_of inner)
+comparison_by found =
+    in_quotes (after_blanks found.1) >>= λ inner.
+    option_map (λ version. record { comparator = found.0; version = version }) (release_of inner)
 
 -- a comparison of `python_full_version`, up to the end
 unfoldable pub comparison_of : List ℕ → Option Comparison
-comparison_of text = behind (codes "python_full_version") text >>= λ rest. comparator_at (after_blanks rest) >>= comparison_by
+comparison_of text =
+    behind (codes "python_full_version") text >>= λ rest. comparator_at (after_blanks rest) >>= comparison_by
 
 -- nothing, or a semicolon and a comparison
 unfoldable pub marker_of : List ℕ → Option (Option Comparison)
-marker_of text = if length text == 0 then Some None else (behind (codes ";") text >>= λ rest. option_map Some (comparison_of (after_blanks rest)))
+marker_of text =
+    if length text == 0
+    then Some None
+    else (behind (codes ";") text >>= λ rest. option_map Some (comparison_of (after_blanks rest)))
 
 -- the line of a name and a comparison, with the text that follows the comparison
 unfoldable pub line_by : ℕ → List ℕ → Comparator × List ℕ → Option RequirementLine
 line_by number name found =
     release_of (take_while (is_in classes.Version) (after_blanks found.1)) >>= λ version.
-    option_map (λ marker. record { number = number; name = name; specifier = record { operator = operator_of found.0; version = version }; marker = marker })
+    option_map (λ marker. record {
+        number = number;
+        name = name;
+        specifier = record { operator = operator_of found.0; version = version };
+        marker = marker;
+    })
     (marker_of (after_blanks (after_run classes.Version (after_blanks found.1))))
 
 -- the line of a name, with the text that follows the name
@@ -87,4 +101,5 @@ line_behind number name text = comparator_at text >>= line_by number name
 -- the line that a text is, if it is one
 unfoldable pub requirement_of : ℕ → List ℕ → Option RequirementLine
 requirement_of number text =
-    name_of (take_while (is_in classes.Name) (after_blanks text)) >>= λ name. line_behind number name (after_blanks (after_run classes.Name (after_blanks text)))
+    name_of (take_while (is_in classes.Name) (after_blanks text)) >>= λ name.
+    line_behind number name (after_blanks (after_run classes.Name (after_blanks text)))

@@ -21,7 +21,8 @@ AreBlanks = AllByRecursion (λ b. b ≡ 32)
 abbrev pub IsSpaced : List ℕ → List (List ℕ) → Type 0
 IsSpaced text [] = AreBlanks text
 IsSpaced text (piece ∷ pieces) =
-    (blanks : List ℕ) × (rest : List ℕ) × (text ≡ blanks ++ (piece ++ rest)) × AreBlanks blanks × IsSpaced rest pieces
+    (blanks : List ℕ) × (rest : List ℕ) × (text ≡ blanks ++ (piece ++ rest)) × AreBlanks blanks
+    × IsSpaced rest pieces
 
 abbrev pub comparator_text : Comparator → List ℕ
 comparator_text Equal = codes "=="
@@ -44,13 +45,16 @@ pub record IsReleaseText (text : List ℕ) (version : VersionRecord) : Type 0 wh
 -- a release version between two single or two double quotes, with nothing else between them
 abbrev pub IsQuotedVersion : List ℕ → VersionRecord → Type 0
 IsQuotedVersion text version =
-    (quote : ℕ) × (inner : List ℕ) × ((quote ≡ 39) ⊎ (quote ≡ 34)) × (text ≡ quote ∷ (inner ++ quote ∷ [])) × IsReleaseText inner version
+    (quote : ℕ) × (inner : List ℕ) × ((quote ≡ 39) ⊎ (quote ≡ 34)) × (text ≡ quote ∷ (inner ++ quote ∷ []))
+    × IsReleaseText inner version
 
 -- the pieces of a marker (PEP 508, "Environment Markers"), none without one
 abbrev pub AreMarkerPieces : Option Comparison → List (List ℕ) → Type 0
 AreMarkerPieces None pieces = pieces ≡ []
 AreMarkerPieces (Some c) pieces =
-    (quoted : List ℕ) × (pieces ≡ codes ";" ∷ codes "python_full_version" ∷ comparator_text c.comparator ∷ quoted ∷ []) × IsQuotedVersion quoted c.version
+    (quoted : List ℕ)
+    × (pieces ≡ codes ";" ∷ codes "python_full_version" ∷ comparator_text c.comparator ∷ quoted ∷ [])
+    × IsQuotedVersion quoted c.version
 
 -- the text is that of the line, the line's number apart
 pub record IsRequirementLine (text : List ℕ) (line : RequirementLine) : Type 0 where

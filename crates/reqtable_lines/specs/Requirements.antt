@@ -16,9 +16,13 @@ or_not_yet number (Some line) = Ok line
 abbrev pub requirement_at : ℕ → List ℕ → Result RequirementLine RequirementsError
 requirement_at number text = or_not_yet number (requirement_of number text)
 
--- the lines of a requirements text, or where its bytes stop being UTF-8, or else its first line that is not read
+-- the lines of a requirements text, or where its bytes stop being UTF-8, or else its first line that is
+-- not read
 unfoldable pub requirements_of : List ℕ → Result (List RequirementLine) RequirementsError
-requirements_of bytes = if is_utf8 bytes then each_line requirement_at (text_lines bytes) else Err (NotText (utf8_valid_len bytes))
+requirements_of bytes =
+    if is_utf8 bytes
+    then each_line requirement_at (text_lines bytes)
+    else Err (NotText (utf8_valid_len bytes))
 
 -- what an error says of a text, if it is not want of memory
 abbrev pub told_requirements : RequirementsError → Option RequirementsError

@@ -28,7 +28,8 @@ is_blank line = list_all is_whitespace (chars line)
 unfoldable pub text_lines : List ℕ → List (ℕ × List ℕ)
 text_lines bytes =
     filter (λ l. not (is_blank l.1))
-    (enumerate_from 1 (map (λ l. without_comment (strip_carriage_return l)) (slice_split (λ b. b == 10) bytes)))
+    (enumerate_from 1
+    (map (λ l. without_comment (strip_carriage_return l)) (slice_split (λ b. b == 10) bytes)))
 
 -- a first value before others, or the first fault
 abbrev pub with_first : {A E : Type 0} → Result A E → Result (List A) E → Result (List A) E

@@ -86,15 +86,18 @@ impl Model for Candidates {
 impl Candidates {
     /// Reads a candidate list, which is UTF-8, by lines.
     ///
-    /// Lines end, have comments and are left out as in a requirements text. Each other line is a name, white space and a
-    /// version, as `numpy 1.26.4`, with white space around them or none. The version is in any spelling that PEP 440
-    /// normalizes ("Normalization"), as `v1.0-ALPHA`.
+    /// Lines end, have comments and are left out as in a requirements text. Each other line is a
+    /// name, white space and a version, as `numpy 1.26.4`, with white space around them or none. The
+    /// version is in any spelling that PEP 440 normalizes ("Normalization"), as `v1.0-ALPHA`.
     ///
-    /// The first line of another kind ends the reading, with the first thing that is wrong of its shape, its name and its
-    /// version. Time and memory grow with the length of the bytes.
+    /// The first line of another kind ends the reading, with the first thing that is wrong of its
+    /// shape, its name and its version. Its shape and its name are looked at without memory. Time
+    /// grows with the length of the bytes, memory with the candidates.
     pub fn parse(alloc: Global, bytes: &[u8]) -> Result<Candidates, CandidatesError>
-        ensures answered { Answers (λ candidates. candidates) told_candidates result (candidates_of bytes.now) }
-        ensures grown { result ≡ Err CandidatesError.Memory → IsUtf8 bytes.now × IsNameReached (text_lines bytes.now) }
+        ensures answered { Answers (λ candidates. candidates) told_candidates result
+            (candidates_of bytes.now) }
+        ensures grown { result ≡ Err CandidatesError.Memory →
+            IsUtf8 bytes.now × IsNameReached (text_lines bytes.now) }
     {
         let text = match as_text(bytes) {
             Ok(text) => text,
@@ -122,7 +125,8 @@ fn split_at_white(text: &str) -> Option<(&str, &str)>
 
 #[tactic(auto, unfolding(crate::specs::CandidateLine::candidate_of, pep508_name::specs::Name::name_of))]
 fn read_candidate(alloc: Global, number: usize, text: &str) -> Result<Candidate, CandidatesError>
-    ensures answered { Answers (λ candidate. candidate) told_candidates result (candidate_at number text.now) }
+    ensures answered { Answers (λ candidate. candidate) told_candidates result
+        (candidate_at number text.now) }
     ensures named { OnOk result (IsTrue (has_name (trim text.now))) }
     ensures grown { result ≡ Err CandidatesError.Memory → IsTrue (has_name (trim text.now)) }
 {
@@ -149,7 +153,8 @@ fn fault(number: usize, cause: CandidateFault) -> CandidatesError
 }
 
 fn read_candidates(alloc: Global, text: &str) -> Result<Vec<Candidate>, CandidatesError>
-    ensures answered { Answers (λ read. read.items) told_candidates result (each_line candidate_at (text_lines text.now)) }
+    ensures answered { Answers (λ read. read.items) told_candidates result
+        (each_line candidate_at (text_lines text.now)) }
     ensures grown { result ≡ Err CandidatesError.Memory → IsNameReached (text_lines text.now) }
 {
     let mut read = Vec::new(alloc);

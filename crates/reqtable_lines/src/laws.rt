@@ -1,4 +1,5 @@
-//! Laws over the definitions that the contracts cite. The functions do nothing: each one's contract is its law.
+//! Laws over the definitions that the contracts cite. The functions do nothing: each one's contract is
+//! its law.
 
 ghost use Rattle.std.specs.Prelude.{◌≡◌, ◌↔◌, ℕ, List, Some, Ok, Err};
 ghost use Rattle.std.specs.List.{AllZip};
@@ -29,12 +30,14 @@ pub fn requirement_line_is_read()
 /// A text is that of at most one requirement line, its number apart.
 pub fn text_is_one_requirement_line()
     ensures { (text : List ℕ) (line other : RequirementLine) →
-        IsRequirementLine text line → IsRequirementLine text other → line.number ≡ other.number → line ≡ other }
+        IsRequirementLine text line → IsRequirementLine text other →
+        line.number ≡ other.number → line ≡ other }
 {
     version_text_is_read();
 }
 
-/// A requirements text is UTF-8 of which each line that is not blank is a requirement line; these are what is read, in order.
+/// A requirements text is UTF-8 of which each line that is not blank is a requirement line; these are
+/// what is read, in order.
 pub fn requirements_are_their_lines()
     ensures { (bytes : List ℕ) (lines : List RequirementLine) →
         (requirements_of bytes ≡ Ok lines) ↔ (IsUtf8 bytes × AllZip IsNumberedLine (text_lines bytes) lines) }
@@ -45,7 +48,8 @@ pub fn requirements_are_their_lines()
 /// `NotYet` has the number of the first line that is no requirement line.
 pub fn first_line_not_read_is_named()
     ensures { (bytes : List ℕ) (number : ℕ) →
-        (requirements_of bytes ≡ Err (NotYet number)) ↔ (IsUtf8 bytes × IsFirstUnread (text_lines bytes) number) }
+        (requirements_of bytes ≡ Err (NotYet number)) ↔
+        (IsUtf8 bytes × IsFirstUnread (text_lines bytes) number) }
 {
     version_text_is_read();
 }
@@ -66,10 +70,12 @@ pub fn text_is_one_candidate_line()
     version_text_is_read();
 }
 
-/// A candidate list is UTF-8 of which each line that is not blank is a candidate's; these are what is read, in order.
+/// A candidate list is UTF-8 of which each line that is not blank is a candidate's; these are what is
+/// read, in order.
 pub fn candidates_are_their_lines()
     ensures { (bytes : List ℕ) (candidates : List Candidate) →
-        (candidates_of bytes ≡ Ok candidates) ↔ (IsUtf8 bytes × AllZip IsNumberedCandidate (text_lines bytes) candidates) }
+        (candidates_of bytes ≡ Ok candidates) ↔
+        (IsUtf8 bytes × AllZip IsNumberedCandidate (text_lines bytes) candidates) }
 {
     version_text_is_read();
 }
@@ -77,7 +83,8 @@ pub fn candidates_are_their_lines()
 /// `Line` has the number of the first line that is no candidate's, and what is wrong with it.
 pub fn first_line_at_fault_is_named()
     ensures { (bytes : List ℕ) (number : ℕ) (cause : CandidateFault) →
-        (candidates_of bytes ≡ Err (Line number cause)) ↔ (IsUtf8 bytes × IsFirstFault (text_lines bytes) number cause) }
+        (candidates_of bytes ≡ Err (Line number cause)) ↔
+        (IsUtf8 bytes × IsFirstFault (text_lines bytes) number cause) }
 {
     version_text_is_read();
 }

@@ -22,7 +22,8 @@ pub enum Comparator {
     GreaterThanEqual,
 }
 
-/// A comparison of the interpreter's full version, as `python_full_version >= '3.8'` (PEP 508, "Environment Markers").
+/// A comparison of the interpreter's full version, as `python_full_version >= '3.8'` (PEP 508,
+/// "Environment Markers").
 #[derive(Drop)]
 pub struct Comparison {
     pub comparator: Comparator,

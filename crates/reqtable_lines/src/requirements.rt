@@ -59,13 +59,15 @@ impl Model for Requirements {
 impl Requirements {
     /// Reads a requirements text, which is UTF-8, by lines.
     ///
-    /// A line ends in a line feed, and one carriage return before that belongs to the end. A `#` that stands first or
-    /// after white space begins a comment. Lines of white space alone count and are left out. Each other line is one of
-    /// `name==1.2`, `name>=1.2` and these with `; python_full_version >= '3.8'` or `==` behind them, with blanks (U+0020)
-    /// where they please (PEP 508, "Grammar"); names are in the normal form of PEP 503. Versions are of digits and dots
+    /// A line ends in a line feed, and one carriage return before that belongs to the end. A `#` that
+    /// stands first or after white space begins a comment. Lines of white space alone count and are
+    /// left out. Each other line is one of `name==1.2`, `name>=1.2` and these with
+    /// `; python_full_version >= '3.8'` or `==` behind them, with blanks (U+0020) where they please
+    /// (PEP 508, "Grammar"); names are in the normal form of PEP 503. Versions are of digits and dots
     /// alone, also between the quotes.
     ///
-    /// The first line of another kind ends the reading as `NotYet`. Time and memory grow with the length of the bytes.
+    /// The first line of another kind ends the reading as `NotYet`. Time grows with the length of the
+    /// bytes, memory with the lines that are read.
     pub fn parse(alloc: Global, bytes: &[u8]) -> Result<Requirements, RequirementsError>
         ensures { Answers (λ lines. lines) told_requirements result (requirements_of bytes.now) }
     {
@@ -95,7 +97,8 @@ fn read_line(alloc: Global, number: usize, text: &str) -> Result<RequirementLine
 }
 
 fn read_lines(alloc: Global, text: &str) -> Result<Vec<RequirementLine>, RequirementsError>
-    ensures { Answers (λ read. read.items) told_requirements result (each_line requirement_at (text_lines text.now)) }
+    ensures { Answers (λ read. read.items) told_requirements result
+        (each_line requirement_at (text_lines text.now)) }
 {
     let mut read = Vec::new(alloc);
     for (index, line) in text.split('\n').enumerate() {
