@@ -13,7 +13,8 @@ use Rattle.pep440_version.specs.VersionReading.{VersionFault, NoLeadingNumber, f
 
 -- an error that tells the fault which the reader's error tells, in this text, tells that of the reading
 pub tells : {Y : Type 0} (text : List ℕ) (error : ReadError) (told : Option VersionFault) (read : Result Y TextFault)
-    → IfSome told (λ fault. option_map (fault_in text) (told_read error) ≡ Some fault) → Tells (told_read error) read
+    → IfSome told (λ fault. option_map (fault_in text) (told_read error) ≡ Some fault) → Tells
+    (told_read error) read
     → Tells told (with_texts text read)
 tells text error None read t e = tt
 tells text errors.Memory (Some told) read t e = absurd (cc)
@@ -39,11 +40,13 @@ only_this kinds.UnexpectedEnd before rest e = absurd (cc)
 abbrev refused : (Y : Type 0) → FaultKind → ℕ → Result Y TextFault
 refused Y kind left = Err (record { kind = kind; left = left })
 
-has_kind : (Y : Type 0) (fault : TextFault) → HasNumber (refused Y fault.kind fault.left) → fault.kind ≢ kinds.NoLeadingNumber
+has_kind : (Y : Type 0) (fault : TextFault) → HasNumber (refused Y fault.kind fault.left)
+    → fault.kind ≢ kinds.NoLeadingNumber
 has_kind Y fault h = λ k. h fault.left (ap (λ (kind : FaultKind). refused Y kind fault.left) k)
 
 -- want of memory comes where a number was read
-pub grows : {Y : Type 0} (text : List ℕ) (error : ReadError) (read : Result Y TextFault) → (error ≡ errors.Memory → HasNumber read)
+pub grows : {Y : Type 0} (text : List ℕ) (error : ReadError) (read : Result Y TextFault)
+    → (error ≡ errors.Memory → HasNumber read)
     → Tells (told_read error) read → IfSome (told_read error) (λ fault. fault.kind ≢ kinds.NoLeadingNumber)
     → with_texts text read ≢ Err NoLeadingNumber
 grows text error (Ok x) h e k = λ f. cc

@@ -19,10 +19,14 @@ front_cmp [] [] more others h = refl
 front_cmp [] (y ∷ ys) more others h = absurd (omega arith)
 front_cmp (x ∷ xs) [] more others h = absurd (omega arith)
 front_cmp (x ∷ xs) (y ∷ ys) more others h =
-    before_last (slice_cmp nat_cmp x y) (key_cmp xs ys) (key_cmp more others) (key_cmp (xs ++ more) (ys ++ others))
+    before_last (slice_cmp nat_cmp x y) (key_cmp xs ys) (key_cmp more others)
+    (key_cmp (xs ++ more) (ys ++ others))
     (front_cmp xs ys more others (omega arith))
 
 pub local_last : (a b : VersionRecord)
-    → version_cmp a b ≡ ordering_then (version_cmp (without_local a) (without_local b)) (key_cmp (local_key a.local) (local_key b.local))
+    → version_cmp a b ≡ ordering_then (version_cmp (without_local a) (without_local b))
+    (key_cmp (local_key a.local) (local_key b.local))
 unfolding key_of
-local_last a b = front_cmp (key_of (without_local a)) (key_of (without_local b)) (local_key a.local) (local_key b.local) refl
+local_last a b =
+    front_cmp (key_of (without_local a)) (key_of (without_local b)) (local_key a.local)
+    (local_key b.local) refl

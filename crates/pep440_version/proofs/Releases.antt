@@ -1,5 +1,5 @@
 -- Release numbers alone, the numbers that are kept before zeros at the end, and the last number raised.
-use Rattle.std.proofs.Common.{◌≡◌, ℕ, suc, ◌+◌, ◌-◌, ◌<◌, ◌^◌, ◌==◌, ◌&&◌, ◌||◌, Bool, true, false, not, nat_lt, if◌then◌else◌, length, take, List, [], ◌∷◌, ◌++◌, Option, Some, None, refl, ap, sym, ◌∙◌, arith, max}
+use Rattle.std.proofs.Common.{◌≡◌, ℕ, ◌<◌, ◌==◌, ◌&&◌, ◌||◌, Bool, true, false, not, if◌then◌else◌, length, take, List, [], ◌∷◌, ◌++◌, Option, Some, None, refl, ap, sym, ◌∙◌, arith, max}
 use Rattle.std.specs.Prelude.{IsTrue, ◌↔◌, is_some}
 use Rattle.std.proofs.lemmas.Bool.{false≢true}
 use Rattle.std.proofs.lemmas.Bool.Decides.{nat_tests}
@@ -21,15 +21,20 @@ is_zero n true e = (grind (arith, nat_tests), refl)
 is_zero n false e = grind (arith, nat_tests)
 
 plain_fields : (release : List ℕ) (epoch : ℕ) (pre : Option Prerelease) (post dev least most : Option ℕ) (local : List Segment)
-    → (epoch == 0) && (not (is_some pre || (is_some post || (is_some dev || has_segments local))) && not (is_some least || is_some most)) ≡ true
+    → (epoch == 0) &&
+    (not (is_some pre || (is_some post || (is_some dev || has_segments local))) && not (is_some least || is_some most)) ≡ true
     → record { epoch = epoch; release = release; pre = pre; post = post; dev = dev; local = local; least = least; most = most }
     ≡ release_record release
 plain_fields release epoch None None None None None [] e =
     ap (λ (n : ℕ). record (release_record release) { epoch = n }) (is_zero epoch true e).0
-plain_fields release epoch (Some x) post dev least most local e = absurd (false≢true (is_zero epoch false e).1)
-plain_fields release epoch None (Some n) dev least most local e = absurd (false≢true (is_zero epoch false e).1)
-plain_fields release epoch None None (Some n) least most local e = absurd (false≢true (is_zero epoch false e).1)
-plain_fields release epoch None None None least most (s ∷ ss) e = absurd (false≢true (is_zero epoch false e).1)
+plain_fields release epoch (Some x) post dev least most local e =
+    absurd (false≢true (is_zero epoch false e).1)
+plain_fields release epoch None (Some n) dev least most local e =
+    absurd (false≢true (is_zero epoch false e).1)
+plain_fields release epoch None None (Some n) least most local e =
+    absurd (false≢true (is_zero epoch false e).1)
+plain_fields release epoch None None None least most (s ∷ ss) e =
+    absurd (false≢true (is_zero epoch false e).1)
 plain_fields release epoch None None None (Some n) most [] e = absurd (false≢true (is_zero epoch false e).1)
 plain_fields release epoch None None None None (Some n) [] e = absurd (false≢true (is_zero epoch false e).1)
 
@@ -42,7 +47,8 @@ only_release_is v = (
 
 -- ---- zeros at the end
 
-front_one : (x : ℕ) (xs : List ℕ) (t : Bool) → take (length (if t then [] else x ∷ [])) (x ∷ xs) ≡ if t then [] else x ∷ []
+front_one : (x : ℕ) (xs : List ℕ) (t : Bool)
+    → take (length (if t then [] else x ∷ [])) (x ∷ xs) ≡ if t then [] else x ∷ []
 front_one x xs true = refl
 front_one x xs false = refl
 
@@ -93,7 +99,8 @@ behind_front (number ∷ other ∷ front) last =
     ∙ mapped_twice (λ next. (other ∷ front) ++ next ∷ []) (λ later. number ∷ later) (raised last)
 
 -- numbers behind which a last one stands, raised where that one is
-pub raised_last : (numbers front : List ℕ) (last : ℕ) (next : Option ℕ) → numbers ≡ front ++ last ∷ [] → next ≡ raised last
+pub raised_last : (numbers front : List ℕ) (last : ℕ) (next : Option ℕ) → numbers ≡ front ++ last ∷ []
+    → next ≡ raised last
     → last_raised numbers ≡ option_map (λ n. front ++ n ∷ []) next
 raised_last numbers front last next e f =
     ap last_raised e ∙ behind_front front last ∙ ap (option_map (λ n. front ++ n ∷ [])) (sym f)

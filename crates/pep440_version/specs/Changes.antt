@@ -19,7 +19,8 @@ has_local version = has_segments version.local
 
 -- an early version: `0a0.dev0`
 abbrev pub early_version : VersionRecord
-early_version = record (release_record (0 ∷ [])) { pre = Some (record { kind = Alpha; number = 0 }); dev = Some 0 }
+early_version =
+    record (release_record (0 ∷ [])) { pre = Some (record { kind = Alpha; number = 0 }); dev = Some 0 }
 
 -- numbers, and 0 where there are none
 abbrev pub or_zero : List ℕ → List ℕ

@@ -11,8 +11,8 @@ abbrev pub version_error_text : VersionParseError → List ℕ
 version_error_text Memory = codes "out of memory"
 version_error_text Wildcard = codes "wildcards are not allowed in a version"
 version_error_text (NumberTooBig number) =
-    codes "expected number less than or equal to 18446744073709551615, but number found in \"" ++ string_bytes number
-    ++ codes "\" exceeds it"
+    codes "expected number less than or equal to 18446744073709551615, but number found in \""
+    ++ string_bytes number ++ codes "\" exceeds it"
 version_error_text NoLeadingNumber =
     codes "expected version to start with a number, but no leading ASCII digits were found"
 version_error_text LocalEmpty = codes "expected an alphanumeric ASCII segment after `+` or a separator"

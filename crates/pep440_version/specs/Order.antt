@@ -4,7 +4,7 @@ use Rattle.std.specs.Prelude.{ℕ, ◌+◌, Bool, if◌then◌else◌, ◌==◌,
 use Rattle.std.specs.List.{flat_map}
 use Rattle.std.specs.Hash as fed
 use Rattle.std.specs.declared.cmp.Ordering.{Ordering}
-use Rattle.std.specs.declared.cmp.Ordering.TheVariants.{Less, Equal, Greater}
+use Rattle.std.specs.declared.cmp.Ordering.TheVariants.{Equal}
 use Rattle.std.specs.Ordering.{ordering_then, nat_cmp, on, eq_by_cmp}
 use Rattle.std.specs.Cmp.Lexicographic.{slice_cmp}
 use Rattle.pep440_text.specs.declared.Prerelease.{Prerelease}
@@ -96,7 +96,8 @@ local_key = map segment_key
 unfoldable pub key_of : VersionRecord → List (List ℕ)
 key_of version =
     (version.epoch ∷ []) ∷ stripped version.release ∷ (class_of version ∷ []) ∷ pre_key version.pre
-    ∷ post_key version.post version.most ∷ absent_first version.least ∷ absent_last version.dev ∷ local_key version.local
+    ∷ post_key version.post version.most ∷ absent_first version.least ∷ absent_last version.dev
+    ∷ local_key version.local
 
 -- the order of keys: the first component that differs decides, and within it the first number that does
 abbrev pub key_cmp : List (List ℕ) → List (List ℕ) → Ordering

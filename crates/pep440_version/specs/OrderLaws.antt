@@ -27,7 +27,8 @@ version_eq_partial = partial_equiv_from_equiv version_eq_equiv
 
 -- the order agrees with equality
 pub version_partial_order : IsPartialOrder version_eq (as_partial_cmp version_cmp)
-version_partial_order = partial_order_from_agreeing_total version_cmp version_cmp_total (λ x y. refl) (λ x y. refl)
+version_partial_order =
+    partial_order_from_agreeing_total version_cmp version_cmp_total (λ x y. refl) (λ x y. refl)
 
 -- one that follows another ties where both do
 pub then_equal : (o p : Ordering) → ordering_then o p ≡ Equal → (o ≡ Equal) × (p ≡ Equal)
@@ -80,5 +81,6 @@ pub alike_patterns : (a b : PatternRecord) → pattern_eq a b ≡ true → fed_p
 alike_patterns a b h =
     let parts = and_parts (version_eq a.version b.version) (beq a.wildcard b.wildcard) h in
     let stars : a.wildcard ≡ b.wildcard = (booleans_Decides a.wildcard b.wildcard).0 parts.1 in
-    let keys : fed_key (key_of a.version) ≡ fed_key (key_of b.version) = alike_versions a.version b.version parts.0 in
+    let keys : fed_key (key_of a.version) ≡ fed_key (key_of b.version) =
+    alike_versions a.version b.version parts.0 in
     cc

@@ -52,7 +52,8 @@ told_version errors.Wildcard = Some Wildcard
 told_version (errors.NumberTooBig number) = Some (NumberTooBig (string_bytes number))
 told_version errors.NoLeadingNumber = Some NoLeadingNumber
 told_version errors.LocalEmpty = Some LocalEmpty
-told_version (errors.UnexpectedEnd version remaining) = Some (UnexpectedEnd (string_bytes version) (string_bytes remaining))
+told_version (errors.UnexpectedEnd version remaining) =
+    Some (UnexpectedEnd (string_bytes version) (string_bytes remaining))
 
 -- and that of a pattern
 abbrev pub told_pattern : VersionPatternParseError → Option VersionFault

@@ -19,7 +19,8 @@ pub fn key_decides()
 /// Zeros at the end of a release change neither order nor equality nor hash, as `1.0` is `1`: the keys are the same.
 /// They do change the print.
 pub fn end_zeros_change_nothing()
-    ensures key { (version : VersionRecord) (count : ℕ) → key_of (with_end_zeros count version) ≡ key_of version }
+    ensures key { (version : VersionRecord) (count : ℕ)
+        → key_of (with_end_zeros count version) ≡ key_of version }
     ensures order { (version other : VersionRecord) (count : ℕ)
         → version_cmp (with_end_zeros count version) other ≡ version_cmp version other }
     ensures equality { (version : VersionRecord) (count : ℕ)

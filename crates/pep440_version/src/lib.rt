@@ -18,6 +18,3 @@ pub use pattern::VersionPattern;
 pub use pep440_text::{LocalSegment, Prerelease, PrereleaseKind};
 pub use read_outcome::FromValueError;
 pub use version::Version;
-
-#[cfg(test)]
-mod tests;

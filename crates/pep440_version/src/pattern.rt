@@ -31,7 +31,8 @@ impl Model for VersionPattern {
 
     ghost view = { λ p. record { version = p.version; wildcard = p.wildcard } };
 
-    ghost invariant = { λ p. p.wildcard ≡ true → p.version ≡ epoch_record p.version.epoch p.version.release };
+    ghost invariant = { λ p. p.wildcard ≡ true
+        → p.version ≡ epoch_record p.version.epoch p.version.release };
 }
 
 impl VersionPattern {

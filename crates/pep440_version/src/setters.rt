@@ -134,7 +134,8 @@ impl Version {
     /// The version with the last of its release numbers raised by one, as `1.3` of `1.2`; `None` where that number is
     /// `u64::MAX`. Takes no memory; its cost is constant.
     pub fn with_last_raised(mut self) -> Option<Version>
-        ensures { result ≡ option_map (λ numbers. record self { release = numbers }) (last_raised self.release) }
+        ensures { result
+            ≡ option_map (λ numbers. record self { release = numbers }) (last_raised self.release) }
     {
         let last = self.release.pop()?;
         match raised(last) {

@@ -25,9 +25,11 @@ impl Version {
         alloc: Global,
         value: &Value,
     ) -> Result<Version, FromValueError<VersionParseError>>
-        ensures answered { ReadsText (λ text read. Answers (λ version. version) told_version read (version_reading text))
+        ensures answered { ReadsText
+            (λ text read. Answers (λ version. version) told_version read (version_reading text))
             (as_str (view value.now)) result }
-        ensures grown { ReadsText (λ text read. read ≡ Err errors.Memory → version_reading text ≢ Err NoLeadingNumber)
+        ensures grown { ReadsText
+            (λ text read. read ≡ Err errors.Memory → version_reading text ≢ Err NoLeadingNumber)
             (as_str (view value.now)) result }
     {
         let Some(text) = value.as_str() else {

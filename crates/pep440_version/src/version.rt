@@ -34,7 +34,16 @@ impl Model for Version {
 
     ghost Value = { VersionRecord };
 
-    ghost view = { λ v. record { epoch = v.epoch; release = v.release.items; pre = v.pre; post = v.post; dev = v.dev; local = map segment_of v.local.items; least = v.least; most = v.most } };
+    ghost view = { λ v. record {
+      epoch = v.epoch;
+      release = v.release.items;
+      pre = v.pre;
+      post = v.post;
+      dev = v.dev;
+      local = map segment_of v.local.items;
+      least = v.least;
+      most = v.most;
+    } };
 
     ghost invariant = { λ v. 0 < length v.release.items };
 }
