@@ -9,7 +9,8 @@ use Rattle.std.specs.Ordering.{ordering_then, ordering_reverse, is_lt, is_gt}
 use Rattle.version_ranges.specs.Point.{Point, BelowAll, At, JustAbove, point_cmp, points_total}
 use Rattle.pep440_version.specs.Record.{VersionRecord, release_record}
 use Rattle.pep440_version.specs.Changes.{is_prerelease}
-use Rattle.pep440_version.specs.Order.{version_cmp, version_cmp_total}
+use Rattle.pep440_version.specs.Order.{version_cmp}
+use Rattle.pep440_version.specs.OrderLaws.{version_cmp_total}
 use Rattle.pep440_operator.specs.declared.operator.Operator.{Operator}
 use Rattle.pep440_operator.specs.declared.operator.Operator.TheVariants as operators
 use Rattle.pep440_operator.specs.Operators.{negated}

@@ -8,7 +8,8 @@ use Rattle.pep440_text.specs.declared.Prerelease.{Prerelease}
 use Rattle.pep440_version.specs.Record.{Segment, VersionRecord}
 use Rattle.pep440_version.specs.Order.{stripped, padded_cmp, suffix_class, class_below, absent_first}
 use Rattle.pep440_version.specs.Order.{absent_last, pre_key, post_key, segment_key, key_of, key_cmp}
-use Rattle.pep440_version.specs.Order.{version_cmp, version_cmp_total}
+use Rattle.pep440_version.specs.Order.{version_cmp}
+use Rattle.pep440_version.specs.OrderLaws.{version_cmp_total}
 use Rattle.pep440_version.proofs.Padded.{padded_is}
 use Rattle.pep440_specifier.specs.Matching.{same_release}
 use Rattle.pep440_range.specs.Agreement.{IsSaid}

@@ -13,7 +13,8 @@ use Rattle.pep440_text.specs.declared.Prerelease.{Prerelease}
 use Rattle.pep440_version.specs.Record.{Segment, VersionRecord}
 use Rattle.pep440_version.specs.Changes.{is_prerelease}
 use Rattle.pep440_version.specs.Order.{kind_rank, pre_key, post_key, absent_last, segment_key}
-use Rattle.pep440_version.specs.Order.{version_cmp, version_cmp_total, key_cmp}
+use Rattle.pep440_version.specs.Order.{version_cmp, key_cmp}
+use Rattle.pep440_version.specs.OrderLaws.{version_cmp_total}
 use Rattle.pep440_operator.specs.declared.operator.Operator.TheVariants as operators
 use Rattle.pep440_range.specs.Agreement.{IsSaid}
 use Rattle.pep440_range.specs.Numbers.{raised}

@@ -8,7 +8,8 @@ use Rattle.std.specs.Ordering.{ordering_then}
 use Rattle.std.specs.declared.cmp.Ordering.TheVariants.{Greater}
 use Rattle.version_ranges.specs.Point.{Point, BelowAll, At, JustAbove, point_cmp}
 use Rattle.pep440_version.specs.Record.{VersionRecord, release_record}
-use Rattle.pep440_version.specs.Order.{key_of, key_cmp, same_key, before_stripped, stripped, version_cmp}
+use Rattle.pep440_version.specs.Order.{key_of, key_cmp, before_stripped, stripped, version_cmp}
+use Rattle.pep440_version.specs.OrderLaws.{same_key}
 use Rattle.pep440_version.specs.Order.{version_eq}
 use Rattle.pep440_specifier.specs.Bounds.{next_minor, equals_release}
 use Rattle.pep440_range.specs.Numbers.{last_raised}

@@ -6,7 +6,8 @@ use Rattle.std.specs.declared.ops.Bound.TheVariants.{Included, Excluded}
 use Rattle.std.specs.Ordering.{ordering_then, is_lt, is_gt, is_ge}
 use Rattle.version_ranges.specs.Point.{At}
 use Rattle.pep440_version.specs.Record.{VersionRecord, release_record}
-use Rattle.pep440_version.specs.Order.{padded_cmp, version_cmp, version_cmp_total}
+use Rattle.pep440_version.specs.Order.{padded_cmp, version_cmp}
+use Rattle.pep440_version.specs.OrderLaws.{version_cmp_total}
 use Rattle.pep440_operator.specs.declared.operator.Operator.{Operator}
 use Rattle.pep440_operator.specs.declared.operator.Operator.TheVariants as operators
 use Rattle.pep440_specifier.specs.Matching.{begins_padded, without_last, same_release, matches}

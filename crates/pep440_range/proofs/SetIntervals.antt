@@ -10,7 +10,8 @@ use Rattle.version_ranges.specs.Point.{Point, BelowAll, At, JustAbove, point_cmp
 use Rattle.version_ranges.specs.Turns.{reaches, Rising}
 use Rattle.version_ranges.specs.Bounds.{starts_by, goes_on_to, lower_bound_at, upper_bound_at, intervals}
 use Rattle.pep440_version.specs.Record.{VersionRecord}
-use Rattle.pep440_version.specs.Order.{version_cmp, version_cmp_total}
+use Rattle.pep440_version.specs.Order.{version_cmp}
+use Rattle.pep440_version.specs.OrderLaws.{version_cmp_total}
 use Rattle.pep440_specifier_list.specs.ListBounds.{Interval}
 use Rattle.pep440_range.specs.Ranges.{PointTest}
 use Rattle.pep440_range.specs.Intervals.{AreBehind}

@@ -6,7 +6,8 @@ use Rattle.std.specs.Ordering.{ordering_then, nat_cmp, is_eq, is_lt, is_gt, is_g
 use Rattle.std.specs.Cmp.{unsigned_ties, nat_cmp_total}
 use Rattle.version_ranges.specs.Point.{At}
 use Rattle.pep440_version.specs.Record.{VersionRecord}
-use Rattle.pep440_version.specs.Order.{padded_cmp, version_cmp, version_cmp_total, key_cmp}
+use Rattle.pep440_version.specs.Order.{padded_cmp, version_cmp, key_cmp}
+use Rattle.pep440_version.specs.OrderLaws.{version_cmp_total}
 use Rattle.pep440_specifier.specs.Matching.{begins_padded, has_front, without_last}
 use Rattle.pep440_range.specs.Numbers.{last_raised}
 use Rattle.pep440_range.specs.Ranges.{PointTest, up_to, first_of, star_range, compatible_range}

@@ -12,7 +12,8 @@ use Rattle.std.specs.Ordering.{is_lt}
 use Rattle.std.specs.List.{AllZip, AllByRecursion, join_with_byte, filter}
 use Rattle.std.specs.List.Sorted.{ties}
 use Rattle.std.specs.Str.{IsUtf8, IsCharBoundary, chars}
-use Rattle.pep440_version.specs.Order.{version_cmp, version_cmp_total}
+use Rattle.pep440_version.specs.Order.{version_cmp}
+use Rattle.pep440_version.specs.OrderLaws.{version_cmp_total}
 use Rattle.pep440_operator.specs.declared.operator.Operator.{Operator}
 use Rattle.pep440_operator.specs.declared.operator.Operator.TheVariants as operators
 use Rattle.pep440_specifier.specs.Matching.{SpecifierRecord}

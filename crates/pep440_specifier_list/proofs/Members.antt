@@ -7,7 +7,8 @@ use Rattle.std.specs.Cmp.{tied_itself}
 use Rattle.std.specs.List.{AllByRecursion, filter}
 use Rattle.std.specs.List.Sorted.{ties}
 use Rattle.std.specs.Ordering.{is_lt}
-use Rattle.pep440_version.specs.Order.{version_cmp, version_cmp_total}
+use Rattle.pep440_version.specs.Order.{version_cmp}
+use Rattle.pep440_version.specs.OrderLaws.{version_cmp_total}
 use Rattle.pep440_specifier.specs.Matching.{SpecifierRecord}
 use Rattle.pep440_specifier.specs.SpecifierReading.{specifier_of}
 use Rattle.pep440_specifier_list.specs.Lists.{IsInOrder}

@@ -1,6 +1,6 @@
 use Rattle.std.proofs.Common.{◌≡◌, ◌∙◌, ◌++◌, ◌∷◌, [], ◌+◌, List, Bool, sym, ap, subst, map, filter, take, option_map}
 use Rattle.std.proofs.lemmas.List.{map_more, take_all}
-use Rattle.pep440_rs.specs.Order.{version_cmp_total}
+use Rattle.pep440_rs.specs.OrderLaws.{version_cmp_total}
 use Rattle.std.specs.Cmp.{IsTotalOrder, on_total}
 use Rattle.reqtable_lines.specs.declared.candidates.Candidate.{Candidate}
 use Rattle.reqtable.specs.Answer.{by_version, all_match, first_greatest}
