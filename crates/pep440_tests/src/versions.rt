@@ -1,6 +1,6 @@
 //! Versions, patterns and their errors.
 
-use pep440_version::{
+use pep440_rs::{
     FromValueError, LocalSegment, Prerelease, PrereleaseKind, Version, VersionParseError,
     VersionPattern, VersionPatternParseError,
 };
@@ -170,18 +170,32 @@ fn changes_parts(rt: HostRuntime) -> Result<(), Fail> {
 #[test]
 fn knows_release_numbers_alone(rt: HostRuntime) -> Result<(), Fail> {
     let alloc = rt.alloc();
-    for (text, alone) in [("1.2", true), ("1!1.2", false), ("1.2+x", false), ("1.2.dev0", false)] {
+    for (text, alone) in [
+        ("1.2", true),
+        ("1!1.2", false),
+        ("1.2+x", false),
+        ("1.2.dev0", false),
+    ] {
         let version = Version::from_str(alloc, text)?;
         assert_eq!(rt; version.is_only_release(), alone, "at {text}");
     }
-    assert!(rt; !Version::new(alloc, &[1])?.with_max(Some(0)).is_only_release());
+    assert!(rt;
+        !Version::new(alloc, &[1])?
+            .with_max(Some(0))
+            .is_only_release()
+    );
     Ok(())
 }
 
 #[test]
 fn drops_end_zeros(rt: HostRuntime) -> Result<(), Fail> {
     let alloc = rt.alloc();
-    for (text, print) in [("1.2.0.0", "1.2"), ("0.0", "0"), ("1.0.dev0", "1.dev0"), ("0.1", "0.1")] {
+    for (text, print) in [
+        ("1.2.0.0", "1.2"),
+        ("0.0", "0"),
+        ("1.0.dev0", "1.dev0"),
+        ("0.1", "0.1"),
+    ] {
         let version = Version::from_str(alloc, text)?.without_end_zeros();
         assert_eq!(rt; version.to_string(alloc)?.as_str(), print);
     }
