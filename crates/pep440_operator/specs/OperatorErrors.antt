@@ -8,4 +8,5 @@ use Rattle.pep440_operator.specs.declared.operator.OperatorParseError.TheVariant
 abbrev pub operator_error_text : OperatorParseError → List ℕ
 operator_error_text Memory = codes "out of memory"
 operator_error_text (Unknown text) =
-    codes "no such comparison operator \"" ++ string_bytes text ++ codes "\", must be one of ~= == != <= >= < > ==="
+    codes "no such comparison operator \"" ++ string_bytes text
+    ++ codes "\", must be one of ~= == != <= >= < > ==="

@@ -1,8 +1,10 @@
 -- What operators print (PEP 440, "Version specifiers").
 use Rattle.std.specs.Prelude.{ℕ, codes, List, []}
 use Rattle.pep440_operator.specs.declared.operator.Operator.{Operator}
-use Rattle.pep440_operator.specs.declared.operator.Operator.TheVariants.{
-  Equal, EqualStar, ExactEqual, NotEqual, NotEqualStar, TildeEqual, LessThan, LessThanEqual, GreaterThan, GreaterThanEqual}
+use Rattle.pep440_operator.specs.declared.operator.Operator.TheVariants.{Equal, EqualStar, ExactEqual}
+use Rattle.pep440_operator.specs.declared.operator.Operator.TheVariants.{NotEqual, NotEqualStar, TildeEqual}
+use Rattle.pep440_operator.specs.declared.operator.Operator.TheVariants.{LessThan, LessThanEqual}
+use Rattle.pep440_operator.specs.declared.operator.Operator.TheVariants.{GreaterThan, GreaterThanEqual}
 
 -- an operator, without the star, which follows the version
 abbrev pub operator_text : Operator → List ℕ
@@ -29,4 +31,3 @@ star_text LessThan = []
 star_text LessThanEqual = []
 star_text GreaterThan = []
 star_text GreaterThanEqual = []
-

@@ -9,5 +9,6 @@ ghost use Rattle.pep440_operator.specs.OperatorReading.{operator_of};
 /// A text is read as an operator exactly where it is that operator's print; a star is no part of it.
 pub fn operator_text_is_read()
     ensures { (text : List ℕ) (operator : Operator)
-        → (operator_of text ≡ Some operator) ↔ ((is_star operator ≡ false) × (operator_text operator ≡ text)) }
+        → (operator_of text ≡ Some operator)
+        ↔ ((is_star operator ≡ false) × (operator_text operator ≡ text)) }
 {}

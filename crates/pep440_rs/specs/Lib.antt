@@ -19,12 +19,14 @@ pub use Rattle.pep440_specifier.specs.SpecifierOrder
 pub use Rattle.pep440_specifier.specs.SpecifierText
 pub use Rattle.pep440_specifier.specs.SpecifierReading
 pub use Rattle.pep440_specifier.specs.SpecifierHash
+pub use Rattle.pep440_specifier.specs.SpecifierOrderLaws
 pub use Rattle.pep440_specifier.specs.SpecifierErrorPrints
 pub use Rattle.pep440_specifier_list.specs.Lists
 pub use Rattle.pep440_specifier_list.specs.ListText
 pub use Rattle.pep440_specifier_list.specs.Separated
 pub use Rattle.pep440_specifier_list.specs.ListOrder
 pub use Rattle.pep440_specifier_list.specs.ListHash
+pub use Rattle.pep440_specifier_list.specs.ListOrderLaws
 pub use Rattle.pep440_specifier_list.specs.Refusals
 pub use Rattle.pep440_specifier_list.specs.ListReading
 pub use Rattle.pep440_specifier_list.specs.ListErrors

@@ -1,26 +1,23 @@
 -- A text that is cut before the first character that passes a test.
-use Rattle.std.proofs.Common.{
-  ◌≡◌, ℕ, ◌+◌, ◌<◌, ◌≤◌, Bool, true, false, not, ◌==◌, cond, if◌then◌else◌, List, [], ◌∷◌, ◌++◌, length, take,
-  drop, Some, None, Result, Ok, Err, refl, ap, sym, ◌∙◌, arith}
+use Rattle.std.proofs.Common.{◌≡◌, ℕ, ◌+◌, ◌<◌, ◌≤◌, Bool, true, false, not, ◌==◌, cond, if◌then◌else◌, List}
+use Rattle.std.proofs.Common.{[], ◌∷◌, ◌++◌, length, take, drop, Some, None, Result, Ok, Err, refl, ap, sym}
+use Rattle.std.proofs.Common.{◌∙◌, arith}
 use Rattle.std.proofs.Math.Seq.{take-append_seam}
 use Rattle.std.proofs.lemmas.Bool.Decides.{nat_tests}
 use Rattle.std.proofs.lemmas.List.{take-append-drop, length-take-le}
 use Rattle.std.proofs.lemmas.List.Prefix.{front_rest}
-use Rattle.std.proofs.lemmas.Str.{
-  encodes-chars, chars-append, chars-nil, chars_from_encodes, chars_past_char, length-le-encodes,
-  IsUtf8-take, IsUtf8-drop}
+use Rattle.std.proofs.lemmas.Str.{encodes-chars, chars-append, chars-nil, chars_from_encodes}
+use Rattle.std.proofs.lemmas.Str.{chars_past_char, length-le-encodes, IsUtf8-take, IsUtf8-drop}
 use Rattle.std.specs.List.{prefix_len, position_or_len}
 use Rattle.std.specs.Str.{chars, encode_utf8_all, IsUtf8, NonePass, trim_start, skip_leading_whitespace}
 use Rattle.std.specs.Str.Pattern.{FindsBy, MatchBeginsAt}
-use Rattle.pep440_specifier.specs.SpecifierReading.{
-  cut_at, front_in, Reading, InvalidTrailing, ended, built_before}
+use Rattle.pep440_specifier.specs.SpecifierReading.{cut_at, front_in, Reading, InvalidTrailing, ended}
+use Rattle.pep440_specifier.specs.SpecifierReading.{built_before}
 use Rattle.std.specs.Result.{result_ok}
 use Rattle.pep440_specifier.specs.Matching.{SpecifierRecord}
-use Rattle.pep440_specifier.specs.declared.build_error.VersionSpecifierBuildError.{
-  VersionSpecifierBuildError}
+use Rattle.pep440_specifier.specs.declared.build_error.VersionSpecifierBuildError.{VersionSpecifierBuildError}
 use Rattle.pep440_operator.specs.declared.operator.OperatorParseError.TheVariants as operators
-use Rattle.pep440_specifier.specs.declared.parse_error.VersionSpecifierParseError.{
-  VersionSpecifierParseError}
+use Rattle.pep440_specifier.specs.declared.parse_error.VersionSpecifierParseError.{VersionSpecifierParseError}
 use Rattle.pep440_specifier.specs.declared.parse_error.VersionSpecifierParseError.TheVariants as errors
 
 -- the characters of a text behind the white space at its front
@@ -96,12 +93,12 @@ nonempty (c ∷ cs) h = omega arith
 
 -- characters that are left are trailing
 trailing_by : (cs : List ℕ) (specifier : SpecifierRecord) → 0 < length cs
-  → ended cs specifier ≡ Err (InvalidTrailing (encode_utf8_all cs))
+    → ended cs specifier ≡ Err (InvalidTrailing (encode_utf8_all cs))
 trailing_by [] specifier h = absurd (omega arith)
 trailing_by (c ∷ cs) specifier h = refl
 
 left_over : (text : List ℕ) (specifier : SpecifierRecord) → IsUtf8 text → 0 < length text
-  → ended (chars text) specifier ≡ Err (InvalidTrailing text)
+    → ended (chars text) specifier ≡ Err (InvalidTrailing text)
 left_over text specifier u h =
     let same : encode_utf8_all (chars text) ≡ text = encodes-chars text u in
     let e : length (encode_utf8_all (chars text)) ≡ length text = ap length same in
@@ -118,17 +115,17 @@ more_than_none (b ∷ bs) h = omega arith
 
 -- what is left behind a pattern that makes a specifier
 pub left_behind : (left rest : List ℕ) (made : Result SpecifierRecord VersionSpecifierBuildError)
-  (specifier : SpecifierRecord) → made ≡ Ok specifier → IsUtf8 rest
-  → chars rest ≡ skip_leading_whitespace (chars left) → false ≡ (length rest == 0)
-  → built_before (chars left) made ≡ Err (InvalidTrailing rest)
+    (specifier : SpecifierRecord) → made ≡ Ok specifier → IsUtf8 rest
+    → chars rest ≡ skip_leading_whitespace (chars left) → false ≡ (length rest == 0)
+    → built_before (chars left) made ≡ Err (InvalidTrailing rest)
 left_behind left rest made specifier e u s h =
     ap (built_before (chars left)) e ∙ ap (λ cs. ended cs specifier) (sym s)
     ∙ left_over rest specifier u (more_than_none rest h)
 
 pub none_behind : (left rest : List ℕ) (made : Result SpecifierRecord VersionSpecifierBuildError)
-  (specifier : SpecifierRecord) → made ≡ Ok specifier
-  → chars rest ≡ skip_leading_whitespace (chars left) → true ≡ (length rest == 0)
-  → built_before (chars left) made ≡ Ok specifier
+    (specifier : SpecifierRecord) → made ≡ Ok specifier
+    → chars rest ≡ skip_leading_whitespace (chars left) → true ≡ (length rest == 0)
+    → built_before (chars left) made ≡ Ok specifier
 none_behind left rest made specifier e s h =
     ap (built_before (chars left)) e
     ∙ ap (λ cs. ended cs specifier) (sym s ∙ ap chars (empty_is rest h) ∙ chars-nil)

@@ -1,7 +1,7 @@
 -- What is read of a text is the specifier that the grammar gives it.
-use Rattle.std.proofs.Common.{
-  ◌≡◌, ℕ, ◌+◌, ◌<◌, ◌==◌, ◌↔◌, Bool, true, false, not, cond, if◌then◌else◌, IsTrue, List, [], ◌∷◌, ◌++◌, length,
-  take, drop, Option, Some, None, Result, Ok, Err, suc, refl, ap, sym, subst, ◌∙◌, arith}
+use Rattle.std.proofs.Common.{◌≡◌, ℕ, ◌+◌, ◌<◌, ◌==◌, ◌↔◌, Bool, true, false, not, cond, if◌then◌else◌}
+use Rattle.std.proofs.Common.{IsTrue, List, [], ◌∷◌, ◌++◌, length, take, drop, Option, Some, None, Result}
+use Rattle.std.proofs.Common.{Ok, Err, suc, refl, ap, sym, subst, ◌∙◌, arith}
 use Rattle.std.proofs.Math.Seq.{take-append_seam}
 use Rattle.std.proofs.lemmas.Bool.Decides.{nat_tests}
 use Rattle.std.proofs.lemmas.List.{take-append-drop, append-nil}
@@ -17,19 +17,18 @@ use Rattle.pep440_version.specs.Text.{IsPatternText}
 use Rattle.pep440_version.specs.VersionReading.{VersionFault, pattern_reading}
 use Rattle.pep440_version.proofs.Found.{is_pattern, pattern_found}
 use Rattle.pep440_operator.specs.declared.operator.Operator.{Operator}
-use Rattle.pep440_specifier.specs.declared.build_error.VersionSpecifierBuildError.{
-  VersionSpecifierBuildError}
+use Rattle.pep440_specifier.specs.declared.build_error.VersionSpecifierBuildError.{VersionSpecifierBuildError}
 use Rattle.pep440_specifier.specs.Matching.{SpecifierRecord}
 use Rattle.pep440_specifier.specs.Building.{built_of_pattern}
 use Rattle.pep440_operator.specs.OperatorPrint.{operator_text}
 use Rattle.pep440_specifier.specs.SpecifierText.{AreSpaces, IsSpecifierText}
-use Rattle.pep440_operator.specs.OperatorReading.{
-  ends_operator, operator_of, operator_or_text, operator_reading}
-use Rattle.pep440_specifier.specs.SpecifierReading.{
-  front_in, Reading, ended, built_before, beside_pattern, before_version, behind_operator, beside_operator,
-  before_operator, specifier_reading, specifier_of}
-use Rattle.pep440_operator.proofs.Operators.{
-  operator_found, operator_again, operator_characters, operator_nonempty, operator_ascii, operator_unspaced}
+use Rattle.pep440_operator.specs.OperatorReading.{ends_operator, operator_of, operator_or_text}
+use Rattle.pep440_operator.specs.OperatorReading.{operator_reading}
+use Rattle.pep440_specifier.specs.SpecifierReading.{front_in, Reading, ended, built_before, beside_pattern}
+use Rattle.pep440_specifier.specs.SpecifierReading.{before_version, behind_operator, beside_operator}
+use Rattle.pep440_specifier.specs.SpecifierReading.{before_operator, specifier_reading, specifier_of}
+use Rattle.pep440_operator.proofs.Operators.{operator_found, operator_again, operator_characters}
+use Rattle.pep440_operator.proofs.Operators.{operator_nonempty, operator_ascii, operator_unspaced}
 use Rattle.pep440_specifier.proofs.PatternTexts.{AreAscii, Starts, mapped, pattern_ascii, pattern_starts}
 
 -- patterns are read as their grammar says
@@ -179,9 +178,9 @@ built_by left (Ok one) specifier h = let e = ended_by (skip_leading_whitespace l
 built_by left (Err error) specifier h = absurd (cc)
 
 pattern_by : (operator : Operator) (left : List ℕ) (read : Result PatternRecord VersionFault)
-  (specifier : SpecifierRecord) → beside_pattern operator left read ≡ Ok specifier
-  → (pattern : PatternRecord) × (read ≡ Ok pattern) × (built_of_pattern operator pattern ≡ Ok specifier)
-  × (skip_leading_whitespace left ≡ [])
+    (specifier : SpecifierRecord) → beside_pattern operator left read ≡ Ok specifier
+    → (pattern : PatternRecord) × (read ≡ Ok pattern) × (built_of_pattern operator pattern ≡ Ok specifier)
+    × (skip_leading_whitespace left ≡ [])
 pattern_by operator left (Err fault) specifier h = absurd (cc)
 pattern_by operator left (Ok pattern) specifier h =
     let b = built_by left (built_of_pattern operator pattern) specifier h in (pattern, refl, b.0, b.1)
@@ -193,19 +192,19 @@ version_by operator None specifier h = absurd (cc)
 version_by operator (Some both) specifier h = (both, refl, h)
 
 operator_by : (left : List ℕ) (read : Result Operator (List ℕ)) (specifier : SpecifierRecord)
-  → beside_operator left read ≡ Ok specifier
-  → (operator : Operator) × (read ≡ Ok operator) × (behind_operator operator left ≡ Ok specifier)
+    → beside_operator left read ≡ Ok specifier
+    → (operator : Operator) × (read ≡ Ok operator) × (behind_operator operator left ≡ Ok specifier)
 operator_by left (Err text) specifier h = absurd (cc)
 operator_by left (Ok operator) specifier h = (operator, refl, h)
 
 -- a text that is read as an operator is one
 operator_is : (text : List ℕ) (found : Option Operator) (operator : Operator)
-  → operator_or_text text found ≡ Ok operator → found ≡ Some operator
+    → operator_or_text text found ≡ Ok operator → found ≡ Some operator
 operator_is text None operator h = absurd (cc)
 operator_is text (Some one) operator h = cc
 
 pattern_is : (read : Result PatternRecord VersionFault) (pattern : PatternRecord)
-  → result_ok read ≡ Some pattern → read ≡ Ok pattern
+    → result_ok read ≡ Some pattern → read ≡ Ok pattern
 pattern_is (Ok one) pattern h = ap Ok (some_same one pattern h)
 pattern_is (Err fault) pattern h = absurd (cc)
 

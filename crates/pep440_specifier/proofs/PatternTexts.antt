@@ -1,18 +1,19 @@
 -- The bytes of a pattern's text: ASCII, and where no white space stands in it, `v` or a digit first.
-use Rattle.std.proofs.Common.{
-  ◌≡◌, ℕ, ◌<◌, ◌&&◌, nat_lt, inl, inr, Bool, true, false, cond, IsTrue, List, [], ◌∷◌, ◌++◌, length, map, codes,
-  Option, Some, None, refl, ap, sym, subst, ◌∙◌, arith}
+use Rattle.std.proofs.Common.{◌≡◌, ℕ, ◌<◌, ◌&&◌, nat_lt, inl, inr, Bool, true, false, cond, IsTrue, List, []}
+use Rattle.std.proofs.Common.{◌∷◌, ◌++◌, length, map, codes, Option, Some, None, refl, ap, sym, subst, ◌∙◌}
+use Rattle.std.proofs.Common.{arith}
 use Rattle.std.proofs.lemmas.Bool.Decides.{nat_tests}
-use Rattle.std.specs.Char.{
-  is_whitespace, is_ascii_whitespace, is_ascii_alphanumeric, to_ascii_lowercase, digit_value}
+use Rattle.std.specs.Char.{is_whitespace, is_ascii_whitespace, is_ascii_alphanumeric, to_ascii_lowercase}
+use Rattle.std.specs.Char.{digit_value}
 use Rattle.std.specs.List.{AllByRecursion, AllZip, join_with_byte}
 use Rattle.std.specs.Str.Parse.{AllDigits}
 use Rattle.pep440_text.specs.declared.Prerelease.{Prerelease}
 use Rattle.pep440_version.specs.Record.{Segment, VersionRecord, PatternRecord}
-use Rattle.pep440_version.specs.Text.{
-  Front, Optional, AreWhite, IsLetterV, IsNumber, IsEpoch, IsRelease, is_separator, IsSeparatorOrNone,
-  IsNumberOrNone, IsOneOf, IsSuffix, pre_words, post_words, dev_words, IsPre, IsPost, IsDev, IsSegment,
-  AreSegments, IsLocalOrNone, IsHead, IsVersionText, IsStarText, IsPatternText}
+use Rattle.pep440_version.specs.Text.{Front, Optional, AreWhite, IsLetterV, IsNumber, IsEpoch, IsRelease}
+use Rattle.pep440_version.specs.Text.{is_separator, IsSeparatorOrNone, IsNumberOrNone, IsOneOf, IsSuffix}
+use Rattle.pep440_version.specs.Text.{pre_words, post_words, dev_words, IsPre, IsPost, IsDev, IsSegment}
+use Rattle.pep440_version.specs.Text.{AreSegments, IsLocalOrNone, IsHead, IsVersionText, IsStarText}
+use Rattle.pep440_version.specs.Text.{IsPatternText}
 use Rattle.pep440_specifier.specs.SpecifierText.{HasNoSpace}
 use Rattle.pep440_operator.specs.OperatorReading.{ends_operator}
 

@@ -1,21 +1,20 @@
 -- What a text says as a specifier is one that may be built.
-use Rattle.std.proofs.Common.{
-  ◌≡◌, ℕ, ◌≤◌, ◌&&◌, not, cond, Bool, true, false, if◌then◌else◌, List, [], ◌∷◌, length, Option, Some, None, Result, Ok,
-  Err, refl, ap, sym, subst, ◌∙◌, arith}
+use Rattle.std.proofs.Common.{◌≡◌, ℕ, ◌≤◌, ◌&&◌, not, cond, Bool, true, false, if◌then◌else◌, List, [], ◌∷◌}
+use Rattle.std.proofs.Common.{length, Option, Some, None, Result, Ok, Err, refl, ap, sym, subst, ◌∙◌, arith}
 use Rattle.std.specs.Prelude.{nat_lt}
 use Rattle.std.proofs.lemmas.Bool.Decides.{nat_tests}
 use Rattle.pep440_version.specs.Record.{Segment, VersionRecord, PatternRecord}
 use Rattle.pep440_version.specs.Changes.{has_segments, has_local}
 use Rattle.pep440_version.specs.Text.{IsVersionText, IsStarText}
 use Rattle.pep440_operator.specs.declared.operator.Operator.{Operator}
-use Rattle.pep440_operator.specs.declared.operator.Operator.TheVariants.{
-  Equal, EqualStar, ExactEqual, NotEqual, NotEqualStar, TildeEqual, LessThan, LessThanEqual, GreaterThan,
-  GreaterThanEqual}
+use Rattle.pep440_operator.specs.declared.operator.Operator.TheVariants.{Equal, EqualStar, ExactEqual}
+use Rattle.pep440_operator.specs.declared.operator.Operator.TheVariants.{NotEqual, NotEqualStar, TildeEqual}
+use Rattle.pep440_operator.specs.declared.operator.Operator.TheVariants.{LessThan, LessThanEqual}
+use Rattle.pep440_operator.specs.declared.operator.Operator.TheVariants.{GreaterThan, GreaterThanEqual}
 use Rattle.pep440_operator.specs.Operators.{is_star, takes_local, is_tilde, starred}
-use Rattle.pep440_specifier.specs.declared.build_error.VersionSpecifierBuildError.{
-  VersionSpecifierBuildError}
-use Rattle.pep440_specifier.specs.declared.build_error.VersionSpecifierBuildError.TheVariants.{
-  OperatorLocalCombo, CompatibleRelease}
+use Rattle.pep440_specifier.specs.declared.build_error.VersionSpecifierBuildError.{VersionSpecifierBuildError}
+use Rattle.pep440_specifier.specs.declared.build_error.VersionSpecifierBuildError.TheVariants.{OperatorLocalCombo}
+use Rattle.pep440_specifier.specs.declared.build_error.VersionSpecifierBuildError.TheVariants.{CompatibleRelease}
 use Rattle.pep440_specifier.specs.Matching.{SpecifierRecord}
 use Rattle.pep440_specifier.specs.Building.{IsStarVersion, IsBuilt, built, built_starred, built_of_pattern}
 use Rattle.pep440_specifier.specs.SpecifierText.{IsSpecifierText}
@@ -40,13 +39,13 @@ record IsOf (operator : Operator) (version : VersionRecord) (specifier : Specifi
   may : IsBuilt specifier
 
 built_by : (operator : Operator) (version : VersionRecord) (specifier : SpecifierRecord) (b c : Bool)
-  → (has_local version && not (takes_local operator)) ≡ b
-  → (is_tilde operator && nat_lt (length version.release) 2) ≡ c
-  → (is_star operator ≡ true → IsStarVersion version)
-  → (if b then Err (OperatorLocalCombo operator version)
+    → (has_local version && not (takes_local operator)) ≡ b
+    → (is_tilde operator && nat_lt (length version.release) 2) ≡ c
+    → (is_star operator ≡ true → IsStarVersion version)
+    → (if b then Err (OperatorLocalCombo operator version)
     else (if c then Err CompatibleRelease else Ok (record { operator = operator; version = version })))
     ≡ Ok specifier
-  → IsOf operator version specifier
+    → IsOf operator version specifier
 built_by operator version specifier true c l n s h = absurd (cc)
 built_by operator version specifier false true l n s h = absurd (cc)
 built_by operator version specifier false false l n s h =
@@ -60,8 +59,8 @@ built_by operator version specifier false false l n s h =
     record { is = same; may = subst IsBuilt (sym same) may }
 
 built_is : (operator : Operator) (version : VersionRecord) (specifier : SpecifierRecord)
-  → (is_star operator ≡ true → IsStarVersion version) → built operator version ≡ Ok specifier
-  → IsOf operator version specifier
+    → (is_star operator ≡ true → IsStarVersion version) → built operator version ≡ Ok specifier
+    → IsOf operator version specifier
 built_is operator version specifier s h = built_by operator version specifier _ _ refl refl s h
 
 -- ---- an operator and a pattern
@@ -71,17 +70,17 @@ record IsOfText (version : VersionRecord) (specifier : SpecifierRecord) : Type 0
   may : IsBuilt specifier
 
 of_version : (operator : Operator) (version : VersionRecord) (specifier : SpecifierRecord)
-  → IsOf operator version specifier → IsOfText version specifier
+    → IsOf operator version specifier → IsOfText version specifier
 of_version operator version specifier h = record { same_version = ap (λ s. s.version) h.is; may = h.may }
 
 starred_is : (operator : Operator) (star : Option Operator) (version : VersionRecord) (specifier : SpecifierRecord)
-  → IsStarVersion version → built_starred operator star version ≡ Ok specifier → IsOfText version specifier
+    → IsStarVersion version → built_starred operator star version ≡ Ok specifier → IsOfText version specifier
 starred_is operator None version specifier s h = absurd (cc)
 starred_is operator (Some star) version specifier s h =
     of_version star version specifier (built_is star version specifier (λ e. s) h)
 
 unstarred : (operator : Operator) (version : VersionRecord) → is_star operator ≡ false → is_star operator ≡ true
-  → IsStarVersion version
+    → IsStarVersion version
 unstarred operator version n h = absurd (cc)
 
 no_ends : (version : VersionRecord) → IsStarVersion version → (version.least ≡ None) × (version.most ≡ None)
@@ -92,17 +91,17 @@ record IsSaidBy (specifier : SpecifierRecord) : Type 0 where
   ends : (specifier.version.least ≡ None) × (specifier.version.most ≡ None)
 
 said : (version : VersionRecord) (specifier : SpecifierRecord) → IsOfText version specifier
-  → (version.least ≡ None) × (version.most ≡ None) → IsSaidBy specifier
+    → (version.least ≡ None) × (version.most ≡ None) → IsSaidBy specifier
 said version specifier h ends = record {
   may = h.may;
   ends = (ap (λ v. v.least) h.same_version ∙ ends.0, ap (λ v. v.most) h.same_version ∙ ends.1);
 }
 
 pattern_is : (text : List ℕ) (operator : Operator) (version : VersionRecord) (wildcard : Bool)
-  (specifier : SpecifierRecord) → is_star operator ≡ false
-  → cond wildcard (IsStarText text version) (IsVersionText text version)
-  → (if wildcard then built_starred operator (starred operator) version else built operator version) ≡ Ok specifier
-  → IsSaidBy specifier
+    (specifier : SpecifierRecord) → is_star operator ≡ false
+    → cond wildcard (IsStarText text version) (IsVersionText text version)
+    → (if wildcard then built_starred operator (starred operator) version else built operator version) ≡ Ok specifier
+    → IsSaidBy specifier
 pattern_is text operator version true specifier n h e =
     said version specifier (starred_is operator (starred operator) version specifier h.is_plain e)
     (no_ends version h.is_plain)
@@ -119,5 +118,5 @@ pub text_is_built : (text : List ℕ) (specifier : SpecifierRecord) → IsSpecif
 text_is_built text specifier h = (text_is text specifier h).may
 
 pub text_has_no_ends : (text : List ℕ) (specifier : SpecifierRecord) → IsSpecifierText text specifier
-  → (specifier.version.least ≡ None) × (specifier.version.most ≡ None)
+    → (specifier.version.least ≡ None) × (specifier.version.most ≡ None)
 text_has_no_ends text specifier h = (text_is text specifier h).ends

@@ -1,6 +1,6 @@
 -- The specifiers of bounds, and of intervals between two of them.
-use Rattle.std.specs.Prelude.{
-  ◌≡◌, ℕ, ◌+◌, Bool, false, if◌then◌else◌, List, [], ◌∷◌, ◌++◌, Option, Some, None, option_to_list, codes}
+use Rattle.std.specs.Prelude.{◌≡◌, ℕ, ◌+◌, Bool, false, if◌then◌else◌, List, [], ◌∷◌, ◌++◌, Option, Some}
+use Rattle.std.specs.Prelude.{None, option_to_list, codes}
 use Rattle.std.specs.Borrow.{Bor}
 use Rattle.std.specs.Range.Bound.{bound_map}
 use Rattle.std.specs.declared.ops.Bound.{Bound}
@@ -8,8 +8,9 @@ use Rattle.std.specs.declared.ops.Bound.TheVariants.{Included, Excluded, Unbound
 use Rattle.pep440_version.specs.Record.{VersionRecord, release_record}
 use Rattle.pep440_version.specs.Changes.{has_local}
 use Rattle.pep440_version.specs.Order.{version_eq}
-use Rattle.pep440_operator.specs.declared.operator.Operator.TheVariants.{
-  Equal, EqualStar, LessThan, LessThanEqual, GreaterThan, GreaterThanEqual}
+use Rattle.pep440_operator.specs.declared.operator.Operator.TheVariants.{Equal, EqualStar, LessThan}
+use Rattle.pep440_operator.specs.declared.operator.Operator.TheVariants.{LessThanEqual, GreaterThan}
+use Rattle.pep440_operator.specs.declared.operator.Operator.TheVariants.{GreaterThanEqual}
 use Rattle.pep440_specifier.specs.declared.bounds.BoundError.{BoundError}
 use Rattle.pep440_specifier.specs.declared.bounds.BoundError.TheVariants.{LocalInBound, Memory}
 use Rattle.pep440_specifier.specs.Matching.{SpecifierRecord}
@@ -66,14 +67,18 @@ is_next_minor version next = equals_release (next_minor version.release) next
 
 -- the one specifier of an interval: `==v` between `v` and `v`, `==a.b.*` from `a.b` to below `a.(b+1)`
 abbrev pub single_specifier : Bound VersionRecord → Bound VersionRecord → Option SpecifierRecord
-single_specifier (Included lower) (Included upper) = if version_eq lower upper then Some (record { operator = Equal; version = lower }) else None
-single_specifier (Included lower) (Excluded upper) = if is_next_minor lower upper then Some (record { operator = EqualStar; version = lower }) else None
+single_specifier (Included lower) (Included upper) =
+    if version_eq lower upper then Some (record { operator = Equal; version = lower }) else None
+single_specifier (Included lower) (Excluded upper) =
+    if is_next_minor lower upper then Some (record { operator = EqualStar; version = lower }) else None
 single_specifier lower upper = None
 
 -- the one specifier, or else that of each bound
-abbrev pub single_or_bounds : Option SpecifierRecord → Bound VersionRecord → Bound VersionRecord → List SpecifierRecord
+abbrev pub single_or_bounds : Option SpecifierRecord → Bound VersionRecord → Bound VersionRecord
+    → List SpecifierRecord
 single_or_bounds (Some single) lower upper = single ∷ []
-single_or_bounds None lower upper = option_to_list (lower_specifier lower) ++ option_to_list (upper_specifier upper)
+single_or_bounds None lower upper =
+    option_to_list (lower_specifier lower) ++ option_to_list (upper_specifier upper)
 
 -- the specifiers of the interval between two bounds
 abbrev pub interval_specifiers : Bound VersionRecord → Bound VersionRecord → List SpecifierRecord

@@ -1,14 +1,14 @@
 -- Which versions may stand beside which operator (PEP 440, "Version specifiers").
-use Rattle.std.specs.Prelude.{
-  ◌≡◌, ℕ, ◌≤◌, ◌&&◌, not, true, false, nat_lt, if◌then◌else◌, List, [], length, Option, Some, None, Result, Ok, Err}
+use Rattle.std.specs.Prelude.{◌≡◌, ℕ, ◌≤◌, ◌&&◌, not, true, false, nat_lt, if◌then◌else◌, List, [], length}
+use Rattle.std.specs.Prelude.{Option, Some, None, Result, Ok, Err}
 use Rattle.pep440_version.specs.Record.{VersionRecord, PatternRecord, epoch_record, release_record}
 use Rattle.pep440_version.specs.Changes.{has_local}
 use Rattle.pep440_operator.specs.declared.operator.Operator.{Operator}
 use Rattle.pep440_operator.specs.declared.operator.Operator.TheVariants.{EqualStar}
-use Rattle.pep440_specifier.specs.declared.build_error.VersionSpecifierBuildError.{
-  VersionSpecifierBuildError}
-use Rattle.pep440_specifier.specs.declared.build_error.VersionSpecifierBuildError.TheVariants.{
-  OperatorLocalCombo, OperatorWithStar, CompatibleRelease}
+use Rattle.pep440_specifier.specs.declared.build_error.VersionSpecifierBuildError.{VersionSpecifierBuildError}
+use Rattle.pep440_specifier.specs.declared.build_error.VersionSpecifierBuildError.TheVariants.{OperatorLocalCombo}
+use Rattle.pep440_specifier.specs.declared.build_error.VersionSpecifierBuildError.TheVariants.{OperatorWithStar}
+use Rattle.pep440_specifier.specs.declared.build_error.VersionSpecifierBuildError.TheVariants.{CompatibleRelease}
 use Rattle.pep440_operator.specs.Operators.{is_star, takes_local, is_tilde, starred}
 use Rattle.pep440_specifier.specs.Matching.{SpecifierRecord}
 
@@ -26,15 +26,19 @@ pub record IsBuilt (specifier : SpecifierRecord) : Type 0 where
 abbrev pub built : Operator → VersionRecord → Result SpecifierRecord VersionSpecifierBuildError
 built operator version =
     if has_local version && not (takes_local operator) then Err (OperatorLocalCombo operator version)
-    else (if is_tilde operator && nat_lt (length version.release) 2 then Err CompatibleRelease else Ok (record { operator = operator; version = version }))
+    else (if is_tilde operator && nat_lt (length version.release) 2 then Err CompatibleRelease
+    else Ok (record { operator = operator; version = version }))
 
-abbrev pub built_starred : Operator → Option Operator → VersionRecord → Result SpecifierRecord VersionSpecifierBuildError
+abbrev pub built_starred : Operator → Option Operator → VersionRecord
+    → Result SpecifierRecord VersionSpecifierBuildError
 built_starred operator None version = Err (OperatorWithStar operator)
 built_starred operator (Some star) version = built star version
 
 -- the specifier of an operator and a pattern, or why there is none
 abbrev pub built_of_pattern : Operator → PatternRecord → Result SpecifierRecord VersionSpecifierBuildError
-built_of_pattern operator pattern = if pattern.wildcard then built_starred operator (starred operator) pattern.version else built operator pattern.version
+built_of_pattern operator pattern =
+    if pattern.wildcard then built_starred operator (starred operator) pattern.version
+    else built operator pattern.version
 
 -- `==` and these release numbers, with a star behind them
 abbrev pub equal_star : List ℕ → SpecifierRecord

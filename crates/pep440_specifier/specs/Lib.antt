@@ -9,5 +9,6 @@ pub mod SpecifierOrder
 pub mod SpecifierText
 pub mod SpecifierReading
 pub mod SpecifierHash
+pub mod SpecifierOrderLaws
 pub mod SpecifierErrorPrints
 pub mod Bounds

@@ -10,9 +10,10 @@ use Rattle.pep440_version.specs.Changes.{is_prerelease}
 use Rattle.pep440_version.specs.Order.{stripped, version_cmp}
 use Rattle.pep440_version.specs.Print.{version_text}
 use Rattle.pep440_operator.specs.declared.operator.Operator.{Operator}
-use Rattle.pep440_operator.specs.declared.operator.Operator.TheVariants.{
-  Equal, EqualStar, ExactEqual, NotEqual, NotEqualStar, TildeEqual, LessThan, LessThanEqual, GreaterThan,
-  GreaterThanEqual}
+use Rattle.pep440_operator.specs.declared.operator.Operator.TheVariants.{Equal, EqualStar, ExactEqual}
+use Rattle.pep440_operator.specs.declared.operator.Operator.TheVariants.{NotEqual, NotEqualStar, TildeEqual}
+use Rattle.pep440_operator.specs.declared.operator.Operator.TheVariants.{LessThan, LessThanEqual}
+use Rattle.pep440_operator.specs.declared.operator.Operator.TheVariants.{GreaterThan, GreaterThanEqual}
 
 -- an operator and the version beside it
 pub record SpecifierRecord : Type 0 where
@@ -44,7 +45,8 @@ without_last numbers = take (length numbers - 1) numbers
 
 -- whether epoch and release are those of the other, up to zeros at the end
 abbrev pub same_release : VersionRecord → VersionRecord → Bool
-same_release version candidate = version.epoch == candidate.epoch && is_eq (slice_cmp nat_cmp (stripped version.release) (stripped candidate.release))
+same_release version candidate =
+    version.epoch == candidate.epoch && is_eq (slice_cmp nat_cmp (stripped version.release) (stripped candidate.release))
 
 -- whether the specifier of an operator and a version takes a candidate
 abbrev pub matches : Operator → VersionRecord → VersionRecord → Bool
@@ -53,10 +55,15 @@ matches EqualStar version candidate = has_front version.epoch version.release ca
 matches ExactEqual version candidate = bytes_eq (version_text candidate) (version_text version)
 matches NotEqual version candidate = not (is_eq (candidate_cmp version candidate))
 matches NotEqualStar version candidate = not (has_front version.epoch version.release candidate)
-matches TildeEqual version candidate = has_front version.epoch (without_last version.release) candidate && is_ge (candidate_cmp version candidate)
-matches LessThan version candidate = is_lt (candidate_cmp version candidate) && not (same_release version candidate && (is_prerelease candidate && not (is_prerelease version)))
+matches TildeEqual version candidate =
+    has_front version.epoch (without_last version.release) candidate && is_ge (candidate_cmp version candidate)
+matches LessThan version candidate =
+    is_lt (candidate_cmp version candidate)
+    && not (same_release version candidate && (is_prerelease candidate && not (is_prerelease version)))
 matches LessThanEqual version candidate = is_le (candidate_cmp version candidate)
-matches GreaterThan version candidate = is_gt (candidate_cmp version candidate) && not (same_release version candidate && (is_some candidate.post && not (is_some version.post)))
+matches GreaterThan version candidate =
+    is_gt (candidate_cmp version candidate)
+    && not (same_release version candidate && (is_some candidate.post && not (is_some version.post)))
 matches GreaterThanEqual version candidate = is_ge (candidate_cmp version candidate)
 
 -- whether a specifier takes a candidate

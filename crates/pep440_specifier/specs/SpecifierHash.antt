@@ -1,31 +1,9 @@
--- What a hash is fed of a specifier, and that equal specifiers feed it alike.
-use Rattle.std.specs.Prelude.{◌≡◌, ℕ, true, List, [], ◌∷◌}
-use Rattle.std.proofs.Common.{ap}
-use Rattle.std.proofs.lemmas.Map.Lookups.{exact_bytes}
-use Rattle.std.specs.Cmp.{Equal-is}
-use Rattle.std.specs.declared.cmp.Ordering.TheVariants.{Equal}
-use Rattle.std.specs.Ordering.{nat_cmp, is_eq}
-use Rattle.std.specs.Cmp.Lexicographic.{slice_cmp}
-use Rattle.pep440_version.specs.Order.{key_of, key_cmp, fed_key, same_key, then_equal}
+-- What a hash is fed of a specifier.
+use Rattle.std.specs.Prelude.{ℕ, List}
+use Rattle.pep440_version.specs.Order.{fed_key}
 use Rattle.pep440_specifier.specs.Matching.{SpecifierRecord}
-use Rattle.pep440_specifier.specs.SpecifierOrder.{operator_rank, specifier_key, specifier_cmp, specifier_eq}
+use Rattle.pep440_specifier.specs.SpecifierOrder.{specifier_key}
 
 -- what a hash is fed of a specifier: its key
 abbrev pub fed_specifier : SpecifierRecord → List (List ℕ)
 fed_specifier specifier = fed_key (specifier_key specifier)
-
--- equal specifiers have one key
-pub same_specifier_key : (a b : SpecifierRecord) → specifier_eq a b ≡ true → specifier_key a ≡ specifier_key b
-unfolding specifier_key
-same_specifier_key a b h =
-    let e : specifier_cmp a b ≡ Equal = (Equal-is (specifier_cmp a b)).0 h in
-    let r : List ℕ = operator_rank a.operator ∷ [] in
-    let s : List ℕ = operator_rank b.operator ∷ [] in
-    let both = then_equal (slice_cmp nat_cmp r s) (key_cmp (key_of a.version) (key_of b.version)) e in
-    let one : r ≡ s = exact_bytes r s both.0 in
-    let rest : key_of a.version ≡ key_of b.version = same_key a.version b.version (ap is_eq both.1) in
-    cc
-
--- so equal specifiers feed a hash alike
-pub alike_specifiers : (a b : SpecifierRecord) → specifier_eq a b ≡ true → fed_specifier a ≡ fed_specifier b
-alike_specifiers a b h = ap fed_key (same_specifier_key a b h)

@@ -1,4 +1,5 @@
--- The text of a specifier: an operator and a pattern, with white space around each (PEP 440, "Version specifiers").
+-- The text of a specifier: an operator and a pattern, with white space around each
+-- (PEP 440, "Version specifiers").
 use Rattle.std.specs.Prelude.{◌≡◌, ℕ, false, List, ◌++◌, IsTrue, Ok}
 use Rattle.std.specs.Char.{is_whitespace}
 use Rattle.std.specs.List.{AllByRecursion}

@@ -1,13 +1,14 @@
 //! Specifiers of bounds, and of intervals between two of them.
 
-ghost use Rattle.std.specs.Prelude.{
-  ◌≡◌, ◌+◌, ◌++◌, ◌↔◌, [], ◌∷◌, false, IsTrue, IfOk, IfErr, OnOk, Some, Err, is_some, option_to_list};
+ghost use Rattle.std.specs.Prelude.{◌≡◌, ◌+◌, ◌++◌, ◌↔◌, [], ◌∷◌, false, IsTrue, IfOk, IfErr, OnOk, Some};
+ghost use Rattle.std.specs.Prelude.{Err, is_some, option_to_list};
 ghost use Rattle.std.specs.Ordering.{is_eq};
 ghost use Rattle.pep440_version.specs.Order.{padded_cmp};
 ghost use Rattle.pep440_specifier.specs.Matching.{begins_padded};
-ghost use Rattle.pep440_specifier.specs.Bounds.{
-  bound_error_text, lent_bound, is_local_bound, IsReleaseVersion, IsReleaseBound, lower_specifier,
-  upper_specifier, is_next_minor, single_specifier, interval_specifiers};
+ghost use Rattle.pep440_specifier.specs.Bounds.{bound_error_text, lent_bound, is_local_bound};
+ghost use Rattle.pep440_specifier.specs.Bounds.{IsReleaseVersion, IsReleaseBound, lower_specifier};
+ghost use Rattle.pep440_specifier.specs.Bounds.{upper_specifier, is_next_minor, single_specifier};
+ghost use Rattle.pep440_specifier.specs.Bounds.{interval_specifiers};
 
 use crate::VersionSpecifier;
 use pep440_version::Version;
@@ -59,8 +60,10 @@ impl VersionSpecifier {
         bound: Bound<&Version>,
     ) -> Result<Option<VersionSpecifier>, BoundError>
         ensures specifier { IfOk result (λ found. found ≡ lower_specifier (lent_bound bound.entry)) }
-        ensures local { (result ≡ Err BoundError.LocalInBound) ↔ IsTrue (is_local_bound (lent_bound bound.entry)) }
-        ensures memory { result ≡ Err BoundError.Memory → IsTrue (is_some (lower_specifier (lent_bound bound.entry))) }
+        ensures local { (result ≡ Err BoundError.LocalInBound)
+            ↔ IsTrue (is_local_bound (lent_bound bound.entry)) }
+        ensures memory { result ≡ Err BoundError.Memory
+            → IsTrue (is_some (lower_specifier (lent_bound bound.entry))) }
     {
         if is_local_bound(bound) {
             return Err(BoundError::LocalInBound);
@@ -76,8 +79,10 @@ impl VersionSpecifier {
         bound: Bound<&Version>,
     ) -> Result<Option<VersionSpecifier>, BoundError>
         ensures specifier { IfOk result (λ found. found ≡ upper_specifier (lent_bound bound.entry)) }
-        ensures local { (result ≡ Err BoundError.LocalInBound) ↔ IsTrue (is_local_bound (lent_bound bound.entry)) }
-        ensures memory { result ≡ Err BoundError.Memory → IsTrue (is_some (upper_specifier (lent_bound bound.entry))) }
+        ensures local { (result ≡ Err BoundError.LocalInBound)
+            ↔ IsTrue (is_local_bound (lent_bound bound.entry)) }
+        ensures memory { result ≡ Err BoundError.Memory
+            → IsTrue (is_some (upper_specifier (lent_bound bound.entry))) }
     {
         if is_local_bound(bound) {
             return Err(BoundError::LocalInBound);
@@ -95,7 +100,8 @@ impl VersionSpecifier {
     ) -> Result<Vec<VersionSpecifier>, AllocError>
         requires lower { IsReleaseBound (lent_bound bounds.0) }
         requires upper { IsReleaseBound (lent_bound bounds.1) }
-        ensures { IfOk result (λ found. found.items ≡ interval_specifiers (lent_bound bounds.entry.0) (lent_bound bounds.entry.1)) }
+        ensures { IfOk result (λ found.
+            found.items ≡ interval_specifiers (lent_bound bounds.entry.0) (lent_bound bounds.entry.1)) }
     {
         let (lower, upper) = bounds;
         let mut found = Vec::new(alloc);
@@ -216,7 +222,8 @@ fn single_specifier(
 ) -> Result<Option<VersionSpecifier>, AllocError>
     requires lower { IsReleaseBound (lent_bound lower) }
     requires upper { IsReleaseBound (lent_bound upper) }
-    ensures { IfOk result (λ found. found ≡ single_specifier (lent_bound lower.entry) (lent_bound upper.entry)) }
+    ensures { IfOk result (λ found.
+        found ≡ single_specifier (lent_bound lower.entry) (lent_bound upper.entry)) }
 {
     match (lower, upper) {
         (Bound::Included(lower), Bound::Included(upper)) => {

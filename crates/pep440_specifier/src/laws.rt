@@ -2,8 +2,8 @@
 
 ghost use Rattle.std.specs.Prelude.{◌≡◌, ◌↔◌, ℕ, not, true, false, List, [], ◌∷◌, Some, None};
 ghost use Rattle.pep440_version.specs.Record.{VersionRecord, release_record};
-ghost use Rattle.pep440_operator.specs.declared.operator.Operator.TheVariants.{
-  Equal, EqualStar, NotEqual, NotEqualStar};
+ghost use Rattle.pep440_operator.specs.declared.operator.Operator.TheVariants.{Equal, EqualStar, NotEqual};
+ghost use Rattle.pep440_operator.specs.declared.operator.Operator.TheVariants.{NotEqualStar};
 ghost use Rattle.pep440_specifier.specs.Matching.{SpecifierRecord, matches, takes};
 ghost use Rattle.pep440_specifier.specs.Building.{IsBuilt, equal_star};
 ghost use Rattle.pep440_specifier.specs.SpecifierOrder.{specifier_eq};

@@ -15,6 +15,6 @@ mod value;
 
 pub use bounds::{BoundError, is_next_minor};
 pub use build_error::VersionSpecifierBuildError;
-pub use pep440_operator::{Operator, OperatorParseError};
 pub use parse_error::VersionSpecifierParseError;
+pub use pep440_operator::{Operator, OperatorParseError};
 pub use specifier::VersionSpecifier;

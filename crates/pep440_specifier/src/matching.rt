@@ -1,8 +1,8 @@
 //! Which versions a specifier takes.
 
 ghost use Rattle.std.specs.Prelude.{◌≡◌, ◌≢◌, IfOk, IsOk};
-ghost use Rattle.pep440_specifier.specs.Matching.{
-  candidate_cmp, begins_padded, has_front, same_release, matches};
+ghost use Rattle.pep440_specifier.specs.Matching.{candidate_cmp, begins_padded, has_front, same_release};
+ghost use Rattle.pep440_specifier.specs.Matching.{matches};
 
 use crate::{Operator, VersionSpecifier};
 use pep440_version::Version;
@@ -14,7 +14,8 @@ impl VersionSpecifier {
     ///
     /// Goes a fixed number of times through both versions. Takes memory for `===` alone, which compares prints.
     pub fn contains(&self, alloc: Global, version: &Version) -> Result<bool, AllocError>
-        ensures matching { IfOk result (λ taken. taken ≡ matches self.now.operator self.now.version version.now) }
+        ensures matching { IfOk result (λ taken.
+            taken ≡ matches self.now.operator self.now.version version.now) }
         ensures memory { self.now.operator ≢ Operator.ExactEqual → IsOk result }
     {
         let own = self.version();

@@ -2,10 +2,11 @@
 
 ghost use Rattle.std.specs.Prelude.{◌≡◌, refl};
 ghost use Rattle.std.specs.Ordering.{as_partial_cmp};
-ghost use Rattle.pep440_specifier.specs.SpecifierOrder.{
-  operator_rank, specifier_cmp, specifier_eq, specifier_cmp_total, specifier_eq_equiv, specifier_eq_partial,
-  specifier_partial_order};
-ghost use Rattle.pep440_specifier.specs.SpecifierHash.{fed_specifier, alike_specifiers};
+ghost use Rattle.pep440_specifier.specs.SpecifierOrder.{operator_rank, specifier_cmp, specifier_eq};
+ghost use Rattle.pep440_specifier.specs.SpecifierHash.{fed_specifier};
+ghost use Rattle.pep440_specifier.specs.SpecifierOrderLaws.{specifier_cmp_total, specifier_eq_equiv};
+ghost use Rattle.pep440_specifier.specs.SpecifierOrderLaws.{specifier_eq_partial, specifier_partial_order};
+ghost use Rattle.pep440_specifier.specs.SpecifierOrderLaws.{alike_specifiers};
 
 use crate::VersionSpecifier;
 use std::cmp::Ordering;

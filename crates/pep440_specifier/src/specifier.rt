@@ -7,7 +7,8 @@ ghost use Rattle.pep440_operator.specs.Operators.{is_star, bounds_below, takes_l
 ghost use Rattle.pep440_specifier.specs.Building.{IsBuilt, IsStarVersion, built, built_of_pattern};
 ghost use Rattle.pep440_specifier.specs.SpecifierPrint.{specifier_text};
 ghost use Rattle.pep440_specifier.specs.declared.parse_error.VersionSpecifierParseError.TheVariants as errors;
-ghost use Rattle.pep440_specifier.specs.SpecifierReading.{specifier_reading, told_specifier, IsPlain, HasGrown};
+ghost use Rattle.pep440_specifier.specs.SpecifierReading.{specifier_reading, told_specifier, IsPlain};
+ghost use Rattle.pep440_specifier.specs.SpecifierReading.{HasGrown};
 ghost use Rattle.read_outcome.specs.Outcome.{Answers};
 
 use crate::reading::read_specifier;
@@ -163,13 +164,15 @@ impl VersionSpecifier {
 
     /// Reads an operator and a version behind it, as `>= 1.2` or `==1.2.*`, with white space around each.
     ///
-    /// Linear in the text; takes memory for the version, and for the texts of an error. The error names the first fault
-    /// from the left, and is `Memory` itself where memory runs out, which none is before an operator and a number are there.
+    /// Linear in the text; takes memory for the version, and for the texts of an error, and none before an operator and a
+    /// first number were read. The error names the first fault from the left, and is `Memory` itself where memory runs
+    /// out.
     pub fn from_str(
         alloc: Global,
         text: &str,
     ) -> Result<VersionSpecifier, VersionSpecifierParseError>
-        ensures answered { Answers (λ specifier. specifier) told_specifier result (specifier_reading text.now) }
+        ensures answered { Answers (λ specifier. specifier) told_specifier result
+            (specifier_reading text.now) }
         ensures plain { IfErr result IsPlain }
         ensures grown { result ≡ Err errors.Memory → HasGrown (specifier_reading text.now) }
     {

@@ -6,7 +6,8 @@ ghost use Rattle.serde_json.specs.Find.{as_str};
 ghost use Rattle.read_outcome.specs.Outcome.{Answers, ReadsText};
 ghost use Rattle.pep440_specifier.specs.declared.parse_error.VersionSpecifierParseError.TheVariants as errors;
 ghost use Rattle.pep440_specifier.specs.SpecifierPrint.{specifier_text};
-ghost use Rattle.pep440_specifier.specs.SpecifierReading.{specifier_reading, told_specifier, IsPlain, HasGrown};
+ghost use Rattle.pep440_specifier.specs.SpecifierReading.{specifier_reading, told_specifier, IsPlain};
+ghost use Rattle.pep440_specifier.specs.SpecifierReading.{HasGrown};
 
 use crate::{VersionSpecifier, VersionSpecifierParseError};
 use pep440_version::FromValueError;

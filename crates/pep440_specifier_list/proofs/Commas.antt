@@ -1,16 +1,24 @@
 -- The text of a specifier has no comma.
-use Rattle.std.proofs.Common.{◌≡◌, ℕ, ◌<◌, ◌==◌, ◌||◌, Bool, true, false, List, [], ◌∷◌, ◌++◌, map, codes, Option, Some, None, IsTrue, inl, inr, refl, sym, ap, subst, ◌∙◌, arith, cond}
+use Rattle.std.proofs.Common.{◌≡◌, ℕ, ◌<◌, ◌==◌, ◌||◌, Bool, true, false, List, [], ◌∷◌, ◌++◌, map, codes}
+use Rattle.std.proofs.Common.{Option, Some, None, IsTrue, inl, inr, refl, sym, ap, subst, ◌∙◌, arith, cond}
 use Rattle.std.proofs.lemmas.Bool.{false≢true}
 use Rattle.std.proofs.lemmas.Bool.Decides.{nat_tests}
-use Rattle.std.specs.Char.{is_ascii_whitespace, is_ascii_alphanumeric, is_whitespace, to_ascii_lowercase, digit_value}
+use Rattle.std.specs.Char.{is_ascii_whitespace, is_ascii_alphanumeric, is_whitespace, to_ascii_lowercase}
+use Rattle.std.specs.Char.{digit_value}
 use Rattle.std.specs.List.{AllZip, AllByRecursion, list_any, join_with_byte}
 use Rattle.std.specs.Str.{NonePass, chars}
 use Rattle.std.specs.Str.Parse.{AllDigits}
 use Rattle.pep440_text.specs.declared.Prerelease.{Prerelease}
 use Rattle.pep440_version.specs.Record.{Segment, VersionRecord}
-use Rattle.pep440_version.specs.Text.{Front, Optional, AreWhite, IsNumber, IsEpoch, IsRelease, is_separator, IsSeparatorOrNone, IsNumberOrNone, IsOneOf, IsSuffix, pre_words, post_words, dev_words, IsPre, IsPost, IsDev, IsSegment, AreSegments, IsLocalOrNone, IsLetterV, IsHead, IsVersionText, IsStarText}
+use Rattle.pep440_version.specs.Text.{Front, Optional, AreWhite, IsNumber, IsEpoch, IsRelease, is_separator}
+use Rattle.pep440_version.specs.Text.{IsSeparatorOrNone, IsNumberOrNone, IsOneOf, IsSuffix, pre_words}
+use Rattle.pep440_version.specs.Text.{post_words, dev_words, IsPre, IsPost, IsDev, IsSegment, AreSegments}
+use Rattle.pep440_version.specs.Text.{IsLocalOrNone, IsLetterV, IsHead, IsVersionText, IsStarText}
 use Rattle.pep440_operator.specs.declared.operator.Operator.{Operator}
-use Rattle.pep440_operator.specs.declared.operator.Operator.TheVariants.{Equal, EqualStar, ExactEqual, NotEqual, NotEqualStar, TildeEqual, LessThan, LessThanEqual, GreaterThan, GreaterThanEqual}
+use Rattle.pep440_operator.specs.declared.operator.Operator.TheVariants.{Equal, EqualStar, ExactEqual}
+use Rattle.pep440_operator.specs.declared.operator.Operator.TheVariants.{NotEqual, NotEqualStar, TildeEqual}
+use Rattle.pep440_operator.specs.declared.operator.Operator.TheVariants.{LessThan, LessThanEqual}
+use Rattle.pep440_operator.specs.declared.operator.Operator.TheVariants.{GreaterThan, GreaterThanEqual}
 use Rattle.pep440_specifier.specs.Matching.{SpecifierRecord}
 use Rattle.pep440_operator.specs.OperatorPrint.{operator_text}
 use Rattle.pep440_specifier.specs.SpecifierText.{IsSpecifierText}

@@ -1,5 +1,7 @@
 -- What is read is the text of a list, and the text of a list is read.
-use Rattle.std.proofs.Common.{◌≡◌, ◌≢◌, ℕ, suc, ◌+◌, ◌<◌, ◌==◌, ◌↔◌, ◌&&◌, not, cond, Bool, true, false, List, [], ◌∷◌, ◌++◌, length, get_or, take, drop, All, Some, inl, inr, refl, ap, sym, subst, ◌∙◌, length-append, arith, lit<}
+use Rattle.std.proofs.Common.{◌≡◌, ◌≢◌, ℕ, suc, ◌+◌, ◌<◌, ◌==◌, ◌↔◌, ◌&&◌, not, cond, Bool, true, false}
+use Rattle.std.proofs.Common.{List, [], ◌∷◌, ◌++◌, length, get_or, take, drop, All, Some, inl, inr, refl, ap}
+use Rattle.std.proofs.Common.{sym, subst, ◌∙◌, length-append, arith, lit<}
 use Rattle.std.proofs.lemmas.Bool.Decides.{nat_tests}
 use Rattle.std.proofs.lemmas.List.{get_or_default}
 use Rattle.std.proofs.lemmas.List.Splits.{slice_split_none, slice_split_at, join_with_byte-slice_split}
@@ -36,8 +38,7 @@ pub utf8_pieces : (pieces : List (List ℕ)) → IsUtf8 (join_with_byte 44 piece
 utf8_pieces [] u = tt
 utf8_pieces (p ∷ []) u = (u, tt)
 utf8_pieces (p ∷ q ∷ ps) u =
-    let rest = join_with_byte 44 (q ∷ ps) in
-    (
+    let rest = join_with_byte 44 (q ∷ ps) in (
       subst IsUtf8 (front_of p (44 ∷ rest)) (IsUtf8-take (p ++ 44 ∷ rest) (length p) u (before_comma p rest)),
       utf8_pieces (q ∷ ps) (behind_comma p rest u),
     )

@@ -14,12 +14,12 @@ pub release_is_star : (version : VersionRecord) → IsReleaseVersion version →
 release_is_star version h = h ∙ ap (λ epoch. epoch_record epoch version.release) (sym (ap (λ v. v.epoch) h))
 
 last_is : (upper : Bound VersionRecord) (front : List Interval) (last : Interval)
-  → last_upper upper (front ++ last ∷ []) ≡ last.1
+    → last_upper upper (front ++ last ∷ []) ≡ last.1
 last_is upper [] last = refl
 last_is upper (next ∷ front) last = last_is next.1 front last
 
 last_is_release : (front : List Interval) (last : Interval)
-  → AreReleaseIntervals (front ++ last ∷ []) → IsReleaseBound last.1
+    → AreReleaseIntervals (front ++ last ∷ []) → IsReleaseBound last.1
 last_is_release [] last h = h.1
 last_is_release (next ∷ front) last h = last_is_release front last h.2
 
@@ -28,17 +28,17 @@ abbrev pub Lent : Type 0
 Lent = Bound (Bor VersionRecord) × Bound (Bor VersionRecord)
 
 lent_last : (later front : List Lent) (last : Lent) → later ≡ front ++ (last ∷ [])
-  → map lent_bounds later ≡ map lent_bounds front ++ (lent_bounds last ∷ [])
+    → map lent_bounds later ≡ map lent_bounds front ++ (lent_bounds last ∷ [])
 lent_last later front last e = ap (map lent_bounds) e ∙ map-append lent_bounds front (last ∷ [])
 
 -- the last interval's upper bound
 pub last_of_some : (upper : Bound VersionRecord) (later front : List Lent) (last : Lent)
-  → later ≡ front ++ (last ∷ []) → lent_bound last.1 ≡ last_upper upper (map lent_bounds later)
+    → later ≡ front ++ (last ∷ []) → lent_bound last.1 ≡ last_upper upper (map lent_bounds later)
 last_of_some upper later front last e =
     sym (ap (last_upper upper) (lent_last later front last e) ∙ last_is upper (map lent_bounds front) (lent_bounds last))
 
 pub last_release_of : (later front : List Lent) (last : Lent) → later ≡ front ++ (last ∷ [])
-  → AreReleaseIntervals (map lent_bounds later) → IsReleaseBound (lent_bound last.1)
+    → AreReleaseIntervals (map lent_bounds later) → IsReleaseBound (lent_bound last.1)
 last_release_of later front last e h =
     last_is_release (map lent_bounds front) (lent_bounds last)
     (subst AreReleaseIntervals (lent_last later front last e) h)

@@ -1,11 +1,9 @@
 -- The pieces between commas stand on characters of their text.
-use Rattle.std.proofs.Common.{
-  ◌≡◌, ℕ, suc, ◌+◌, ◌<◌, ◌≤◌, List, [], ◌∷◌, ◌++◌, length, take, drop, get_or, refl, sym, ap, subst, ◌∙◌, arith, lit<,
-  length-append}
+use Rattle.std.proofs.Common.{◌≡◌, ℕ, suc, ◌+◌, ◌<◌, ◌≤◌, List, [], ◌∷◌, ◌++◌, length, take, drop, get_or}
+use Rattle.std.proofs.Common.{refl, sym, ap, subst, ◌∙◌, arith, lit<, length-append}
 use Rattle.std.proofs.lemmas.List.Splits.{join_with_byte-slice_split}
-use Rattle.std.proofs.lemmas.Str.{
-  IsCharBoundary-start, IsCharBoundary-end, IsCharBoundary-before_ascii, IsCharBoundary-after_ascii,
-  IsCharBoundary-from_rest, IsUtf8-drop}
+use Rattle.std.proofs.lemmas.Str.{IsCharBoundary-start, IsCharBoundary-end, IsCharBoundary-before_ascii}
+use Rattle.std.proofs.lemmas.Str.{IsCharBoundary-after_ascii, IsCharBoundary-from_rest, IsUtf8-drop}
 use Rattle.std.specs.List.{join_with_byte}
 use Rattle.std.specs.Str.{IsUtf8, IsCharBoundary}
 use Rattle.pep440_specifier.specs.Matching.{SpecifierRecord}
@@ -57,7 +55,7 @@ module _ (front rest : List ℕ) where
       (subst (λ text. IsCharBoundary text at) (sym (behind_one front 44 rest)) h)
 
   later_placed : (start end : ℕ) → IsPlaced rest start end
-    → IsPlaced (front ++ 44 ∷ rest) (length front + 1 + start) (length front + 1 + end)
+      → IsPlaced (front ++ 44 ∷ rest) (length front + 1 + start) (length front + 1 + end)
   later_placed start end h = record {
     ordered = (let o = h.ordered in omega (arith, o));
     starts = later start h.starts;
@@ -68,7 +66,7 @@ module _ (front rest : List ℕ) where
 
 -- the first piece
 first_placed : (piece : List ℕ) (after : List (List ℕ)) → IsUtf8 (join_with_byte 44 (piece ∷ after))
-  → IsPlaced (join_with_byte 44 (piece ∷ after)) 0 (length piece)
+    → IsPlaced (join_with_byte 44 (piece ∷ after)) 0 (length piece)
 first_placed piece [] u = record {
   ordered = omega arith;
   starts = IsCharBoundary-start piece u;
@@ -83,7 +81,7 @@ first_placed piece (next ∷ after) u =
     }
 
 join_more : (piece : List ℕ) (pieces : List (List ℕ)) → 0 < length pieces
-  → join_with_byte 44 (piece ∷ pieces) ≡ piece ++ 44 ∷ join_with_byte 44 pieces
+    → join_with_byte 44 (piece ∷ pieces) ≡ piece ++ 44 ∷ join_with_byte 44 pieces
 join_more piece [] h = absurd (omega arith)
 join_more piece (next ∷ pieces) h = refl
 
@@ -92,8 +90,8 @@ some_more [] piece after = omega arith
 some_more (p ∷ ps) piece after = omega arith
 
 placed_in : (before : List (List ℕ)) (piece : List ℕ) (after : List (List ℕ))
-  → IsUtf8 (join_with_byte 44 (before ++ piece ∷ after))
-  → IsPlaced (join_with_byte 44 (before ++ piece ∷ after)) (extent before) (extent before + length piece)
+    → IsUtf8 (join_with_byte 44 (before ++ piece ∷ after))
+    → IsPlaced (join_with_byte 44 (before ++ piece ∷ after)) (extent before) (extent before + length piece)
 placed_in [] piece after u =
     let e : length piece ≡ extent [] + length piece = (let none : extent [] ≡ 0 = refl in omega (arith, none)) in
     subst (λ end. IsPlaced (join_with_byte 44 (piece ∷ after)) 0 end) e (first_placed piece after u)
@@ -111,8 +109,8 @@ placed_in (p ∷ ps) piece after u =
 
 -- the piece at which reading stands
 pub piece_placed : (text : List ℕ) (count : ℕ) (members : List SpecifierRecord) (start : ℕ) (piece : List ℕ)
-  → IsUtf8 text → IsReading text count members start → IsPiece text count piece
-  → IsPlaced text start (start + length piece)
+    → IsUtf8 text → IsReading text count members start → IsPiece text count piece
+    → IsPlaced text start (start + length piece)
 piece_placed text count members start piece u reading at =
     let before : List (List ℕ) = take count (pieces_of text) in
     let after : List (List ℕ) = drop (count + 1) (pieces_of text) in

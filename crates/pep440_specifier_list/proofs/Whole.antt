@@ -1,7 +1,6 @@
 -- What a whole text says, from what its pieces say.
-use Rattle.std.proofs.Common.{
-  ◌≡◌, ℕ, ◌==◌, true, false, List, [], ◌∷◌, length, Option, Some, None, Result, Ok, Err, refl, sym, ap, subst, ◌∙◌,
-  arith}
+use Rattle.std.proofs.Common.{◌≡◌, ℕ, ◌==◌, true, false, List, [], ◌∷◌, length, Option, Some, None, Result}
+use Rattle.std.proofs.Common.{Ok, Err, refl, sym, ap, subst, ◌∙◌, arith}
 use Rattle.std.proofs.lemmas.Bool.Decides.{nat_tests}
 use Rattle.std.specs.Option.{option_map}
 use Rattle.std.specs.Result.{result_ok}
@@ -9,8 +8,8 @@ use Rattle.read_outcome.specs.Outcome.{Tells}
 use Rattle.pep440_specifier.specs.Matching.{SpecifierRecord}
 use Rattle.pep440_specifier.specs.SpecifierReading.{SpecifierFault}
 use Rattle.pep440_specifier_list.specs.Lists.{IsInOrder}
-use Rattle.pep440_specifier_list.specs.ListReading.{
-  ListFault, fault_at, pieces_reading, pieces_of, line_reading, list_reading, specifiers_of}
+use Rattle.pep440_specifier_list.specs.ListReading.{ListFault, fault_at, pieces_reading, pieces_of}
+use Rattle.pep440_specifier_list.specs.ListReading.{line_reading, list_reading, specifiers_of}
 use Rattle.pep440_specifier_list.proofs.Pieces.{all_read, all_are_read}
 
 same : (m n : ℕ) → (m == n) ≡ true → m ≡ n
@@ -27,7 +26,7 @@ by_pieces [] h = absurd (let e : (0 == 0) ≡ false = h in grind (arith, nat_tes
 by_pieces (b ∷ bs) h = refl
 
 pub read_by_pieces : (text : List ℕ) → (length text == 0) ≡ false
-  → list_reading text ≡ pieces_reading text 0 (pieces_of text)
+    → list_reading text ≡ pieces_reading text 0 (pieces_of text)
 unfolding list_reading
 read_by_pieces text h = by_pieces text h
 
@@ -47,17 +46,17 @@ pub nothing_in_order : IsInOrder [] []
 nothing_in_order = record { sorted = λ k d low high. absurd (omega arith); stable = λ x. refl }
 
 pub empty_is_read : (text : List ℕ) (list : List SpecifierRecord) → (length text == 0) ≡ true → list ≡ []
-  → (given : List SpecifierRecord) × (list_reading text ≡ Ok given) × IsInOrder given list
+    → (given : List SpecifierRecord) × (list_reading text ≡ Ok given) × IsInOrder given list
 empty_is_read text list t e =
     ([], ap list_reading (nil_when text t) ∙ nothing_there, subst (IsInOrder []) (sym e) nothing_in_order)
 
 pub pieces_are_read : (text : List ℕ) (members list : List SpecifierRecord) → (length text == 0) ≡ false
-  → pieces_reading text 0 (pieces_of text) ≡ Ok members → IsInOrder members list
-  → (given : List SpecifierRecord) × (list_reading text ≡ Ok given) × IsInOrder given list
+    → pieces_reading text 0 (pieces_of text) ≡ Ok members → IsInOrder members list
+    → (given : List SpecifierRecord) × (list_reading text ≡ Ok given) × IsInOrder given list
 pieces_are_read text members list t e order = (members, read_by_pieces text t ∙ e, order)
 
 pub fault_is_told : (text : List ℕ) (told : Option ListFault) → (length text == 0) ≡ false
-  → Tells told (pieces_reading text 0 (pieces_of text)) → Tells told (list_reading text)
+    → Tells told (pieces_reading text 0 (pieces_of text)) → Tells told (list_reading text)
 fault_is_told text None t h = tt
 fault_is_told text (Some fault) t h = read_by_pieces text t ∙ h
 
@@ -65,6 +64,6 @@ fault_is_told text (Some fault) t h = read_by_pieces text t ∙ h
 
 -- the fault of a piece, at its place
 pub told_none : (line : List ℕ) (start end : ℕ) (told : Option SpecifierFault)
-  → option_map (fault_at line start end) told ≡ None → told ≡ None
+    → option_map (fault_at line start end) told ≡ None → told ≡ None
 told_none line start end None h = refl
 told_none line start end (Some fault) h = absurd (cc)

@@ -4,6 +4,7 @@ pub mod ListText
 pub mod Separated
 pub mod ListOrder
 pub mod ListHash
+pub mod ListOrderLaws
 pub mod Refusals
 pub mod ListReading
 pub mod ListBounds

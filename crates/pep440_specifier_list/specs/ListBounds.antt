@@ -16,10 +16,11 @@ Interval = Bound VersionRecord × Bound VersionRecord
 -- intervals whose bounds are versions of epoch 0 and a release alone
 abbrev pub AreReleaseIntervals : List Interval → Type 0
 AreReleaseIntervals [] = Unit {0}
-AreReleaseIntervals (next ∷ later) = IsReleaseBound next.0 × IsReleaseBound next.1 × AreReleaseIntervals later
+AreReleaseIntervals (next ∷ later) =
+    IsReleaseBound next.0 × IsReleaseBound next.1 × AreReleaseIntervals later
 
--- what is left out between an interval's upper bound and the next one's lower bound: `!=v` between below `v` and above
--- `v`, `!=a.b.*` between below `a.b` and from `a.(b+1)`
+-- what is left out between an interval's upper bound and the next one's lower bound: `!=v` between below `v` and
+-- above `v`, `!=a.b.*` between below `a.b` and from `a.(b+1)`
 abbrev pub gap_specifier : Bound VersionRecord → Bound VersionRecord → Option SpecifierRecord
 gap_specifier (Excluded upper) (Excluded lower) =
     if version_eq upper lower then Some (record { operator = NotEqual; version = upper }) else None
@@ -30,7 +31,8 @@ gap_specifier upper lower = None
 -- and in all gaps behind an upper bound
 abbrev pub gap_specifiers : Bound VersionRecord → List Interval → List SpecifierRecord
 gap_specifiers upper [] = []
-gap_specifiers upper (next ∷ later) = option_to_list (gap_specifier upper next.0) ++ gap_specifiers next.1 later
+gap_specifiers upper (next ∷ later) =
+    option_to_list (gap_specifier upper next.0) ++ gap_specifiers next.1 later
 
 -- the specifiers of the gaps, and then those of the outer bounds
 abbrev pub list_specifiers : List Interval → List SpecifierRecord

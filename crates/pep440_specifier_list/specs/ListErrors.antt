@@ -3,7 +3,8 @@ use Rattle.std.specs.Prelude.{ℕ, List, [], ◌++◌, codes}
 use Rattle.std.specs.String.{string_bytes}
 use Rattle.pep440_specifier.specs.SpecifierErrorPrints.{specifier_error_text}
 use Rattle.pep440_specifier_list.specs.declared.parse_error.VersionSpecifiersParseError.{VersionSpecifiersParseError}
-use Rattle.pep440_specifier_list.specs.declared.parse_error.VersionSpecifiersParseError.TheVariants.{Memory, Specifier}
+use Rattle.pep440_specifier_list.specs.declared.parse_error.VersionSpecifiersParseError.TheVariants.{Memory}
+use Rattle.pep440_specifier_list.specs.declared.parse_error.VersionSpecifiersParseError.TheVariants.{Specifier}
 
 -- the text that is no list; nothing for want of memory
 abbrev pub line_of : VersionSpecifiersParseError → List ℕ

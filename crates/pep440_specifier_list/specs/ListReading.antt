@@ -1,23 +1,23 @@
--- What there is to read of the text of a list: the pieces between commas, each a specifier; or the first piece that is
--- none, with its place in the text.
-use Rattle.std.specs.Prelude.{
-  ◌≡◌, ℕ, ◌+◌, ◌==◌, List, [], ◌∷◌, length, Option, Some, None, Result, Ok, Err}
+-- What there is to read of the text of a list: the pieces between commas, each a specifier; or the first piece that
+-- is none, with its place in the text.
+use Rattle.std.specs.Prelude.{◌≡◌, ℕ, ◌+◌, ◌==◌, List, [], ◌∷◌, length, Option, Some, None, Result, Ok, Err}
 use Rattle.std.specs.List.{slice_split}
 use Rattle.std.specs.Option.{option_map}
 use Rattle.std.specs.Result.{result_ok}
 use Rattle.std.specs.String.{string_bytes}
 use Rattle.read_outcome.specs.Outcome.{Tells}
 use Rattle.pep440_specifier.specs.Matching.{SpecifierRecord}
-use Rattle.pep440_specifier.specs.SpecifierReading.{
-  SpecifierFault, specifier_reading, specifier_of, told_specifier}
+use Rattle.pep440_specifier.specs.SpecifierReading.{SpecifierFault, specifier_reading, specifier_of}
+use Rattle.pep440_specifier.specs.SpecifierReading.{told_specifier}
 use Rattle.pep440_specifier_list.specs.declared.parse_error.VersionSpecifiersParseError.{VersionSpecifiersParseError}
-use Rattle.pep440_specifier_list.specs.declared.parse_error.VersionSpecifiersParseError.TheVariants.{Memory, Specifier}
+use Rattle.pep440_specifier_list.specs.declared.parse_error.VersionSpecifiersParseError.TheVariants.{Memory}
+use Rattle.pep440_specifier_list.specs.declared.parse_error.VersionSpecifiersParseError.TheVariants.{Specifier}
 use Rattle.pep440_specifier_list.specs.Lists.{IsInOrder}
 
 -- ---- reading
 
--- why a text is no list: the text, where its first piece that is no specifier begins and ends in it, in bytes, and that
--- piece's fault
+-- why a text is no list: the text, where its first piece that is no specifier begins and ends in it, in bytes, and
+-- that piece's fault
 pub record ListFault : Type 0 where
   pub line : List ℕ
   pub start : ℕ
@@ -29,7 +29,8 @@ abbrev pub fault_at : List ℕ → ℕ → ℕ → SpecifierFault → ListFault
 fault_at line start end fault = record { line = line; start = start; end = end; fault = fault }
 
 -- the reading of that piece
-abbrev pub placed_reading : List ℕ → ℕ → ℕ → Result SpecifierRecord SpecifierFault → Result SpecifierRecord ListFault
+abbrev pub placed_reading : List ℕ → ℕ → ℕ → Result SpecifierRecord SpecifierFault
+    → Result SpecifierRecord ListFault
 placed_reading line start end (Ok member) = Ok member
 placed_reading line start end (Err fault) = Err (fault_at line start end fault)
 
@@ -85,5 +86,6 @@ TellsOrMemory error = told_list error ≡ None → error ≡ Memory
 
 -- an answer is what the text says, its members in order
 abbrev pub ReadsList : Result (List SpecifierRecord) VersionSpecifiersParseError → List ℕ → Type 0
-ReadsList (Ok list) text = (given : List SpecifierRecord) × (list_reading text ≡ Ok given) × IsInOrder given list
+ReadsList (Ok list) text =
+    (given : List SpecifierRecord) × (list_reading text ≡ Ok given) × IsInOrder given list
 ReadsList (Err error) text = Tells (told_list error) (list_reading text)

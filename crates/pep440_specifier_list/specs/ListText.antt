@@ -1,4 +1,5 @@
--- The text of a list: specifiers with commas between them (PEP 440, "Version specifiers"), and what a list prints.
+-- The text of a list: specifiers with commas between them (PEP 440, "Version specifiers").
+-- And what a list prints.
 use Rattle.std.specs.Prelude.{◌≡◌, ℕ, ◌<◌, ◌⊎◌, List, [], ◌∷◌, ◌++◌, length, map, codes}
 use Rattle.std.specs.List.{AllZip, join_with_byte}
 use Rattle.pep440_specifier.specs.Matching.{SpecifierRecord}
@@ -15,7 +16,9 @@ pub record AreSpecifierTexts (text : List ℕ) (members : List SpecifierRecord) 
 
 -- the text of a list, whose members stand by version; the empty text is the empty list
 abbrev pub IsSpecifierListText : List ℕ → List SpecifierRecord → Type 0
-IsSpecifierListText text members = ((text ≡ []) × (members ≡ [])) ⊎ ((given : List SpecifierRecord) × AreSpecifierTexts text given × IsInOrder given members)
+IsSpecifierListText text members =
+    ((text ≡ []) × (members ≡ []))
+    ⊎ ((given : List SpecifierRecord) × AreSpecifierTexts text given × IsInOrder given members)
 
 -- the members with comma and blank between them
 abbrev pub list_text : List SpecifierRecord → List ℕ

@@ -10,4 +10,5 @@ behind_separator separator member = separator ++ specifier_text member
 -- the members' texts, and the separator before each but the first
 abbrev pub separated : List ℕ → List SpecifierRecord → List ℕ
 separated separator [] = []
-separated separator (member ∷ members) = specifier_text member ++ flat_map (behind_separator separator) members
+separated separator (member ∷ members) =
+    specifier_text member ++ flat_map (behind_separator separator) members

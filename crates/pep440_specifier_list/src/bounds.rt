@@ -4,8 +4,8 @@ ghost use Rattle.std.specs.Prelude.{◌≡◌, ◌∷◌, ◌++◌, length, map,
 ghost use Rattle.version_ranges.specs.Bounds.{last_upper, lent_bounds};
 ghost use Rattle.pep440_specifier.specs.Bounds.{lent_bound, IsReleaseBound};
 ghost use Rattle.pep440_specifier_list.specs.Lists.{IsInOrder};
-ghost use Rattle.pep440_specifier_list.specs.ListBounds.{
-  AreReleaseIntervals, gap_specifier, gap_specifiers, list_specifiers};
+ghost use Rattle.pep440_specifier_list.specs.ListBounds.{AreReleaseIntervals, gap_specifier, gap_specifiers};
+ghost use Rattle.pep440_specifier_list.specs.ListBounds.{list_specifiers};
 
 use crate::VersionSpecifiers;
 use pep440_specifier::{VersionSpecifier, is_next_minor};
@@ -86,7 +86,8 @@ fn push_gap(
     requires upper { IsReleaseBound (lent_bound upper) }
     requires lower { IsReleaseBound (lent_bound lower) }
     ensures { OnOk result (found.new.items
-        ≡ found.old.items ++ option_to_list (gap_specifier (lent_bound upper.entry) (lent_bound lower.entry))) }
+        ≡ found.old.items
+        ++ option_to_list (gap_specifier (lent_bound upper.entry) (lent_bound lower.entry))) }
 {
     if let Some(gap) = gap_specifier(alloc, upper, lower)? {
         found.push(gap)?;
@@ -119,7 +120,8 @@ fn gap_specifier(
 ) -> Result<Option<VersionSpecifier>, AllocError>
     requires upper { IsReleaseBound (lent_bound upper) }
     requires lower { IsReleaseBound (lent_bound lower) }
-    ensures { IfOk result (λ found. found ≡ gap_specifier (lent_bound upper.entry) (lent_bound lower.entry)) }
+    ensures { IfOk result (λ found.
+        found ≡ gap_specifier (lent_bound upper.entry) (lent_bound lower.entry)) }
 {
     match (upper, lower) {
         (Bound::Excluded(upper), Bound::Excluded(lower)) => {

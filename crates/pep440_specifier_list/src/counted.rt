@@ -39,7 +39,8 @@ impl CountedSpecifiers {
     pub fn contains_counted(&mut self, alloc: Global, version: &Version) -> Result<bool, AllocError>
         ensures answer { IfOk result (λ taken. taken ≡ matches_all self.old.members version.now) }
         ensures count { OnOk result (self.new ≡ counted self.old (asked self.old.members version.now)) }
-        ensures refusal { OnErr result ((k : ℕ) × IsRefusal self.old.members version.now k × (self.new ≡ counted self.old k)) }
+        ensures refusal { OnErr result ((k : ℕ)
+            × IsRefusal self.old.members version.now k × (self.new ≡ counted self.old k)) }
         ensures memory { All (λ s. s.operator ≢ ExactEqual) self.old.members → IsOk result }
     {
         let asking = ask(alloc, self.list.as_slice(), version);

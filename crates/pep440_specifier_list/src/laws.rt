@@ -25,7 +25,7 @@ pub fn the_empty_list_takes_all()
 pub fn list_text_is_read()
     ensures { (text : List ℕ) (members : List SpecifierRecord) → IsUtf8 text
         → ((given : List SpecifierRecord) × (specifiers_of text ≡ Some given) × IsInOrder given members)
-            ↔ IsSpecifierListText text members }
+        ↔ IsSpecifierListText text members }
 {
     specifier_text_is_read();
 }

@@ -3,8 +3,10 @@
 ghost use Rattle.std.specs.Prelude.{◌≡◌, fold, refl};
 ghost use Rattle.std.specs.List.{flat_map};
 ghost use Rattle.std.specs.Ordering.{as_partial_cmp};
-ghost use Rattle.pep440_specifier_list.specs.ListOrder.{list_cmp, list_eq, list_cmp_total, list_eq_equiv, list_eq_partial, list_partial_order};
-ghost use Rattle.pep440_specifier_list.specs.ListHash.{fed_member, fed_list, alike_lists};
+ghost use Rattle.pep440_specifier_list.specs.ListOrder.{list_cmp, list_eq};
+ghost use Rattle.pep440_specifier_list.specs.ListHash.{fed_member, fed_list};
+ghost use Rattle.pep440_specifier_list.specs.ListOrderLaws.{list_cmp_total, list_eq_equiv, list_eq_partial};
+ghost use Rattle.pep440_specifier_list.specs.ListOrderLaws.{list_partial_order, alike_lists};
 
 use crate::VersionSpecifiers;
 use pep440_specifier::VersionSpecifier;

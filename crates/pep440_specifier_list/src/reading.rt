@@ -4,8 +4,8 @@ ghost use Rattle.std.specs.Prelude.{◌≡◌, length, IfErr, IsOk};
 ghost use Rattle.read_outcome.specs.Outcome.{Answers};
 ghost use Rattle.pep440_specifier.specs.SpecifierReading.{specifier_reading};
 ghost use Rattle.pep440_specifier_list.specs.Places.{IsPlaced};
-ghost use Rattle.pep440_specifier_list.specs.ListReading.{
-  placed_reading, pieces_reading, pieces_of, told_list, TellsOrMemory, ReadsList};
+ghost use Rattle.pep440_specifier_list.specs.ListReading.{placed_reading, pieces_reading, pieces_of};
+ghost use Rattle.pep440_specifier_list.specs.ListReading.{told_list, TellsOrMemory, ReadsList};
 
 use crate::{RefusedPiece, VersionSpecifiers, VersionSpecifiersParseError};
 use pep440_specifier::{VersionSpecifier, VersionSpecifierParseError};

@@ -86,7 +86,8 @@ impl VersionSpecifiers {
     /// The members, by version, one after another.
     pub fn iter(&self) -> slice::Iter<'_, VersionSpecifier>
         ensures rest { iter_rest result ≡ self.now }
-        ensures runs { EveryRun (iter_steps {A = VersionSpecifier}) (λ p. ItemsMapTo p (λ y. y.now) (iter_rest p.from)) }
+        ensures runs { EveryRun (iter_steps {A = VersionSpecifier})
+            (λ p. ItemsMapTo p (λ y. y.now) (iter_rest p.from)) }
     {
         self.members.iter()
     }
@@ -95,7 +96,8 @@ impl VersionSpecifiers {
     pub fn into_iter(self) -> vec::IntoIter<VersionSpecifier>
         ensures rest { into_iter_items result ≡ self }
         ensures len { into_iter_len result ≡ length self }
-        ensures runs { EveryRun (into_iter_steps {X = VersionSpecifier} {Z = Global}) (λ p. ItemsAre p (into_iter_items p.from)) }
+        ensures runs { EveryRun (into_iter_steps {X = VersionSpecifier} {Z = Global})
+            (λ p. ItemsAre p (into_iter_items p.from)) }
     {
         self.members.into_iter()
     }

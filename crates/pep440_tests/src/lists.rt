@@ -71,6 +71,10 @@ fn prints_by_version(rt: HostRuntime) -> Result<(), Fail> {
     let list = given_turned(alloc)?;
     assert_eq!(rt; list.to_string(alloc)?.as_str(), ">=1.16, <2.0");
     assert_eq!(rt; format!(in alloc; "{list:?}")?.as_str(), "\">=1.16, <2.0\"");
+    assert_eq!(rt;
+        list.bare_commas().to_string(alloc)?.as_str(),
+        ">=1.16,<2.0"
+    );
     assert_eq!(rt; list.to_value(alloc)?.as_str(), Some(">=1.16,<2.0"));
     Ok(())
 }
@@ -120,17 +124,6 @@ fn tells_faults(rt: HostRuntime) -> Result<(), Fail> {
     let memory = VersionSpecifiersParseError::Memory;
     assert_eq!(rt; memory.to_string(alloc)?.as_str(), "out of memory");
     assert_eq!(rt; memory.line(), "");
-    let fault = VersionSpecifiersParseError::Specifier {
-        error: VersionSpecifierParseError::MissingOperator,
-        line: String::from_str(alloc, ">=1,")?,
-        start: 4,
-        end: 4,
-    };
-    assert_eq!(rt;
-        fault.to_string(alloc)?.as_str(),
-        "Failed to parse version: Unexpected end of version specifier, expected operator"
-    );
-    assert_eq!(rt; fault.line(), ">=1,");
     assert_eq!(rt;
         VersionSpecifiers::from_value(alloc, &Value::Null).err(),
         Some(FromValueError::Shape)
@@ -157,28 +150,57 @@ fn reads_and_prints(rt: HostRuntime) -> Result<(), Fail> {
     Ok(())
 }
 
-/// The first piece between commas that is none, and its place in bytes.
+/// The first piece between commas that is none, its place in bytes, and the print of what is wrong with it.
 #[test]
 fn names_the_first_fault(rt: HostRuntime) -> Result<(), Fail> {
     let alloc = rt.alloc();
-    for (text, error, start, end) in [
-        (">=1,", VersionSpecifierParseError::MissingOperator, 4, 4),
-        (" ", VersionSpecifierParseError::MissingOperator, 0, 1),
+    for (text, piece, start, end, print) in [
+        (
+            ">=1,",
+            "",
+            4,
+            4,
+            "Failed to parse version: Unexpected end of version specifier, expected operator",
+        ),
         (
             ">=1, == ,1",
-            VersionSpecifierParseError::MissingVersion,
+            " == ",
             4,
             8,
+            "Failed to parse version: Unexpected end of version specifier, expected version",
         ),
-        ("é,>=1", VersionSpecifierParseError::MissingOperator, 0, 2),
+        (
+            "é,>=1",
+            "é",
+            0,
+            2,
+            "Failed to parse version: Unexpected end of version specifier, expected operator",
+        ),
+        (
+            ">=1,<2.x",
+            "<2.x",
+            4,
+            8,
+            "Failed to parse version: after parsing `2`, found `.x`, which is not part of a valid version",
+        ),
     ] {
-        let fault = VersionSpecifiersParseError::Specifier {
-            error,
-            line: String::from_str(alloc, text)?,
-            start,
-            end,
-        };
-        assert_eq!(rt; VersionSpecifiers::from_str(alloc, text).err(), Some(fault));
+        match VersionSpecifiers::from_str(alloc, text) {
+            Err(error) => {
+                assert_eq!(rt; error.to_string(alloc)?.as_str(), print);
+                assert_eq!(rt; error.line(), text);
+                match error {
+                    VersionSpecifiersParseError::Specifier(refused) => {
+                        assert_eq!(rt; refused.piece(), piece);
+                        assert_eq!(rt; refused.line(), text);
+                        assert_eq!(rt; refused.start(), start);
+                        assert_eq!(rt; refused.end(), end);
+                        assert!(rt; *refused.error() != VersionSpecifierParseError::Memory);
+                    }
+                    VersionSpecifiersParseError::Memory => assert!(rt; false, "no memory"),
+                }
+            }
+            Ok(list) => assert!(rt; false, "read {list}"),
+        }
     }
     Ok(())
 }
@@ -233,18 +255,31 @@ fn says_a_gap_by_not_equal(rt: HostRuntime) -> Result<(), Fail> {
     Ok(())
 }
 
-/// From 3.7 to below a version, and from above it to below 4.
+/// The list of a lower version up to below an upper one, but for one between.
+fn around<'a>(
+    alloc: Global,
+    lower: &'a Version,
+    middle: &'a Version,
+    upper: &'a Version,
+) -> Result<VersionSpecifiers, AllocError>
+    requires lower { IsReleaseVersion lower.now }
+    requires middle { IsReleaseVersion middle.now }
+    requires upper { IsReleaseVersion upper.now }
+{
+    let bounds = [
+        (Bound::Included(lower), Bound::Excluded(middle)),
+        (Bound::Excluded(middle), Bound::Excluded(upper)),
+    ];
+    VersionSpecifiers::from_release_only_bounds(alloc, &bounds)
+}
+
 #[test]
 fn keeps_the_outer_bounds(rt: HostRuntime) -> Result<(), Fail> {
     let alloc = rt.alloc();
     let lower = release(alloc, "3.7")?;
     let middle = release(alloc, "3.8")?;
     let upper = release(alloc, "4")?;
-    let bounds = [
-        (Bound::Included(&lower), Bound::Excluded(&middle)),
-        (Bound::Excluded(&middle), Bound::Excluded(&upper)),
-    ];
-    let list = VersionSpecifiers::from_release_only_bounds(alloc, &bounds)?;
+    let list = around(alloc, &lower, &middle, &upper)?;
     assert_eq!(rt; list.to_string(alloc)?.as_str(), ">=3.7, !=3.8, <4");
     Ok(())
 }

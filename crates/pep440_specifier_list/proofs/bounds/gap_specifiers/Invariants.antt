@@ -8,4 +8,4 @@ abbrev pub invariant-loop-next : goal.invariant-loop-next
 invariant-loop-next l =
     IsReleaseBound (lent_bound l.upper) × AreReleaseIntervals (map lent_bounds (drop l.next-index l.later))
     × (l.found.items ++ gap_specifiers (lent_bound l.upper) (map lent_bounds (drop l.next-index l.later))
-      ≡ gap_specifiers (lent_bound l.fn.first) (map lent_bounds l.later))
+    ≡ gap_specifiers (lent_bound l.fn.first) (map lent_bounds l.later))

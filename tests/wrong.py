@@ -1,0 +1,411 @@
+#!/usr/bin/env python3
+"""Tries wrong edits: the prover has to refuse each.
+
+    wrong.py [--texts] [CRATE..]
+
+A crate C has wrong edits in crates/C/must-fail/, which the gate tries at each run, and in
+tests/wrong/C/, which are tried here alone. Both kinds are tried in a copy of the tree, as many side
+by side as there are processors and memory; all crates' where none is named. With --texts nothing is
+proved: it is only seen that each edit still fits the files that it changes.
+
+An edit that is refused has passed. One that is proved, doesn't compile or doesn't fit has failed,
+and a line names it. The last line is `N passed, M failed`; the status is 0 where M is 0, and
+2 where a name is no crate's.
+"""
+
+import fcntl
+import os
+import re
+import shutil
+import signal
+import subprocess
+import sys
+import tempfile
+import threading
+import time
+
+TOP = os.path.dirname(os.path.dirname(os.path.abspath(__file__)))
+PARTS = ("src", "specs", "proofs")
+# A group of edits begins with a proof of the whole crate, so smaller groups cost more than they save.
+LEAST_GROUP = 6
+NAME = re.compile(r"[A-Za-z0-9_-][A-Za-z0-9_.-]*\.edit")
+
+
+class Crate:
+    def __init__(self, name, uses):
+        self.name, self.uses = name, uses
+        self.folder = os.path.join(TOP, "crates", name)
+        self.edits, self.faults = {}, []
+
+    def text_files(self):
+        for part in PARTS:
+            for at, folders, names in os.walk(os.path.join(self.folder, part)):
+                folders.sort()
+                yield from (os.path.join(at, name) for name in sorted(names))
+
+    def memory(self):
+        """What a check takes at most, in bytes: it grows with the crate's lines."""
+        lines = 0
+        for path in self.text_files():
+            with open(path, "rb") as file:
+                lines += file.read().count(b"\n")
+        return 1_500_000_000 + 700_000 * lines
+
+
+def read_crates():
+    """The crates of crates.txt by name, lowest first as they stand there, and its lines."""
+    crates, lines = {}, {}
+    with open(os.path.join(TOP, "crates.txt"), encoding="utf-8") as file:
+        for line in file:
+            name, colon, uses = line.partition("#")[0].partition(":")
+            if colon:
+                crates[name.split()[0]] = Crate(name.split()[0], uses.split())
+                lines[name.split()[0]] = line
+    for crate in crates.values():
+        crate.uses = [it for it in crate.uses if it in crates]
+    return crates, lines
+
+
+def below(crate, crates):
+    """The crates below one, each after those that it uses."""
+    found = []
+    for name in crate.uses:
+        for it in [*below(crates[name], crates), crates[name]]:
+            if it not in found:
+                found.append(it)
+    return found
+
+
+def find_edits(crate):
+    """Finds the crate's edits of both kinds, and what is no edit."""
+    for folder in (os.path.join(crate.folder, "must-fail"), os.path.join(TOP, "tests", "wrong", crate.name)):
+        for name in sorted(os.listdir(folder)) if os.path.isdir(folder) else []:
+            path = os.path.join(folder, name)
+            if name.endswith(".md"):
+                continue
+            if not NAME.fullmatch(name) or not os.path.isfile(path):
+                crate.faults.append(f"{os.path.relpath(path, TOP)}: its name is none of an edit, NAME.edit")
+            elif name in crate.edits:
+                crate.faults.append(f"{crate.name}/{name}: two edits have this name")
+            else:
+                crate.edits[name] = path
+
+
+def misfit(path, folder):
+    """Why an edit doesn't fit the files that it changes, or None."""
+    texts, file, old, pairs = {}, None, None, 0
+    with open(path, encoding="utf-8", errors="replace") as lines:
+        for line in lines.read().split("\n"):
+            word, _, rest = line.partition(" ")
+            if word == "file:":
+                file, old = rest.strip(), None
+                if not file.startswith(tuple(f"{it}/" for it in PARTS)) or os.path.normpath(file) != file:
+                    return f"{file} is no file of src/, specs/ or proofs/"
+                if file not in texts:
+                    try:
+                        with open(os.path.join(folder, file), encoding="utf-8") as it:
+                            texts[file] = it.read()
+                    except OSError:
+                        return f"there is no file {file}"
+            elif word == "old:":
+                old = rest
+            elif word == "new:":
+                if not file or not old:
+                    return "a 'new:' stands before its 'file:' or 'old:'"
+                found = texts[file].count(old)
+                if found != 1:
+                    return f"an 'old:' text stands in {file} {found} times, and not once"
+                texts[file], old, pairs = texts[file].replace(old, rest), None, pairs + 1
+    return None if pairs else "it has no 'old:' and 'new:'"
+
+
+def try_texts(crates):
+    """Sees whether each edit fits. Returns how many crates are well and how many faults there are."""
+    passed = failed = 0
+    for crate in crates:
+        told = list(crate.faults)
+        for name, path in crate.edits.items():
+            why = misfit(path, crate.folder)
+            if why:
+                told.append(f"{crate.name}/{name}: {why}")
+        for line in told:
+            print(f"FAILED: {line}")
+        failed += len(told)
+        passed += not told
+    return passed, failed
+
+
+def link_or_copy(source, target):
+    try:
+        os.link(source, target)
+    except OSError:
+        shutil.copy2(source, target)
+
+
+def copy_texts(crate, room):
+    folder = os.path.join(room, "crates", crate.name)
+    for part in PARTS:
+        source = os.path.join(crate.folder, part)
+        if os.path.isdir(source):
+            shutil.copytree(source, os.path.join(folder, part))
+    return folder
+
+
+def copy_kept(crate, folder):
+    """Takes over what earlier checks left of a library, so that it isn't proved again."""
+    kept, stamp = os.path.join(crate.folder, "out"), os.path.join(crate.folder, "out", "rlib", "stamp")
+    with_rlib = os.path.isfile(stamp)
+    if with_rlib:
+        # (rt removes a library that it makes anew, and writes into none)
+        shutil.copytree(os.path.join(kept, "rlib"), os.path.join(folder, "out", "rlib"), copy_function=link_or_copy)
+    made = os.path.getmtime(stamp) if with_rlib else 0
+    if any(os.path.getmtime(it) > made for it in crate.text_files()):
+        incremental = os.path.join(kept, "incremental")
+        if os.path.isdir(incremental):
+            shutil.copytree(incremental, os.path.join(folder, "out", "incremental"))
+
+
+def held_alone(crate):
+    """Waits until no rt works in the crate's folder, and keeps others out until it is closed."""
+    held = os.open(crate.folder, os.O_RDONLY)
+    try:
+        fcntl.flock(held, fcntl.LOCK_SH | fcntl.LOCK_NB)
+    except BlockingIOError:
+        print(f"wrong: waiting for another rt to finish in {crate.folder}", file=sys.stderr, flush=True)
+        fcntl.flock(held, fcntl.LOCK_SH)
+    except OSError:
+        pass  # some file systems have no locks
+    return held
+
+
+class Runs:
+    """Runs commands, each in a session of its own, and ends those that run when it is told to."""
+
+    def __init__(self):
+        # (a signal may come where its thread holds the lock)
+        self.running, self.turn, self.is_over, self.room = set(), threading.RLock(), False, None
+
+    def run(self, words, folder):
+        with self.turn:
+            if self.is_over:
+                return 1, ""
+            how = {"stdin": subprocess.DEVNULL, "stdout": subprocess.PIPE, "stderr": subprocess.STDOUT}
+            # What rt keeps meanwhile goes with the room, however rt ends.
+            how["env"] = {**os.environ, "TMPDIR": self.room}
+            process = subprocess.Popen(words, cwd=folder, errors="replace", start_new_session=True, **how)
+            self.running.add(process)
+        said, _ = process.communicate()
+        with self.turn:
+            self.running.discard(process)
+        return process.returncode, said
+
+    def end(self):
+        # rt ends what it has started when it ends, however it ends.
+        with self.turn:
+            self.is_over = True
+            for process in self.running:
+                process.kill()
+            if self.running:
+                time.sleep(0.5)
+
+
+class Group:
+    """Some edits of a crate, which rt tries in turn over one another's work."""
+
+    def __init__(self, crate, names):
+        self.crate, self.names = crate, names
+        self.work = crate.memory() * (6 + len(names))
+
+    def prepare(self, base, room, crates, lines):
+        """Lays out the crate with these edits, over the libraries that stand in the base."""
+        own = [*below(self.crate, crates), self.crate]
+        with open(os.path.join(room, "crates.txt"), "w", encoding="utf-8") as file:
+            file.writelines(lines[it.name] for it in own)
+        for it in own:
+            folder = copy_texts(it, room)
+            if it is not self.crate:
+                os.symlink(os.path.join(base, "crates", it.name, "out"), os.path.join(folder, "out"))
+        edits = os.path.join(room, "crates", self.crate.name, "must-fail")
+        os.mkdir(edits)
+        for name in self.names:
+            shutil.copyfile(self.crate.edits[name], os.path.join(edits, name))
+
+    def outcomes(self, said):
+        """What rt told of each edit: whether it was refused, and the words."""
+        pieces = re.split(rf"^rt: must-fail {self.crate.name}/(\S+?): ", said, flags=re.M)
+        told = dict(zip(pieces[1::2], (it.rstrip("\n") for it in pieces[2::2])))
+        last = said.rstrip("\n").rpartition("\n")[2][:300]
+        for name in self.names:
+            words = told.get(name, f"rt told no outcome; its last line is: {last}")
+            yield name, words.startswith("refused"), words
+
+
+def build_libraries(base, needed, lines, runs):
+    """Has each library that a tried crate uses in the base, and returns the names of those that failed."""
+    with open(os.path.join(base, "crates.txt"), "w", encoding="utf-8") as file:
+        file.writelines(lines[it.name] for it in needed)
+    for it in needed:
+        held = held_alone(it)
+        copy_kept(it, copy_texts(it, base))
+        os.close(held)
+    failed = set()
+    jobs = str(min(4, len(os.sched_getaffinity(0))))
+    for it in needed:
+        if failed & {*it.uses}:
+            failed.add(it.name)
+            continue
+        status, said = runs.run(["rt", "lib", "--jobs", jobs], os.path.join(base, "crates", it.name))
+        if status and not runs.is_over:
+            failed.add(it.name)
+            print(f"FAILED: the library {it.name} is not proved:", *said.split("\n")[-6:], sep="\n    ")
+    return failed
+
+
+def free_memory():
+    with open("/proc/meminfo", encoding="ascii") as file:
+        return 1024 * int(re.search(r"MemAvailable:\s+(\d+)", file.read())[1])
+
+
+def in_groups(tried, lanes):
+    number = sum(len(it.edits) for it in tried)
+    size = max(LEAST_GROUP, -(-number // lanes))
+    groups = []
+    for crate in tried:
+        names = sorted(crate.edits)
+        parts = -(-len(names) // size)
+        groups += [Group(crate, names[at::parts]) for at in range(parts)]
+    return sorted(groups, key=lambda it: -it.work)
+
+
+class Trial:
+    """Tries groups of edits side by side, as many as processors and memory allow."""
+
+    def __init__(self, groups, base, rooms, crates, lines, runs):
+        self.groups, self.base, self.rooms, self.runs = groups, base, rooms, runs
+        self.crates, self.lines = crates, lines
+        self.turn, self.memory = threading.Condition(), 0.85 * free_memory()
+        self.done = self.passed = self.failed = self.busy = 0
+        self.began = time.monotonic()
+
+    def judge(self, group, said):
+        outcomes = list(group.outcomes(said))
+        refused = sum(is_refused for _, is_refused, _ in outcomes)
+        self.done, self.passed = self.done + 1, self.passed + refused
+        self.failed += len(outcomes) - refused
+        for name, is_refused, words in outcomes:
+            label = f"{group.crate.name}/{name}"
+            if not is_refused:
+                print(f"FAILED: {label}: {words}")
+            elif "only because a proof file names" in words:
+                print(f"note: {label}: {words}")
+        seconds = time.monotonic() - self.began
+        print(f"wrong: {group.crate.name}: {refused} of {len(outcomes)} edits refused"
+              f" ({self.done} of {len(self.groups)} groups, {seconds:.0f} s)", flush=True)
+
+    def try_group(self, group, number):
+        need = group.crate.memory()
+        try:
+            room = os.path.join(self.rooms, str(number))
+            os.makedirs(room)
+            group.prepare(self.base, room, self.crates, self.lines)
+            _, said = self.runs.run(["rt", "must-fail", group.crate.name], room)
+            shutil.rmtree(room, ignore_errors=True)
+        except OSError as error:
+            said = str(error)
+        with self.turn:
+            if not self.runs.is_over:
+                self.judge(group, said)
+            self.memory, self.busy = self.memory + need, self.busy - 1
+            self.turn.notify_all()
+
+    def run(self, lanes):
+        threads, left = [], list(enumerate(self.groups))
+        while left and not self.runs.is_over:
+            with self.turn:
+                fits = [it for it in left if it[1].crate.memory() <= self.memory or not self.busy]
+                if self.busy >= lanes or not fits:
+                    self.turn.wait(1)
+                    continue
+                number, group = fits[0]
+                left.remove(fits[0])
+                self.memory, self.busy = self.memory - group.crate.memory(), self.busy + 1
+            threads.append(threading.Thread(target=self.try_group, args=(group, number), daemon=True))
+            threads[-1].start()
+        for it in threads:
+            while it.is_alive():
+                it.join(1)
+        return self.passed, self.failed
+
+
+def try_edits(tried, crates, lines, runs):
+    """Tries the edits of these crates, and returns how many passed and failed."""
+    lanes = len(os.sched_getaffinity(0))
+    failed = sum(len(it.faults) for it in tried)
+    for crate in tried:
+        for line in crate.faults:
+            print(f"FAILED: {line}")
+    needed = []
+    for crate in tried:
+        needed += [it for it in below(crate, crates) if it not in needed]
+    room = runs.room = tempfile.mkdtemp(prefix="reqs-wrong-")
+    try:
+        base = os.path.join(room, "base")
+        os.mkdir(base)
+        lost = build_libraries(base, needed, lines, runs)
+        for crate in [it for it in tried if lost & {*it.uses}]:
+            print(f"FAILED: {crate.name}: its {len(crate.edits)} edits were not tried, since a library below isn't proved")
+            failed += len(crate.edits)
+            tried = [it for it in tried if it is not crate]
+        groups = in_groups([it for it in tried if it.edits], lanes)
+        trial = Trial(groups, base, os.path.join(room, "rooms"), crates, lines, runs)
+        good, bad = trial.run(lanes)
+    finally:
+        # (what still runs is told to end first, so that nothing is written any more)
+        runs.end()
+        shutil.rmtree(room, ignore_errors=True)
+    return good, failed + bad
+
+
+def strays(crates):
+    """Folders of tests/wrong/ that no crate has."""
+    folder = os.path.join(TOP, "tests", "wrong")
+    names = sorted(os.listdir(folder)) if os.path.isdir(folder) else []
+    return [it for it in names if it not in crates and not it.endswith(".md")]
+
+
+def main(words):
+    texts = words[:1] == ["--texts"]
+    names = words[1:] if texts else words
+    crates, lines = read_crates()
+    unknown = [it for it in names if it not in crates]
+    if unknown:
+        print(f"wrong: crates.txt names no crate {unknown[0]}", file=sys.stderr)
+        return 2
+    tried = [it for it in crates.values() if not names or it.name in names]
+    for crate in tried:
+        find_edits(crate)
+    failed = 0
+    for it in strays(crates):
+        print(f"FAILED: tests/wrong/{it}: crates.txt names no such crate")
+        failed += 1
+    if texts:
+        good, bad = try_texts(tried)
+    else:
+        runs = Runs()
+
+        def stop(number, _frame):
+            runs.end()
+            raise SystemExit(128 + number)
+
+        for it in (signal.SIGINT, signal.SIGTERM, signal.SIGHUP):
+            signal.signal(it, stop)
+        try:
+            good, bad = try_edits(tried, crates, lines, runs)
+        finally:
+            runs.end()
+    print(f"{good} passed, {failed + bad} failed")
+    return 1 if failed + bad else 0
+
+
+if __name__ == "__main__":
+    sys.exit(main(sys.argv[1:]))
