@@ -1,13 +1,10 @@
 -- What a whole requirements text reads as, by the grammar of its lines.
-use Rattle.std.proofs.Common.{◌≡◌, ◌↔◌, ◌∷◌, ◌++◌, ℕ, Bool, true, false, List, Option, Some, None, Result, Ok, Err, if◌then◌else◌, refl, ap, sym, ◌∙◌}
-use Rattle.std.proofs.lemmas.Str.{IsUtf8-from_is_utf8}
+use Rattle.std.proofs.Common.{◌≡◌, ◌↔◌, ◌∷◌, ◌++◌, ℕ, List, Option, Some, None, Ok, Err, refl, ap, ◌∙◌}
 use Rattle.std.specs.List.{AllZip}
-use Rattle.std.specs.Str.{is_utf8, IsUtf8}
-use Rattle.std.specs.Str.Lossy.{utf8_valid_len}
+use Rattle.std.specs.Str.{IsUtf8}
 use Rattle.reqtable_lines.specs.declared.requirement.RequirementLine.{RequirementLine}
-use Rattle.reqtable_lines.specs.declared.requirements.RequirementsError.{RequirementsError}
 use Rattle.reqtable_lines.specs.declared.requirements.RequirementsError.TheVariants.{NotText, NotYet}
-use Rattle.reqtable_lines.specs.TextLines.{text_lines, each_line}
+use Rattle.reqtable_lines.specs.TextLines.{text_lines}
 use Rattle.reqtable_lines.specs.RequirementLine.{IsRequirementLine, IsNumberedLine, IsFirstUnread}
 use Rattle.reqtable_lines.specs.Reading.{requirement_of}
 use Rattle.reqtable_lines.specs.Requirements.{or_not_yet, requirement_at, requirements_of}

@@ -1,14 +1,11 @@
 -- What a whole candidate list reads as, by the grammar of its lines.
-use Rattle.std.proofs.Common.{◌≡◌, ◌↔◌, ◌∷◌, ◌++◌, ℕ, Bool, true, false, List, Result, Ok, Err, if◌then◌else◌, refl, ap, sym, subst, ◌∙◌}
-use Rattle.std.proofs.lemmas.Str.{IsUtf8-from_is_utf8}
+use Rattle.std.proofs.Common.{◌≡◌, ◌↔◌, ◌∷◌, ◌++◌, ℕ, List, Result, Ok, Err, ap, subst, ◌∙◌}
 use Rattle.std.specs.List.{AllByRecursion, AllZip}
-use Rattle.std.specs.Str.{is_utf8, IsUtf8}
-use Rattle.std.specs.Str.Lossy.{utf8_valid_len}
+use Rattle.std.specs.Str.{IsUtf8}
 use Rattle.reqtable_lines.specs.declared.candidates.Candidate.{Candidate}
 use Rattle.reqtable_lines.specs.declared.candidates.CandidateFault.{CandidateFault}
-use Rattle.reqtable_lines.specs.declared.candidates.CandidatesError.{CandidatesError}
 use Rattle.reqtable_lines.specs.declared.candidates.CandidatesError.TheVariants.{NotText, Line}
-use Rattle.reqtable_lines.specs.TextLines.{text_lines, each_line}
+use Rattle.reqtable_lines.specs.TextLines.{text_lines}
 use Rattle.reqtable_lines.specs.CandidateLine.{candidate_of}
 use Rattle.reqtable_lines.specs.CandidateText.{IsNumberedCandidate, IsFirstFault}
 use Rattle.reqtable_lines.specs.Candidates.{at_line, candidate_at, candidates_of}
