@@ -1,6 +1,6 @@
 -- Names of packages and extras: which texts are names (PEP 508, "Names"), and the normal form of each
 -- (PEP 503, "Normalized Names").
-use Rattle.std.specs.Prelude.{◌≡◌, ℕ, ◌-◌, ◌==◌, ◌&&◌, ◌||◌, Bool, true, false, if◌then◌else◌, List, [], ◌∷◌, ◌++◌, length, map, filter, codes, Option, Some, None, unwrap_or, Result}
+use Rattle.std.specs.Prelude.{ℕ, ◌-◌, ◌==◌, ◌&&◌, ◌||◌, Bool, true, false, if◌then◌else◌, List, [], ◌∷◌, ◌++◌, length, map, filter, codes, Option, Some, None, unwrap_or, Result}
 use Rattle.std.specs.Option.{option_map_or, ok_or}
 use Rattle.std.specs.List.{slice_get, slice_split, join_with_byte, list_all}
 use Rattle.std.specs.Char.{is_ascii_alphanumeric, to_ascii_lowercase}
@@ -10,8 +10,6 @@ use Rattle.std.specs.Hash as fed
 use Rattle.std.specs.declared.cmp.Ordering.{Ordering}
 use Rattle.std.specs.Ordering.{nat_cmp}
 use Rattle.std.specs.Cmp.Lexicographic.{slice_cmp}
-use Rattle.std.proofs.Common.{ap}
-use Rattle.std.proofs.lemmas.Slice.Eq.{bytes_eq-Decides}
 use Rattle.pep508_name.specs.declared.InvalidNameError.{InvalidNameError}
 use Rattle.pep508_name.specs.declared.InvalidNameError.TheVariants.{Memory, InvalidName}
 
@@ -88,7 +86,3 @@ name_cmp = slice_cmp nat_cmp
 -- what a name feeds a hash: its bytes, and a byte that ends them
 abbrev pub fed_name : List ℕ → List (List ℕ)
 fed_name name = fed.str name
-
--- equal names feed a hash alike
-pub alike_names : (a b : List ℕ) → name_eq a b ≡ true → fed_name a ≡ fed_name b
-alike_names a b h = ap fed_name ((bytes_eq-Decides a b).0 h)

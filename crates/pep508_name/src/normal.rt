@@ -9,7 +9,8 @@ ghost use Rattle.std.specs.Fmt.{debug_str};
 ghost use Rattle.std.specs.List.{list_all};
 ghost use Rattle.std.specs.String.{string_bytes};
 ghost use Rattle.read_outcome.specs.Outcome.{Answers};
-ghost use Rattle.pep508_name.specs.Name.{is_name, is_name_byte, is_alphanumeric, is_separator, normal_name, name_of, name_reading, told_name, name_eq, name_cmp, fed_name, alike_names};
+ghost use Rattle.pep508_name.specs.Name.{is_name, is_name_byte, is_alphanumeric, is_separator, normal_name, name_of, name_reading, told_name, name_eq, name_cmp, fed_name};
+ghost use Rattle.pep508_name.specs.Hashing.{alike_names};
 
 use crate::InvalidNameError;
 use std::alloc::{AllocError, Global};

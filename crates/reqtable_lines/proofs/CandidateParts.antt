@@ -7,12 +7,9 @@ use Rattle.std.specs.List.{list_any, before_first, after_first, position_or_len}
 use Rattle.std.specs.Str.{chars, encode_utf8_all, all_scalars, IsUtf8, NonePass, skip_leading_whitespace, drop_trailing_whitespace, trim_start, trim_end, trim}
 use Rattle.reqtable_lines.specs.CandidateLine.{parts_in}
 use Rattle.reqtable_lines.specs.CandidateText.{AreWhite, AreItsParts}
-use Rattle.reqtable_lines.proofs.Spaced.{both_true}
+use Rattle.reqtable_lines.proofs.Spaced.{some_same, both_true}
 use Rattle.reqtable_lines.proofs.Words.{some_any, before_place, after_place}
 use Rattle.reqtable_lines.proofs.White.{BeginsBlack, led, trailed, skip_white, skip_black, white_dropped, bare_stays, dropped_again, end_is_bare, ends_in_none, still_black}
-
-some_same : {A : Type 0} (x y : A) → Some x ≡ Some y → x ≡ y
-some_same x y h = cc
 
 -- ---- characters that can be encoded
 

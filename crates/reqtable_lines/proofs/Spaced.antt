@@ -22,6 +22,9 @@ abbrev pub Stops : ByteClass → List ℕ → Type 0
 Stops class [] = Unit {0}
 Stops class (b ∷ bs) = is_in class b ≡ false
 
+pub some_same : {A : Type 0} (x y : A) → Some x ≡ Some y → x ≡ y
+some_same x y h = cc
+
 -- ---- runs
 
 stops_len : (class : ByteClass) (rest : List ℕ) → Stops class rest → prefix_len (is_in class) rest ≡ 0

@@ -1,20 +1,17 @@
 -- What a whole requirements text reads as, by the grammar of its lines.
-use Rattle.std.proofs.Common.{◌≡◌, ◌↔◌, ◌∷◌, ◌++◌, ℕ, Bool, true, false, List, Option, Some, None, Result, Ok, Err, if◌then◌else◌, refl, ap, sym, ◌∙◌}
-use Rattle.std.proofs.lemmas.Str.{IsUtf8-from_is_utf8}
+use Rattle.std.proofs.Common.{◌≡◌, ◌↔◌, ◌∷◌, ◌++◌, ℕ, List, Option, Some, None, Ok, Err, refl, ap, ◌∙◌}
 use Rattle.std.specs.List.{AllZip}
-use Rattle.std.specs.Str.{is_utf8, IsUtf8}
-use Rattle.std.specs.Str.Lossy.{utf8_valid_len}
+use Rattle.std.specs.Str.{IsUtf8}
 use Rattle.reqtable_lines.specs.declared.requirement.RequirementLine.{RequirementLine}
-use Rattle.reqtable_lines.specs.declared.requirements.RequirementsError.{RequirementsError}
 use Rattle.reqtable_lines.specs.declared.requirements.RequirementsError.TheVariants.{NotText, NotYet}
-use Rattle.reqtable_lines.specs.TextLines.{text_lines, each_line}
+use Rattle.reqtable_lines.specs.TextLines.{text_lines}
 use Rattle.reqtable_lines.specs.RequirementLine.{IsRequirementLine, IsNumberedLine, IsFirstUnread}
 use Rattle.reqtable_lines.specs.Reading.{requirement_of}
 use Rattle.reqtable_lines.specs.Requirements.{or_not_yet, requirement_at, requirements_of}
 use Rattle.reqtable_lines.proofs.Releases.{VersionLaw}
 use Rattle.reqtable_lines.proofs.Grammar.{line_found, line_again}
 use Rattle.reqtable_lines.proofs.Lines.{FirstFault, each_found, each_again, fault_found, fault_again, all_zip_map}
-use Rattle.reqtable_lines.proofs.Texts.{requirements_text}
+use Rattle.reqtable_lines.proofs.Texts.{text_is_read, text_found}
 
 read_by : (number : ℕ) (read : Option RequirementLine) (line : RequirementLine) → or_not_yet number read ≡ Ok line → read ≡ Some line
 read_by number (Some other) line h = cc
@@ -26,21 +23,11 @@ at_found law numbered line h = line_found law numbered.0 numbered.1 line (read_b
 at_again : VersionLaw → (numbered : ℕ × List ℕ) (line : RequirementLine) → IsNumberedLine numbered line → requirement_at numbered.0 numbered.1 ≡ Ok line
 at_again law numbered line h = ap (or_not_yet numbered.0) (line_again law numbered.0 numbered.1 line h)
 
--- only bytes that are text read as lines, or as a line that is not read
-text_by : (bytes : List ℕ) (t : Bool) (lines : Result (List RequirementLine) RequirementsError) → is_utf8 bytes ≡ t → (if t then each_line requirement_at (text_lines bytes) else Err (NotText (utf8_valid_len bytes))) ≡ lines
-    → ((offset : ℕ) → lines ≡ Err (NotText offset) → ⊥) → IsUtf8 bytes × (each_line requirement_at (text_lines bytes) ≡ lines)
-text_by bytes true lines e h others = (IsUtf8-from_is_utf8 bytes e, h)
-text_by bytes false lines e h others = absurd (others (utf8_valid_len bytes) (sym h))
-
-text_found : (bytes : List ℕ) (lines : Result (List RequirementLine) RequirementsError) → requirements_of bytes ≡ lines → ((offset : ℕ) → lines ≡ Err (NotText offset) → ⊥) → IsUtf8 bytes × (each_line requirement_at (text_lines bytes) ≡ lines)
-unfolding requirements_of
-text_found bytes lines h others = text_by bytes (is_utf8 bytes) lines refl h others
-
 pub lines_read : VersionLaw → (bytes : List ℕ) (lines : List RequirementLine) → (requirements_of bytes ≡ Ok lines) ↔ (IsUtf8 bytes × AllZip IsNumberedLine (text_lines bytes) lines)
 lines_read law bytes lines = (
-  λ h. let t = text_found bytes (Ok lines) h (λ offset e. cc) in
+  λ h. let t = text_found requirement_at NotText bytes (Ok lines) h (λ offset e. cc) in
       (t.0, all_zip_map (λ text line. requirement_at text.0 text.1 ≡ Ok line) IsNumberedLine (at_found law) (text_lines bytes) lines (each_found requirement_at (text_lines bytes) lines t.1)),
-  λ h. requirements_text bytes h.0
+  λ h. text_is_read requirement_at NotText bytes h.0
       ∙ each_again requirement_at (text_lines bytes) lines (all_zip_map IsNumberedLine (λ text line. requirement_at text.0 text.1 ≡ Ok line) (at_again law) (text_lines bytes) lines h.1),
 )
 
@@ -98,6 +85,6 @@ unread_again law texts number u = record {
 
 pub first_unread : VersionLaw → (bytes : List ℕ) (number : ℕ) → (requirements_of bytes ≡ Err (NotYet number)) ↔ (IsUtf8 bytes × IsFirstUnread (text_lines bytes) number)
 first_unread law bytes number = (
-  λ h. let t = text_found bytes (Err (NotYet number)) h (λ offset e. cc) in (t.0, unread_found law (text_lines bytes) number (fault_found requirement_at (text_lines bytes) (NotYet number) t.1)),
-  λ h. requirements_text bytes h.0 ∙ fault_again requirement_at (text_lines bytes) (NotYet number) (unread_again law (text_lines bytes) number h.1),
+  λ h. let t = text_found requirement_at NotText bytes (Err (NotYet number)) h (λ offset e. cc) in (t.0, unread_found law (text_lines bytes) number (fault_found requirement_at (text_lines bytes) (NotYet number) t.1)),
+  λ h. text_is_read requirement_at NotText bytes h.0 ∙ fault_again requirement_at (text_lines bytes) (NotYet number) (unread_again law (text_lines bytes) number h.1),
 )

@@ -1,21 +1,18 @@
 -- What a whole candidate list reads as, by the grammar of its lines.
-use Rattle.std.proofs.Common.{◌≡◌, ◌↔◌, ◌∷◌, ◌++◌, ℕ, Bool, true, false, List, Result, Ok, Err, if◌then◌else◌, refl, ap, sym, subst, ◌∙◌}
-use Rattle.std.proofs.lemmas.Str.{IsUtf8-from_is_utf8}
+use Rattle.std.proofs.Common.{◌≡◌, ◌↔◌, ◌∷◌, ◌++◌, ℕ, List, Result, Ok, Err, ap, subst, ◌∙◌}
 use Rattle.std.specs.List.{AllByRecursion, AllZip}
-use Rattle.std.specs.Str.{is_utf8, IsUtf8}
-use Rattle.std.specs.Str.Lossy.{utf8_valid_len}
+use Rattle.std.specs.Str.{IsUtf8}
 use Rattle.reqtable_lines.specs.declared.candidates.Candidate.{Candidate}
 use Rattle.reqtable_lines.specs.declared.candidates.CandidateFault.{CandidateFault}
-use Rattle.reqtable_lines.specs.declared.candidates.CandidatesError.{CandidatesError}
 use Rattle.reqtable_lines.specs.declared.candidates.CandidatesError.TheVariants.{NotText, Line}
-use Rattle.reqtable_lines.specs.TextLines.{text_lines, each_line}
+use Rattle.reqtable_lines.specs.TextLines.{text_lines}
 use Rattle.reqtable_lines.specs.CandidateLine.{candidate_of}
 use Rattle.reqtable_lines.specs.CandidateText.{IsNumberedCandidate, IsFirstFault}
 use Rattle.reqtable_lines.specs.Candidates.{at_line, candidate_at, candidates_of}
 use Rattle.reqtable_lines.proofs.Releases.{VersionLaw}
 use Rattle.reqtable_lines.proofs.CandidateLines.{candidate_found, candidate_again, cause_found, cause_again}
 use Rattle.reqtable_lines.proofs.Lines.{FirstFault, each_found, each_again, fault_found, fault_again, all_zip_along, all_in_front}
-use Rattle.reqtable_lines.proofs.Texts.{candidates_text}
+use Rattle.reqtable_lines.proofs.Texts.{text_is_read, text_found}
 use Rattle.reqtable_lines.proofs.Utf8Lines.{lines_utf8}
 
 abbrev Numbered : Type 0
@@ -40,29 +37,15 @@ at_again : VersionLaw → (line : Numbered) (candidate : Candidate) → IsText l
     → IsRead line candidate
 at_again law line candidate u h = ap (at_line line.0) (candidate_again law line.1 candidate u h)
 
--- only bytes that are text read as candidates, or as a line that is none
-text_by : (bytes : List ℕ) (t : Bool) (read : Result (List Candidate) CandidatesError) → is_utf8 bytes ≡ t
-    → (if t then each_line candidate_at (text_lines bytes) else Err (NotText (utf8_valid_len bytes))) ≡ read
-    → ((offset : ℕ) → read ≡ Err (NotText offset) → ⊥)
-    → IsUtf8 bytes × (each_line candidate_at (text_lines bytes) ≡ read)
-text_by bytes true read e h others = (IsUtf8-from_is_utf8 bytes e, h)
-text_by bytes false read e h others = absurd (others (utf8_valid_len bytes) (sym h))
-
-text_found : (bytes : List ℕ) (read : Result (List Candidate) CandidatesError) → candidates_of bytes ≡ read
-    → ((offset : ℕ) → read ≡ Err (NotText offset) → ⊥)
-    → IsUtf8 bytes × (each_line candidate_at (text_lines bytes) ≡ read)
-unfolding candidates_of
-text_found bytes read h others = text_by bytes (is_utf8 bytes) read refl h others
-
 pub candidates_read : VersionLaw → (bytes : List ℕ) (candidates : List Candidate)
     → (candidates_of bytes ≡ Ok candidates) ↔ (IsUtf8 bytes × AllZip IsNumberedCandidate (text_lines bytes) candidates)
 candidates_read law bytes candidates = (
-  λ h. let t = text_found bytes (Ok candidates) h (λ offset e. cc) in (
+  λ h. let t = text_found candidate_at NotText bytes (Ok candidates) h (λ offset e. cc) in (
     t.0,
     all_zip_along IsText IsRead IsNumberedCandidate (at_found law) (text_lines bytes) candidates (lines_utf8 bytes t.0)
         (each_found candidate_at (text_lines bytes) candidates t.1),
   ),
-  λ h. candidates_text bytes h.0
+  λ h. text_is_read candidate_at NotText bytes h.0
       ∙ each_again candidate_at (text_lines bytes) candidates
       (all_zip_along IsText IsNumberedCandidate IsRead (at_again law) (text_lines bytes) candidates (lines_utf8 bytes h.0) h.1),
 )
@@ -109,9 +92,9 @@ first_again law lines number cause u f =
 pub first_fault : VersionLaw → (bytes : List ℕ) (number : ℕ) (cause : CandidateFault)
     → (candidates_of bytes ≡ Err (Line number cause)) ↔ (IsUtf8 bytes × IsFirstFault (text_lines bytes) number cause)
 first_fault law bytes number cause = (
-  λ h. let t = text_found bytes (Err (Line number cause)) h (λ offset e. cc) in
+  λ h. let t = text_found candidate_at NotText bytes (Err (Line number cause)) h (λ offset e. cc) in
       (t.0, first_found law (text_lines bytes) number cause (lines_utf8 bytes t.0) (fault_found candidate_at (text_lines bytes) (Line number cause) t.1)),
-  λ h. candidates_text bytes h.0
+  λ h. text_is_read candidate_at NotText bytes h.0
       ∙ fault_again candidate_at (text_lines bytes) (Line number cause)
       (first_again law (text_lines bytes) number cause (lines_utf8 bytes h.0) h.1),
 )

@@ -1,12 +1,11 @@
 -- A candidate list: UTF-8, with a candidate line on each line that is not blank.
-use Rattle.std.specs.Prelude.{◌≡◌, ℕ, IsTrue, List, ◌∷◌, ◌++◌, Option, Some, None, Result, Ok, Err, if◌then◌else◌}
-use Rattle.std.specs.Str.{is_utf8, trim}
-use Rattle.std.specs.Str.Lossy.{utf8_valid_len}
+use Rattle.std.specs.Prelude.{◌≡◌, ℕ, IsTrue, List, ◌∷◌, ◌++◌, Option, Some, None, Result, Ok, Err}
+use Rattle.std.specs.Str.{trim}
 use Rattle.reqtable_lines.specs.declared.candidates.Candidate.{Candidate}
 use Rattle.reqtable_lines.specs.declared.candidates.CandidateFault.{CandidateFault}
 use Rattle.reqtable_lines.specs.declared.candidates.CandidatesError.{CandidatesError}
 use Rattle.reqtable_lines.specs.declared.candidates.CandidatesError.TheVariants.{NotText, Line, Memory}
-use Rattle.reqtable_lines.specs.TextLines.{text_lines, each_line}
+use Rattle.reqtable_lines.specs.TextLines.{each_line, lines_of_text}
 use Rattle.reqtable_lines.specs.CandidateLine.{has_name, candidate_of}
 
 abbrev pub at_line : ℕ → Result Candidate CandidateFault → Result Candidate CandidatesError
@@ -17,11 +16,8 @@ abbrev pub candidate_at : ℕ → List ℕ → Result Candidate CandidatesError
 candidate_at number text = at_line number (candidate_of text)
 
 -- the candidates of a list, or where its bytes stop being UTF-8, or else its first line that is no candidate
-unfoldable pub candidates_of : List ℕ → Result (List Candidate) CandidatesError
-candidates_of bytes =
-    if is_utf8 bytes
-    then each_line candidate_at (text_lines bytes)
-    else Err (NotText (utf8_valid_len bytes))
+abbrev pub candidates_of : List ℕ → Result (List Candidate) CandidatesError
+candidates_of = lines_of_text candidate_at NotText
 
 -- what an error says of a text, if it is not want of memory
 abbrev pub told_candidates : CandidatesError → Option CandidatesError

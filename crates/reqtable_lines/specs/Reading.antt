@@ -87,10 +87,10 @@ unfoldable pub line_by : ℕ → List ℕ → Comparator × List ℕ → Option 
 line_by number name found =
     release_of (take_while (is_in classes.Version) (after_blanks found.1)) >>= λ version.
     option_map (λ marker. record {
-        number = number;
-        name = name;
-        specifier = record { operator = operator_of found.0; version = version };
-        marker = marker;
+      number = number;
+      name = name;
+      specifier = record { operator = operator_of found.0; version = version };
+      marker = marker;
     })
     (marker_of (after_blanks (after_run classes.Version (after_blanks found.1))))
 

@@ -1,9 +1,10 @@
 -- The lines of a list: which there are, where each ends, and which are skipped.
-use Rattle.std.specs.Prelude.{ℕ, ◌==◌, ◌&&◌, Bool, true, not, List, [], ◌∷◌, map, take, Option, Some, None, Result, Ok, Err}
+use Rattle.std.specs.Prelude.{ℕ, ◌==◌, ◌&&◌, Bool, true, not, List, [], ◌∷◌, map, take, Option, Some, None, Result, Ok, Err, if◌then◌else◌}
 use Rattle.std.specs.Option.{option_map_or}
 use Rattle.std.specs.List.{filter, slice_split, enumerate_from, list_all, position_or_len, zip}
 use Rattle.std.specs.Char.{is_whitespace}
-use Rattle.std.specs.Str.{chars, encode_utf8_all}
+use Rattle.std.specs.Str.{chars, encode_utf8_all, is_utf8}
+use Rattle.std.specs.Str.Lossy.{utf8_valid_len}
 use Rattle.std.specs.Str.Lines.{strip_carriage_return}
 
 -- each character with the one that stands before it, none before the first
@@ -41,3 +42,8 @@ with_first (Err fault) others = Err fault
 abbrev pub each_line : {A E : Type 0} → (ℕ → List ℕ → Result A E) → List (ℕ × List ℕ) → Result (List A) E
 each_line read [] = Ok []
 each_line read (line ∷ lines) = with_first (read line.0 line.1) (each_line read lines)
+
+-- what all lines of a text read as, or the first fault, or where the bytes stop being UTF-8
+unfoldable pub lines_of_text : {A E : Type 0} → (ℕ → List ℕ → Result A E) → (ℕ → E) → List ℕ → Result (List A) E
+lines_of_text read no_text bytes =
+    if is_utf8 bytes then each_line read (text_lines bytes) else Err (no_text (utf8_valid_len bytes))

@@ -1,16 +1,16 @@
 //! One requirement line, as far as lines are read today.
 
-ghost use Rattle.std.specs.Prelude.{◌≡◌, ◌<◌, [], IfOk, IfSome};
+ghost use Rattle.std.specs.Prelude.{◌≡◌, ◌<◌, [], IsTrue, IfOk, IfSome, OnErr};
 ghost use Rattle.std.specs.Option.{option_map, option_copied};
 ghost use Rattle.std.specs.List.{take_while};
 ghost use Rattle.pep440_rs.specs.Reading.{version_of};
-ghost use Rattle.pep508_name.specs.Name.{name_of};
+ghost use Rattle.pep508_name.specs.Name.{is_name, name_of};
 ghost use Rattle.reqtable_lines.specs.RequirementLine.{operator_of};
 ghost use Rattle.reqtable_lines.specs.Reading.{is_in, after_run, after_blanks, behind, comparator_at, before_quote, in_quotes, comparison_of, marker_of, line_behind, requirement_of, release_of};
 
 use pep440_rs::laws::version_text_is_read;
 use pep440_rs::{Version, VersionParseError, VersionSpecifier};
-use pep508_name::{InvalidNameError, PackageName};
+use pep508_name::{PackageName, is_name};
 use std::alloc::{AllocError, Global};
 
 /// The two comparisons that are read today (PEP 440, "Version specifiers").
@@ -131,14 +131,18 @@ fn read_release(alloc: Global, text: &str) -> Result<Option<Version>, AllocError
     read_version(alloc, text)
 }
 
-/// The name that the whole text is.
+/// The name that the whole text is. A text that is none wants no memory.
+#[tactic(auto, unfolding(pep508_name::specs::Name::name_of))]
 fn read_name(alloc: Global, text: &str) -> Result<Option<PackageName>, AllocError>
-    ensures { IfOk result (λ name. name ≡ name_of text.now) }
+    ensures name { IfOk result (λ name. name ≡ name_of text.now) }
+    ensures grown { OnErr result (IsTrue (is_name text.now)) }
 {
+    if !is_name(text) {
+        return Ok(None);
+    }
     match PackageName::from_str(alloc, text) {
         Ok(name) => Ok(Some(name)),
-        Err(InvalidNameError::Memory) => Err(AllocError),
-        Err(InvalidNameError::InvalidName(_)) => Ok(None),
+        Err(_) => Err(AllocError),
     }
 }
 

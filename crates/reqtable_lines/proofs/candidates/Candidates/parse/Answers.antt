@@ -1,14 +1,15 @@
 use Rattle.std.proofs.Common.{◌∙◌, Err, ap, sym, rules}
 use Rattle.reqtable_lines.specs.declared.candidates.CandidatesError.TheVariants.{NotText}
-use Rattle.reqtable_lines.proofs.Texts.{candidates_text, candidates_no_text}
+use Rattle.reqtable_lines.specs.Candidates.{candidate_at}
+use Rattle.reqtable_lines.proofs.Texts.{text_is_read, no_text_is_read}
 use Rattle.reqtable_lines.proofs.candidates.Candidates.parse.Goals as goal
 
 pub returns-in-Err-clause-answered : goal.returns-in-Err-clause-answered
 returns-in-Err-clause-answered c =
-    candidates_no_text c.args.bytes.now c.in-Err.ensures.no_text.0 ∙ ap (λ n. Err (NotText n)) (sym c.in-Err.ensures.no_text.1)
+    no_text_is_read candidate_at NotText c.args.bytes.now c.in-Err.ensures.no_text.0 ∙ ap (λ n. Err (NotText n)) (sym c.in-Err.ensures.no_text.1)
 
 pub returns-in_err-items-clause-answered : goal.returns-in_err-items-clause-answered
-returns-in_err-items-clause-answered c = rw (candidates_text c.args.bytes.now c.in-Ok.ensures.is_text) (search rules)
+returns-in_err-items-clause-answered c = rw (text_is_read candidate_at NotText c.args.bytes.now c.in-Ok.ensures.is_text) (search rules)
 
 pub returns-clause-answered : goal.returns-clause-answered
-returns-clause-answered c = rw (candidates_text c.args.bytes.now c.in-Ok.ensures.is_text) (search rules)
+returns-clause-answered c = rw (text_is_read candidate_at NotText c.args.bytes.now c.in-Ok.ensures.is_text) (search rules)
