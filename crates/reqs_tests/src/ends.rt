@@ -1,8 +1,9 @@
-//! Readers and writers that are interrupted, fail or never end, and the limits up to which they are borne with.
+//! Readers and writers that are interrupted, fail or never end, and the limits up to which they are
+//! borne with.
 
 use crate::checks::{ENVIRONMENT, told};
 use reqs::{RunFault, Status, Vars, check};
-use reqs_io::{ReadFault, WriteFault, read_whole, write_whole};
+use reqs_io::{ASK_LIMIT, ReadFault, WriteFault, read_whole, write_whole};
 use std::alloc::Global;
 use std::io::{self, ErrorKind, Read, Write};
 use std::test::Fail;
@@ -116,15 +117,19 @@ impl Write for Busy {
     }
 }
 
-/// Is always interrupted, and counts how often it was asked.
+/// Is interrupted until it ends at the ask of this number, and counts how often it was asked.
 #[derive(Drop)]
 struct Interrupted {
     asked: u64,
+    last: u64,
 }
 
 impl Read for Interrupted {
     fn read(&mut self, _buf: &mut [u8]) -> io::Result<usize> {
         self.asked = self.asked.saturating_add(1);
+        if self.asked == self.last {
+            return Ok(0);
+        }
         Err(io::Error::from(ErrorKind::Interrupted))
     }
 }
@@ -286,9 +291,13 @@ fn writes_each_piece_behind_interruptions(rt: HostRuntime) -> Result<(), Fail> {
 }
 
 #[test]
-fn asks_a_reader_33554432_times(rt: HostRuntime) -> Result<(), Fail> {
+fn asks_a_reader_up_to_its_limit(rt: HostRuntime) -> Result<(), Fail> {
+    assert_eq!(rt; ASK_LIMIT, 33_554_432);
     let mut output = Vec::new(rt.alloc());
-    let mut requirements = Interrupted { asked: 0 };
+    let mut requirements = Interrupted {
+        asked: 0,
+        last: 100_000,
+    };
     let mut environment = ENVIRONMENT.as_bytes();
     let mut candidates = CANDIDATES;
     let result = check(
@@ -301,14 +310,14 @@ fn asks_a_reader_33554432_times(rt: HostRuntime) -> Result<(), Fail> {
         &mut output,
     );
     let told = told(rt.alloc(), &output, result)?;
-    assert_eq!(rt; told.as_str(), "status 3, REQS: read fault");
-    assert_eq!(rt; requirements.asked, 33_554_432);
+    assert_eq!(rt; told.as_str(), "status 0");
+    assert_eq!(rt; requirements.asked, 100_000);
     Ok(())
 }
 
 #[test]
 fn gives_up_after_its_asks(rt: HostRuntime) -> Result<(), Fail> {
-    let mut reader = Interrupted { asked: 0 };
+    let mut reader = Interrupted { asked: 0, last: 0 };
     let read = read_whole(rt.alloc(), &mut reader, 10, 1000);
     assert_eq!(rt; read.err(), Some(ReadFault::Read));
     assert_eq!(rt; reader.asked, 1000);
