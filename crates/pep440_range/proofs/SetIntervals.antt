@@ -6,7 +6,8 @@ use Rattle.std.specs.Cmp.{upto}
 use Rattle.std.specs.declared.cmp.Ordering.{Ordering}
 use Rattle.std.specs.declared.cmp.Ordering.TheVariants.{Less}
 use Rattle.std.specs.Ordering.{is_gt}
-use Rattle.version_ranges.specs.Point.{Point, BelowAll, At, JustAbove, point_cmp, points_total}
+use Rattle.version_ranges.specs.Point.{Point, BelowAll, At, JustAbove, point_cmp}
+use Rattle.version_ranges.specs.OrderLaws.{points_total}
 use Rattle.version_ranges.specs.Turns.{reaches, Rising}
 use Rattle.version_ranges.specs.Bounds.{starts_by, goes_on_to, lower_bound_at, upper_bound_at, intervals}
 use Rattle.pep440_version.specs.Record.{VersionRecord}
