@@ -74,7 +74,7 @@ module _ {T : Type 0} (cmp : T → T → Ordering) (eq : T → T → Bool) (inpu
     ends_fed (Excluded v) Unbounded h = not_less h
     ends_fed (Excluded v) (Included w) h =
         let l : ordering_then (cmp v w) Less ≡ Equal =
-            (then_equal (ordering_then (cmp v w) Less) Equal h).0 in
+        (then_equal (ordering_then (cmp v w) Less) Equal h).0 in
         not_less (then_equal (cmp v w) Less l).1
     ends_fed (Excluded v) (Excluded w) h =
         ap (λ i. fed.u8 2 ++ i) (values_fed v w (then_equal (cmp v w) Equal h).0)
