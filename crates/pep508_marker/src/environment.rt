@@ -30,7 +30,7 @@ fn text<'a>(value: &'a Value, member: EnvironmentMember) -> Result<&'a str, Envi
 }
 
 /// The version that a member's text is.
-#[tactic(auto, unfolding(crate::specs::Environment::member_fault))]
+#[tactic(auto, using(pep440_version::proofs::Found::reads_found), unfolding(crate::specs::Environment::member_fault))]
 fn version(
     alloc: Global,
     value: &Value,

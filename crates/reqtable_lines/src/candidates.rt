@@ -8,8 +8,9 @@ ghost use Rattle.std.specs.Str.{IsUtf8, trim};
 ghost use Rattle.reqtable_lines.specs.CandidateLine.{parts_in, has_name};
 ghost use Rattle.reqtable_lines.specs.Candidates.{candidate_at, candidates_of, told_candidates, IsNameReached};
 
+use crate::requirement::read_version;
 use crate::text_lines::{as_text, is_blank, line_text};
-use pep440_rs::{Version, VersionParseError};
+use pep440_rs::Version;
 use pep508_name::{PackageName, is_name};
 use std::alloc::{AllocError, AllocFailed, Global};
 use std::marker::Model;
@@ -139,10 +140,9 @@ fn read_candidate(alloc: Global, number: usize, text: &str) -> Result<Candidate,
     let Ok(name) = PackageName::from_str(alloc, name) else {
         return Err(CandidatesError::Memory);
     };
-    match Version::from_str(alloc, version) {
-        Ok(version) => Ok(Candidate { name, version }),
-        Err(VersionParseError::Memory) => Err(CandidatesError::Memory),
-        Err(_) => Err(fault(number, CandidateFault::Version)),
+    match read_version(alloc, version)? {
+        Some(version) => Ok(Candidate { name, version }),
+        None => Err(fault(number, CandidateFault::Version)),
     }
 }
 

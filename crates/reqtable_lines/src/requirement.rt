@@ -106,7 +106,8 @@ fn split_comparator(text: &str) -> Option<(Comparator, &str)>
 }
 
 /// The version that the whole text is.
-fn read_version(alloc: Global, text: &str) -> Result<Option<Version>, AllocError>
+#[tactic(auto, using(pep440_version::proofs::Found::reads_found))]
+pub(crate) fn read_version(alloc: Global, text: &str) -> Result<Option<Version>, AllocError>
     ensures { IfOk result (λ version. version ≡ version_of text.now) }
 {
     match Version::from_str(alloc, text) {
