@@ -168,7 +168,10 @@ fn in_range(alloc: Global, list: &str, candidate: &str) -> Result<String, AllocE
 fn intervals(alloc: Global, list: &str) -> Result<String, AllocError> {
     match range(alloc, list)? {
         Some(range) => {
-            let count = range.iter().count();
+            let mut count = 0u64;
+            for _ in range.iter() {
+                count = count.saturating_add(1);
+            }
             format!(in alloc; "{count}")
         }
         None => String::from_str(alloc, REFUSED),
