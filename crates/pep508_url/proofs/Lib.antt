@@ -1,0 +1,3 @@
+pub mod CutTexts
+pub mod Expansion
+pub mod ExtrasSplits

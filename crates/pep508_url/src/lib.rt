@@ -1,0 +1,14 @@
+//! URLs of requirements (PEP 508, "Grammar"): environment variables, schemes, paths, and the URL that keeps the text that it was given as.
+//!
+//! Contracts see a text as the list of its bytes, a path as a text, and a URL as the parts that the crate `url` makes of
+//! it. What text is a URL is that crate's own word, `parse_url`.
+#![tactic(auto)]
+
+mod cuts;
+mod scheme;
+mod splits;
+mod vars;
+
+pub use scheme::{Scheme, split_scheme};
+pub use splits::{split_extras, strip_host};
+pub use vars::{Vars, expand_env_vars};
