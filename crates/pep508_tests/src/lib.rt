@@ -5,3 +5,5 @@
 mod environments;
 #[cfg(test)]
 mod names;
+#[cfg(test)]
+mod urls;

@@ -1,3 +1,4 @@
 pub mod CutTexts
 pub mod Expansion
 pub mod ExtrasSplits
+pub mod PathParts

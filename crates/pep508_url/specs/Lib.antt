@@ -3,3 +3,7 @@ pub mod Vars
 pub mod Expansion
 pub mod Schemes
 pub mod Splits
+pub mod UrlFaults
+pub mod Paths
+pub mod UrlTexts
+pub mod Lacking
