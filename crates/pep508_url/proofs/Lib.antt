@@ -2,3 +2,5 @@ pub mod CutTexts
 pub mod Expansion
 pub mod ExtrasSplits
 pub mod PathParts
+pub mod UrlLaws
+pub mod NormalPaths

@@ -1,6 +1,6 @@
--- A text with the values of the variables that it names: each `${NAME}` whose NAME is a known variable's is replaced by the
--- value, from left to right, once: what a value brings is not looked at again.
-use Rattle.std.specs.Prelude.{ℕ, ◌==◌, nat_lt, ◌&&◌, ◌||◌, Bool, if◌then◌else◌, List, [], ◌∷◌, ◌++◌, length, codes, flat_map, Option, Some, None, option_and_then, option_map}
+-- A text with the values of the variables that it names: each `${NAME}` whose NAME is a known variable's is
+-- replaced by the value, from left to right, once: what a value brings is not looked at again.
+use Rattle.std.specs.Prelude.{◌≢◌, ℕ, ◌==◌, nat_lt, ◌&&◌, ◌||◌, Bool, if◌then◌else◌, List, [], ◌∷◌, ◌++◌, length, codes, flat_map, Option, Some, None, option_and_then, option_map}
 use Rattle.std.specs.List.{slice_split, list_all}
 use Rattle.std.specs.Char.{is_ascii_uppercase, is_ascii_digit}
 use Rattle.pep508_url.specs.Cuts.{behind, cut}
@@ -40,3 +40,7 @@ expanded_parts vars (first ∷ others) = first ++ flat_map (behind_dollar vars) 
 -- The text with its variables' values. A name holds no `$`, so that no reference reaches past the next `$`.
 unfoldable pub expanded : Variables → List ℕ → List ℕ
 expanded vars text = expanded_parts vars (slice_split (λ b. b == 36) text)
+
+-- no `${` stands in the text
+abbrev pub LacksOpening : List ℕ → Type 0
+LacksOpening text = (front back : List ℕ) → text ≢ front ++ codes "${" ++ back

@@ -37,7 +37,8 @@ root_of path = if is_absolute path then 47 ∷ [] else []
 -- the path without empty parts, `.` and `..`, unless a `..` goes beyond its beginning
 unfoldable pub normal_path : List ℕ → Option (List ℕ)
 normal_path path =
-    option_map (λ parts. root_of path ++ join_with_byte 47 parts) (normal_parts (slice_split (λ b. b == 47) path))
+    option_map (λ parts. root_of path ++ join_with_byte 47 parts)
+    (normal_parts (slice_split (λ b. b == 47) path))
 
 abbrev pub if_normal : List ℕ → Option (List ℕ) → Result (List ℕ) UrlFault
 if_normal path None = Err (Normalization path)

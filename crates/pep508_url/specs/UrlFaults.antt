@@ -5,8 +5,8 @@ use Rattle.url.specs.declared.error.ParseError.TheVariants.{OutOfMemory, Overflo
 use Rattle.pep508_url.specs.declared.error.VerbatimUrlError.{VerbatimUrlError}
 use Rattle.pep508_url.specs.declared.error.VerbatimUrlError.TheVariants as errors
 
--- the crate `url` does not read the text; a relative path stands where there is no directory; a URL is no path; a path goes
--- beyond the root
+-- the crate `url` does not read the text; a relative path stands where there is no directory; a URL is no
+-- path; a path goes beyond the root
 pub data UrlFault : Type 0 where
   NotRead : ParseError → UrlFault
   WorkingDirectory : List ℕ → UrlFault
@@ -27,8 +27,10 @@ url_error_text errors.Memory = Some (codes "out of memory")
 url_error_text (errors.Url error) = None
 url_error_text (errors.WorkingDirectory path) =
     Some (codes "relative path without a working directory: " ++ string_bytes path)
-url_error_text (errors.UrlConversion path) = Some (codes "path could not be converted to a URL: " ++ string_bytes path)
-url_error_text (errors.Normalization path) = Some (codes "path could not be normalized: " ++ string_bytes path)
+url_error_text (errors.UrlConversion path) =
+    Some (codes "path could not be converted to a URL: " ++ string_bytes path)
+url_error_text (errors.Normalization path) =
+    Some (codes "path could not be normalized: " ++ string_bytes path)
 
 -- the error for what the crate `url` answers, where want of room is want of memory
 abbrev pub error_of : ParseError → VerbatimUrlError

@@ -50,7 +50,7 @@ text_reading text = as_read (parse_url None text)
 
 -- ---- a path's URL (RFC 8089, section 2)
 
--- a byte that may stand in a path as it is: RFC 3986's `pchar` without escapes (section 3.3), `/`, `[` and `]`
+-- a byte that may stand in a path as it is: RFC 3986's `pchar` without escapes (section 3.3), `/`, `[`, `]`
 abbrev pub is_path_byte : ℕ → Bool
 is_path_byte b = is_ascii_alphanumeric b || list_any (λ kept. kept == b) (codes "-._~!$&'()*+,;=:@/[]")
 
@@ -82,7 +82,8 @@ path_reading path directory =
 
 -- ---- a requirement's URL (PEP 508, "Grammar")
 
--- how a text of a scheme is read: `file` as a path, another scheme by the crate `url`, and what has no listed scheme as a path
+-- how a text of a scheme is read: that of `file` as a path, that of another listed scheme by the crate
+-- `url`, and any other as a path
 abbrev pub by_scheme : List ℕ → Option (List ℕ) → List ℕ → Option Scheme → Result Parts UrlFault
 by_scheme text directory rest None = path_reading text directory
 by_scheme text directory rest (Some File) = path_reading (decoded (without_host rest)) directory

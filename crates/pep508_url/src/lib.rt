@@ -8,6 +8,7 @@
 mod comparing;
 mod cuts;
 mod error;
+pub mod laws;
 mod path;
 mod reading;
 mod requirement_url;

@@ -88,7 +88,8 @@ fn read_whole_path(alloc: Global, path: &str) -> Result<Url, VerbatimUrlError>
 }
 
 fn read_with_fragment(alloc: Global, path: &str, fragment: &str) -> Result<Url, VerbatimUrlError>
-    ensures { Answers (λ url. url) told_url result (with_fragment fragment.now (text_reading (file_text path.now))) }
+    ensures { Answers (λ url. url) told_url result
+        (with_fragment fragment.now (text_reading (file_text path.now))) }
 {
     let mut url = match read_whole_path(alloc, path) {
         Ok(url) => url,

@@ -131,7 +131,8 @@ impl UnnamedRequirementUrl for VerbatimUrl {
     ghost reads_path = { λ path directory outcome.
         Answers (λ url. url) told_url outcome (given_as None (path_reading path directory)) };
 
-    ghost reads_url = { λ text outcome. Answers (λ url. url) told_url outcome (given_as None (text_reading text)) };
+    ghost reads_url = { λ text outcome.
+        Answers (λ url. url) told_url outcome (given_as None (text_reading text)) };
 
     ghost given_text = { λ v. v.given };
 

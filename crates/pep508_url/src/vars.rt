@@ -47,7 +47,10 @@ impl Vars {
     ) -> Result<Self, AllocError>
         requires { IsAbsolute project_root.now }
         ensures { IfOk result (λ vars. vars
-            ≡ record { pairs = map (λ pair. (pair.0.now, pair.1.now)) pairs.now; project_root = project_root.now }) }
+            ≡ record {
+              pairs = map (λ pair. (pair.0.now, pair.1.now)) pairs.now;
+              project_root = project_root.now;
+            }) }
     {
         let mut copies = Vec::with_capacity(alloc, pairs.len())?;
         for (name, value) in pairs {
@@ -131,7 +134,8 @@ pub fn expand_env_vars<'a>(
 /// Appends what stands for a `$` and the text that follows it up to the next one.
 #[tactic(auto, unfolding(crate::specs::Expansion::behind_dollar))]
 fn push_part(expanded: &mut String, part: &str, vars: &Vars) -> Result<(), AllocError>
-    ensures { OnOk result (string_bytes expanded.new ≡ string_bytes expanded.old ++ behind_dollar vars.now part.now) }
+    ensures { OnOk result
+        (string_bytes expanded.new ≡ string_bytes expanded.old ++ behind_dollar vars.now part.now) }
 {
     match reference(part, vars) {
         Some((value, rest)) => {

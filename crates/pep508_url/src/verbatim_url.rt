@@ -74,7 +74,8 @@ impl VerbatimUrl {
     /// Linear in the two texts.
     pub fn from_path(alloc: Global, path: &str, working_dir: &str) -> Result<Self, VerbatimUrlError>
         requires { IsAbsolute working_dir.now }
-        ensures { Answers (λ url. url) told_url result (given_as None (path_reading path.now (Some working_dir.now))) }
+        ensures { Answers (λ url. url) told_url result
+            (given_as None (path_reading path.now (Some working_dir.now))) }
     {
         match read_path(alloc, path, Some(working_dir)) {
             Ok(url) => Ok(VerbatimUrl { url, given: None }),
@@ -169,7 +170,8 @@ impl VerbatimUrl {
         alloc: Global,
         value: &Value,
     ) -> Result<Self, FromValueError<VerbatimUrlError>>
-        ensures { ReadsText (λ text read. Answers (λ url. url) told_url read (given_as None (text_reading text)))
+        ensures { ReadsText
+            (λ text read. Answers (λ url. url) told_url read (given_as None (text_reading text)))
             (find.as_str (view value.now)) result }
     {
         let Some(text) = value.as_str() else {
