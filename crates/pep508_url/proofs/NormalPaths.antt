@@ -1,14 +1,13 @@
 -- A normal path is its own normal path.
-use Rattle.std.proofs.Common.{◌≡◌, ◌≢◌, ℕ, zero, suc, ◌-◌, ◌<◌, ◌==◌, Bool, true, false, if◌then◌else◌, eqb, List, [], ◌∷◌, ◌++◌, length, take, Option, Some, None, option_map, inl, inr, ◌⊎◌, refl, ap, sym, subst, ◌∙◌, arith, append_assoc}
+use Rattle.std.proofs.Common.{◌≡◌, ℕ, zero, suc, ◌-◌, ◌==◌, Bool, true, false, if◌then◌else◌, eqb, List, [], ◌∷◌, ◌++◌, length, take, Option, Some, None, option_map, inl, inr, ◌⊎◌, refl, ap, sym, subst, ◌∙◌, append_assoc}
 use Rattle.std.specs.Prelude.{bytes_eq, codes, fold, All}
 use Rattle.std.specs.List.{slice_split, onto_first, join_with_byte}
-use Rattle.std.proofs.lemmas.Bool.Decides.{nat_tests}
 use Rattle.std.proofs.lemmas.List.{append-nil}
 use Rattle.std.proofs.lemmas.List.Elements.{All-nil, All-cons, All-head}
 use Rattle.std.proofs.lemmas.List.Folds.{fold_stays}
 use Rattle.std.proofs.lemmas.List.Splits.{slice_split-cons_no, slice_split-cons_yes, slice_split_none, slice_split_at}
 use Rattle.pep508_url.specs.Cuts.{is_absolute}
-use Rattle.pep508_url.specs.Paths.{changes_nothing, without_last, with_part, behind_parts, normal_parts, root_of, normal_path}
+use Rattle.pep508_url.specs.Paths.{changes_nothing, without_last, behind_parts, normal_parts, root_of, normal_path}
 use Rattle.pep508_url.proofs.PathParts.{part_nothing, part_parent, part_kept}
 
 two : (b : Bool) → (b ≡ true) ⊎ (b ≡ false)

@@ -1,4 +1,4 @@
-use Rattle.std.proofs.Common.{◌≡◌, None, Some, get_or, lit<, refl, sym, ap, ◌∙◌}
+use Rattle.std.proofs.Common.{None, Some, lit<}
 use Rattle.std.proofs.lemmas.Str.Pattern.{strip_suffix_char}
 use Rattle.pep508_url.proofs.ExtrasSplits.{split_at_open, no_end, no_bracket, closed_last}
 use Rattle.pep508_url.proofs.splits.split_extras.Goals as goal
