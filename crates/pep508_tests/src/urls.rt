@@ -24,11 +24,7 @@ const EXPANSIONS: [(&str, &str); 10] = [
 ];
 
 fn variables(alloc: std::alloc::Global) -> Result<Vars, Fail> {
-    Ok(Vars::new(
-        alloc,
-        &[("R", "/a"), ("S", "${R}"), ("R", "/b")],
-        "/w",
-    )?)
+    Ok(Vars::new(alloc, &[("R", "/a"), ("S", "${R}"), ("R", "/b")], "/w")?)
 }
 
 #[test]
@@ -113,8 +109,14 @@ fn normalizes_paths(rt: HostRuntime) -> Result<(), Fail> {
         Err(VerbatimUrlError::Normalization(path)) => assert_eq!(rt; path.as_str(), "/a/../.."),
         _ => assert!(rt; false, "taken"),
     }
-    assert_eq!(rt; normalize_url_path(rt.alloc(), "/a%20b%2")?.as_str(), "/a b%2");
-    assert_eq!(rt; normalize_url_path(rt.alloc(), "/%FF%20")?.as_str(), "/%FF%20");
+    assert_eq!(rt;
+        normalize_url_path(rt.alloc(), "/a%20b%2")?.as_str(),
+        "/a b%2"
+    );
+    assert_eq!(rt;
+        normalize_url_path(rt.alloc(), "/%FF%20")?.as_str(),
+        "/%FF%20"
+    );
     Ok(())
 }
 

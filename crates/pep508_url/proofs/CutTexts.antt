@@ -33,11 +33,15 @@ below a b h = grind (arith, nat_tests)
 not_below : (a b : ℕ) → a ≡ b → nat_lt a b ≡ false
 not_below a b h = grind (arith, nat_tests)
 
-cut_by : (byte : ℕ) (text : List ℕ) (found : Bool) → nat_lt (position_or_len (λ b. eqb b byte) text) (length text) ≡ found
-    → cut byte text ≡ (if found then Some (before_first (λ b. eqb b byte) text, after_first (λ b. eqb b byte) text) else None)
+-- what a cut gives, by whether the byte is there
+abbrev pub chosen : ℕ → List ℕ → Bool → Option (List ℕ × List ℕ)
+chosen byte text found =
+    if found then Some (before_first (λ b. eqb b byte) text, after_first (λ b. eqb b byte) text) else None
+
+pub cut_by : (byte : ℕ) (text : List ℕ) (found : Bool)
+    → nat_lt (position_or_len (λ b. eqb b byte) text) (length text) ≡ found → cut byte text ≡ chosen byte text found
 unfolding cut
-cut_by byte text found e =
-    ap (λ t. if t then Some (before_first (λ b. eqb b byte) text, after_first (λ b. eqb b byte) text) else None) e
+cut_by byte text found e = ap (chosen byte text) e
 
 -- `split_once` at an ASCII character
 pub cut_is : (byte : ℕ) (text : List ℕ) (r : Option (Bor (List ℕ) × Bor (List ℕ)))

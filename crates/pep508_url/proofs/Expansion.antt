@@ -1,17 +1,18 @@
 -- The parts of a text between its `$`.
-use Rattle.std.proofs.Common.{◌≡◌, ℕ, suc, ◌+◌, ◌<◌, ◌≤◌, nat_lt, not, Bool, true, false, cond, if◌then◌else◌, eqb, List, [], ◌∷◌, ◌++◌, length, Option, Some, None, inl, inr, ◌⊎◌, refl, ap, sym, ◌∙◌, arith}
+use Rattle.std.proofs.Common.{◌≡◌, ℕ, suc, ◌+◌, ◌<◌, ◌≤◌, nat_lt, not, Bool, true, false, cond, eqb, List, [], ◌∷◌, ◌++◌, length, Some, None, inl, inr, ◌⊎◌, refl, ap, sym, ◌∙◌, arith}
 use Rattle.std.specs.Prelude.{flat_map}
-use Rattle.std.specs.List.{slice_split, onto_first, position_or_len, before_first, after_first}
+use Rattle.std.specs.List.{slice_split, onto_first, position_or_len}
 use Rattle.std.proofs.lemmas.Bool.Decides.{nat_tests}
 use Rattle.std.proofs.lemmas.List.Splits.{slice_split_first, slice_split-cons_no}
 use Rattle.std.proofs.lemmas.Grind.{common_steps}
 use Rattle.std.proofs.lemmas.List.{flat_map_more}
 use Rattle.std.proofs.lemmas.List.Sums.{prefix_len-le-length}
 use Rattle.pep508_url.specs.Cuts.{cut}
+use Rattle.pep508_url.proofs.CutTexts.{cut_by}
 use Rattle.pep508_url.specs.Vars.{Variables}
 use Rattle.pep508_url.specs.Expansion.{expanded_parts, expanded, behind_dollar}
 
-two : (b : Bool) → (b ≡ true) ⊎ (b ≡ false)
+pub two : (b : Bool) → (b ≡ true) ⊎ (b ≡ false)
 two true = inl refl
 two false = inr refl
 
@@ -34,16 +35,7 @@ split_alone p (b ∷ bs) h = elim (two (p b)) [
       ∙ ap (onto_first b) (split_alone p bs (one_less _ _ (sym (ap (steps p b bs) past) ∙ h)))
 ]
 
-abbrev chosen : ℕ → List ℕ → Bool → Option (List ℕ × List ℕ)
-chosen byte text found =
-    if found then Some (before_first (λ b. eqb b byte) text, after_first (λ b. eqb b byte) text) else None
-
-cut_by : (byte : ℕ) (text : List ℕ) (found : Bool) → nat_lt (position_or_len (λ b. eqb b byte) text) (length text) ≡ found
-    → cut byte text ≡ chosen byte text found
-unfolding cut
-cut_by byte text found e = ap (chosen byte text) e
-
-reached : (a b : ℕ) → nat_lt a b ≡ true → a < b
+pub reached : (a b : ℕ) → nat_lt a b ≡ true → a < b
 reached a b h = grind (arith, nat_tests)
 
 parts_none : (byte : ℕ) (text : List ℕ) → cut byte text ≡ None
@@ -68,7 +60,7 @@ pub split_uncut : (byte : ℕ) (text : List ℕ) → cut byte text ≡ None → 
 split_uncut byte text h =
     split_alone (λ b. eqb b byte) text (at_end _ _ (prefix_len-le-length (λ b. not (eqb b byte)) text) (parts_none byte text h))
 
-some_same : {A : Type 0} (x y : A) → Some x ≡ Some y → x ≡ y
+pub some_same : {A : Type 0} (x y : A) → Some x ≡ Some y → x ≡ y
 some_same x y h = cc
 
 -- a text that is cut has a first part, and the parts of what follows

@@ -1,5 +1,5 @@
 -- A normal path is its own normal path.
-use Rattle.std.proofs.Common.{◌≡◌, ℕ, zero, suc, ◌-◌, ◌==◌, Bool, true, false, if◌then◌else◌, eqb, List, [], ◌∷◌, ◌++◌, length, take, Option, Some, None, option_map, inl, inr, ◌⊎◌, refl, ap, sym, subst, ◌∙◌, append_assoc}
+use Rattle.std.proofs.Common.{◌≡◌, ℕ, zero, suc, ◌-◌, ◌==◌, Bool, true, false, if◌then◌else◌, eqb, List, [], ◌∷◌, ◌++◌, length, take, Option, Some, None, option_map, inl, inr, refl, ap, sym, subst, ◌∙◌, append_assoc}
 use Rattle.std.specs.Prelude.{bytes_eq, codes, fold, All}
 use Rattle.std.specs.List.{slice_split, onto_first, join_with_byte}
 use Rattle.std.proofs.lemmas.List.{append-nil}
@@ -8,11 +8,8 @@ use Rattle.std.proofs.lemmas.List.Folds.{fold_stays}
 use Rattle.std.proofs.lemmas.List.Splits.{slice_split-cons_no, slice_split-cons_yes, slice_split_none, slice_split_at}
 use Rattle.pep508_url.specs.Cuts.{is_absolute}
 use Rattle.pep508_url.specs.Paths.{changes_nothing, without_last, behind_parts, normal_parts, root_of, normal_path}
+use Rattle.pep508_url.proofs.Expansion.{two, some_same}
 use Rattle.pep508_url.proofs.PathParts.{part_nothing, part_parent, part_kept}
-
-two : (b : Bool) → (b ≡ true) ⊎ (b ≡ false)
-two true = inl refl
-two false = inr refl
 
 abbrev NoSlash : List ℕ → Type 0
 NoSlash part = All (λ b. eqb b 47 ≡ false) part
@@ -57,9 +54,6 @@ each_split (c ∷ cs) = elim (two (eqb c 47)) [
 ]
 
 -- ---- what is kept is plain
-
-some_same : {A : Type 0} (x y : A) → Some x ≡ Some y → x ≡ y
-some_same x y h = cc
 
 none_stays : (parts : List (List ℕ)) → fold behind_parts None parts ≡ None
 none_stays parts = fold_stays behind_parts None (λ x. refl) parts
@@ -113,9 +107,6 @@ joined_again [] all = refl
 joined_again (first ∷ others) all = ap (fold behind_parts (Some [])) (split_joined first others all) ∙ kept_again (first ∷ others) [] all
 
 -- ---- where a normal path begins
-
-empty_part : (part : List ℕ) → part ≡ [] → changes_nothing part ≡ true
-empty_part part e = ap changes_nothing e
 
 begins_other : (first : List ℕ) (rest : List ℕ) → IsPlain first → is_absolute (first ++ rest) ≡ false
 begins_other [] rest plain = absurd (cc plain.something)

@@ -1,5 +1,5 @@
 -- What the laws of this crate rest on.
-use Rattle.std.proofs.Common.{◌≡◌, ◌≢◌, ℕ, ◌+◌, ◌<◌, nat_lt, not, ◌&&◌, Bool, true, false, if◌then◌else◌, eqb, List, [], ◌∷◌, ◌++◌, length, take, drop, get_or, Option, Some, None, inl, inr, ◌⊎◌, refl, ap, sym, subst, ◌∙◌, arith}
+use Rattle.std.proofs.Common.{◌≡◌, ◌≢◌, ℕ, ◌+◌, ◌<◌, nat_lt, not, ◌&&◌, Bool, true, false, if◌then◌else◌, eqb, List, [], ◌∷◌, ◌++◌, length, take, drop, get_or, Option, Some, None, inl, inr, refl, ap, sym, subst, ◌∙◌, arith}
 use Rattle.std.specs.Prelude.{flat_map, codes, option_and_then}
 use Rattle.std.specs.List.{slice_split, onto_first, position_or_len, before_first, after_first, starts_with}
 use Rattle.std.proofs.lemmas.Bool.Decides.{nat_tests}
@@ -10,31 +10,14 @@ use Rattle.url.specs.Input.{trim_c0_control_and_space}
 use Rattle.pep508_url.specs.Cuts.{behind, cut}
 use Rattle.pep508_url.specs.Vars.{Variables}
 use Rattle.pep508_url.specs.Expansion.{LacksOpening, expanded_parts, expanded, replaced, with_value, behind_dollar, reference}
+use Rattle.pep508_url.proofs.CutTexts.{cut_by}
+use Rattle.pep508_url.proofs.Expansion.{two, reached, some_same}
 use Rattle.pep508_url.specs.Schemes.{is_scheme, if_scheme, scheme_split}
-
-two : (b : Bool) → (b ≡ true) ⊎ (b ≡ false)
-two true = inl refl
-two false = inr refl
 
 -- ---- cuts
 
-abbrev chosen : ℕ → List ℕ → Bool → Option (List ℕ × List ℕ)
-chosen byte text found =
-    if found then Some (before_first (λ b. eqb b byte) text, after_first (λ b. eqb b byte) text) else None
-
-cut_by : (byte : ℕ) (text : List ℕ) (found : Bool) → nat_lt (position_or_len (λ b. eqb b byte) text) (length text) ≡ found
-    → cut byte text ≡ chosen byte text found
-unfolding cut
-cut_by byte text found e = ap (chosen byte text) e
-
-some_same : {A : Type 0} (x y : A) → Some x ≡ Some y → x ≡ y
-some_same x y h = cc
-
 stopped : (b byte : ℕ) → not (eqb b byte) ≡ false → b ≡ byte
 stopped b byte h = grind (arith, nat_tests)
-
-reached : (a b : ℕ) → nat_lt a b ≡ true → a < b
-reached a b h = grind (arith, nat_tests)
 
 whole_at : (byte : ℕ) (text : List ℕ) → position_or_len (λ b. eqb b byte) text < length text
     → text ≡ before_first (λ b. eqb b byte) text ++ byte ∷ after_first (λ b. eqb b byte) text
