@@ -1,7 +1,7 @@
 //! URLs of requirements.
 
 use pep508_url::{
-    Pep508Url, Scheme, UnnamedRequirementUrl, Vars, VerbatimUrl, VerbatimUrlError, expand_env_vars,
+    Pep508Url, Scheme, UnnamedRequirementUrl, Vars, VerbatimUrl, expand_env_vars,
     normalize_absolute_path, normalize_url_path, split_extras, split_scheme, strip_host,
 };
 use serde_json::Value;
@@ -106,8 +106,11 @@ fn normalizes_paths(rt: HostRuntime) -> Result<(), Fail> {
         assert_eq!(rt; normalize_absolute_path(rt.alloc(), path)?.as_str(), want);
     }
     match normalize_absolute_path(rt.alloc(), "/a/../..") {
-        Err(VerbatimUrlError::Normalization(path)) => assert_eq!(rt; path.as_str(), "/a/../.."),
-        _ => assert!(rt; false, "taken"),
+        Ok(path) => assert_eq!(rt; path.as_str(), "refused"),
+        Err(error) => assert_eq!(rt;
+            error.to_string(rt.alloc())?.as_str(),
+            "path could not be normalized: /a/../.."
+        ),
     }
     assert_eq!(rt;
         normalize_url_path(rt.alloc(), "/a%20b%2")?.as_str(),
@@ -174,8 +177,11 @@ fn refuses_urls(rt: HostRuntime) -> Result<(), Fail> {
         }
     }
     match <VerbatimUrl as Pep508Url>::parse_url(rt.alloc(), "../../x", &vars, Some("/w")) {
-        Err(VerbatimUrlError::Normalization(path)) => assert_eq!(rt; path.as_str(), "/w/../../x"),
-        _ => assert!(rt; false, "taken"),
+        Ok(url) => assert_eq!(rt; url.raw().as_str(), "refused"),
+        Err(error) => assert_eq!(rt;
+            error.to_string(rt.alloc())?.as_str(),
+            "path could not be normalized: /w/../../x"
+        ),
     }
     Ok(())
 }
@@ -187,8 +193,8 @@ fn gives_paths(rt: HostRuntime) -> Result<(), Fail> {
     for text in ["https://e.example/", "file://host/a", "file:///%FF"] {
         let url = VerbatimUrl::from_str(rt.alloc(), text)?;
         match url.as_path(rt.alloc()) {
-            Err(VerbatimUrlError::UrlConversion(refused)) => assert_eq!(rt; refused.as_str(), text),
-            _ => assert!(rt; false, "taken: {text}"),
+            Ok(path) => assert_eq!(rt; path.as_str(), "refused"),
+            Err(error) => assert!(rt; error.to_string(rt.alloc())?.as_str().ends_with(text)),
         }
     }
     Ok(())
