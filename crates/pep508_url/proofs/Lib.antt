@@ -1,0 +1,6 @@
+pub mod CutTexts
+pub mod Expansion
+pub mod ExtrasSplits
+pub mod PathParts
+pub mod UrlLaws
+pub mod NormalPaths

@@ -1,0 +1,16 @@
+-- Which errors are want of memory.
+use Rattle.std.specs.Prelude.{Bool, true, false}
+use Rattle.url.specs.declared.error.ParseError.{ParseError}
+use Rattle.url.specs.declared.error.ParseError.TheVariants.{OutOfMemory, Overflow}
+use Rattle.pep508_url.specs.declared.error.VerbatimUrlError.{VerbatimUrlError}
+use Rattle.pep508_url.specs.declared.error.VerbatimUrlError.TheVariants.{Memory}
+
+-- the crate `url` found no memory, or the URL came to 4 GB
+abbrev pub lacks_room : ParseError → Bool
+lacks_room OutOfMemory = true
+lacks_room Overflow = true
+lacks_room error = false
+
+abbrev pub lacks_memory : VerbatimUrlError → Bool
+lacks_memory Memory = true
+lacks_memory error = false

@@ -1,0 +1,9 @@
+pub mod Cuts
+pub mod Vars
+pub mod Expansion
+pub mod Schemes
+pub mod Splits
+pub mod UrlFaults
+pub mod Paths
+pub mod UrlTexts
+pub mod Lacking

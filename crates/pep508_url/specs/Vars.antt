@@ -1,0 +1,30 @@
+-- The variables that a text may name.
+use Rattle.std.specs.Prelude.{◌≡◌, ℕ, true, if◌then◌else◌, List, [], ◌∷◌, codes, bytes_eq, String, string_bytes, Option, Some, None}
+use Rattle.std.specs.Option.{option_or}
+use Rattle.pep508_url.specs.Cuts.{is_absolute}
+
+-- names with their values, in the order given, and the directory that stands for the project
+pub record Variables : Type 0 where
+  pub pairs : List (List ℕ × List ℕ)
+  pub project_root : List ℕ
+
+-- the path begins at the root
+abbrev pub IsAbsolute : List ℕ → Type 0
+IsAbsolute path = is_absolute path ≡ true
+
+-- a pair as contracts see it
+abbrev pub copied_pair : {A B : Type 0} → String A × String B → List ℕ × List ℕ
+copied_pair pair = (string_bytes pair.0, string_bytes pair.1)
+
+-- the value of the first pair of a name
+abbrev pub first_value : List (List ℕ × List ℕ) → List ℕ → Option (List ℕ)
+first_value [] name = None
+first_value (pair ∷ pairs) name = if bytes_eq pair.0 name then Some pair.1 else first_value pairs name
+
+-- the value that `PROJECT_ROOT` has where no pair gives one
+abbrev pub root_value : Variables → List ℕ → Option (List ℕ)
+root_value vars name = if bytes_eq name (codes "PROJECT_ROOT") then Some vars.project_root else None
+
+-- the value of a variable
+unfoldable pub value_of : Variables → List ℕ → Option (List ℕ)
+value_of vars name = option_or (first_value vars.pairs name) (root_value vars name)

@@ -1,0 +1,26 @@
+//! URLs of requirements (PEP 508, "Grammar"): environment variables, schemes, paths, and the URL that keeps the text that
+//! it was given as.
+//!
+//! Contracts see a text as the list of its bytes, a path as a text, and a URL as the parts that the crate `url` makes of
+//! it. What text is a URL is that crate's own word, `parse_url`.
+#![tactic(auto)]
+
+mod comparing;
+mod cuts;
+mod error;
+pub mod laws;
+mod path;
+mod reading;
+mod requirement_url;
+mod scheme;
+mod splits;
+mod vars;
+mod verbatim_url;
+
+pub use error::VerbatimUrlError;
+pub use path::{normalize_absolute_path, normalize_url_path};
+pub use requirement_url::{Pep508Url, UnnamedRequirementUrl};
+pub use scheme::{Scheme, split_scheme};
+pub use splits::{split_extras, strip_host};
+pub use vars::{Vars, expand_env_vars};
+pub use verbatim_url::VerbatimUrl;
