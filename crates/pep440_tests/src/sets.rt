@@ -213,7 +213,11 @@ fn count_left(set: &Texts) -> Option<usize> {
     let intervals = set.iter();
     let (least, most) = intervals.size_hint();
     let count = intervals.count();
-    if least == count && most == Some(count) { Some(count) } else { None }
+    if least == count && most == Some(count) {
+        Some(count)
+    } else {
+        None
+    }
 }
 
 #[test]

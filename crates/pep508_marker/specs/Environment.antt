@@ -62,8 +62,8 @@ unfoldable pub member_fault : Data → EnvironmentMember → Option EnvironmentE
 member_fault value member =
     if not (is_some (member_text value member)) then Some (Member member)
     else (if is_version member && not (is_some (member_version value member))
-          then Some (Version member)
-          else None)
+    then Some (Version member)
+    else None)
 
 -- what is wrong with the members, in their order
 abbrev pub faults : Data → List EnvironmentError
@@ -82,8 +82,8 @@ unfoldable pub environment_of : Data → Result EnvironmentRecord EnvironmentErr
 environment_of value =
     if has_float value then Err Float
     else (if not (is_some (as_object value))
-          then Err Shape
-          else first_fault_or (faults value) (member_version value PythonFullVersion))
+    then Err Shape
+    else first_fault_or (faults value) (member_version value PythonFullVersion))
 
 -- the text of this member is looked at: there is an object without floats, the members before this one
 -- are right, and it is a text

@@ -16,7 +16,7 @@ Answers view told (Err error) reading = Tells (told error) reading
 
 -- a value that is no text is refused for that, and the text of another is read with this outcome
 abbrev pub ReadsText : {A E : Type 0} → (List ℕ → Result A E → Type 0) → Option (List ℕ)
-  → Result A (FromValueError E) → Type 0
+    → Result A (FromValueError E) → Type 0
 ReadsText Outcome None (Ok x) = ⊥
 ReadsText Outcome None (Err Shape) = Unit {0}
 ReadsText Outcome None (Err (Text error)) = ⊥
