@@ -52,7 +52,7 @@ fn touching_sets_join(rt: HostRuntime) -> Result<(), Fail> {
     assert!(rt; joined == full);
     assert!(rt; joined.cmp(&full) == Ordering::Equal);
     assert!(rt; hash_of(&joined) == hash_of(&full));
-    assert!(rt; joined.iter().count() == 1);
+    assert!(rt; count_left(&joined) == Some(1));
     assert!(rt; joined != below);
     assert!(rt; hash_of(&joined) != hash_of(&below));
     Ok(())
@@ -80,7 +80,7 @@ fn complement_twice_is_the_set(rt: HostRuntime) -> Result<(), Fail> {
     assert!(rt; !others.contains(&a));
     assert!(rt; others.contains(&text(alloc, "")?));
     assert!(rt; others.contains(&text(alloc, "a\0")?));
-    assert!(rt; others.iter().count() == 2);
+    assert!(rt; count_left(&others) == Some(2));
     assert!(rt; others.complement(alloc)? == single);
     assert!(rt; Ranges::<String>::full(alloc)?.complement(alloc)?.is_empty());
     Ok(())
@@ -210,9 +210,11 @@ fn boundaries_are_ordered_as_points(rt: HostRuntime) -> Result<(), Fail> {
 
 /// How many intervals an iterator says that it has left, where it has so many.
 fn count_left(set: &Texts) -> Option<usize> {
-    let intervals = set.iter();
-    let (least, most) = intervals.size_hint();
-    let count = intervals.count();
+    let (least, most) = set.iter().size_hint();
+    let mut count = 0usize;
+    for _ in set.iter() {
+        count = count.saturating_add(1);
+    }
     if least == count && most == Some(count) {
         Some(count)
     } else {
