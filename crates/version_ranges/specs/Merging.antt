@@ -24,8 +24,7 @@ Adds {K} R t true old new = (x : K) × (new ≡ old ++ x ∷ []) × (R x t ≡ E
 Adds R t false old new = new ≡ old
 
 -- t is the first of two lists, as far as they rise: in_a and in_b tell which of them it stands in, and
--- left_a and left_b
--- are left of them behind it
+-- left_a and left_b are left of them behind it
 pub record IsFirst {K : Type 0} (R : K → K → Ordering) (a b : List K) (t : K) (in_a in_b : Bool)
     (left_a left_b : List K) : Type 0 where
   pub taken_a : Takes R t in_a a left_a

@@ -1,6 +1,5 @@
 -- The order of sets: interval by interval, first the lower bounds and then the upper ones, each by points;
--- the first
--- that differ decide, and else the numbers of intervals.
+-- the first that differ decide, and else the numbers of intervals.
 use Rattle.std.specs.Prelude.{ℕ, List, [], ◌∷◌}
 use Rattle.std.specs.declared.cmp.Ordering.{Ordering}
 use Rattle.std.specs.declared.ops.Bound.{Bound}

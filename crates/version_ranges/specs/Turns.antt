@@ -1,6 +1,5 @@
 -- Sets by the places at which membership turns, over any order: from each of them on, what was held is not,
--- and what
--- was not is.
+-- and what was not is.
 use Rattle.std.specs.Prelude.{◌≡◌, Bool, true, false, not, List, [], ◌∷◌}
 use Rattle.std.specs.List.{AllByRecursion}
 use Rattle.std.specs.declared.cmp.Ordering.{Ordering}

@@ -22,8 +22,7 @@ use std::ops::Bound;
 /// A place at which membership in a set turns: at a value, or just above one.
 ///
 /// Equality, order and hash are those of the point: `At(v)` comes before `JustAbove(v)`, and that before
-/// `At(w)` for
-/// every `w` above `v`. Each takes one comparison or one hash of values.
+/// `At(w)` for every `w` above `v`. Each takes one comparison or one hash of values.
 #[derive(Drop)]
 pub enum Boundary<T> {
     At(T),

@@ -54,8 +54,7 @@ pub fn intervals_are_apart<T: Ord>()
 {}
 
 /// From the first interval's lower bound to the last one's upper bound lie just the points that have a held
-/// point at or
-/// before them and one at or behind them; there are no such bounds of the empty set alone.
+/// point at or before them and one at or behind them; there are no such bounds of the empty set alone.
 pub fn hull_spans_the_set<T: Ord>()
     ensures { (set : List (Point T)) → IsNormal T.cmp set →
         MatchOption (hull (intervals set)) (set ≡ [])

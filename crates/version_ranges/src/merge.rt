@@ -28,8 +28,7 @@ pub struct NextBoundary<'a, T> {
 }
 
 /// The first boundary of two rising lists, and what is left of each; `None` where both are empty. It
-/// compares two
-/// boundaries at most, and takes no memory.
+/// compares two boundaries at most, and takes no memory.
 pub fn next_boundary<'a, T: Ord>(
     first: &'a [Boundary<T>],
     second: &'a [Boundary<T>],

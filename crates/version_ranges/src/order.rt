@@ -50,11 +50,9 @@ impl<T: RangeValue> PartialOrd for Ranges<T> {
     }
 }
 
-/// The order of two sets that both hold the point below all, or both don't: the first boundaries that differ
-/// decide.
-/// Where one set has no further boundary, it comes last if an interval is open there, since that has no end,
-/// and else
-/// first, since it has fewer intervals.
+/// The order of two sets that both hold the point below all, or both don't: the first boundaries that
+/// differ decide. Where one set has no further boundary, it comes last if an interval is open there, since
+/// that has no end, and else first, since it has fewer intervals.
 fn compare_boundaries<T: Ord>(
     starts_held: bool,
     boundaries: &[Boundary<T>],

@@ -20,9 +20,9 @@ use std::ops::Bound;
 
 /// A set of points of an order, kept as the boundaries of its intervals.
 ///
-/// Clauses see a set as the list of its turns: the points, in rising order, from each of which on membership
-/// is the
-/// other way. `holds_at` tells which points a set holds; two sets that hold the same points are equal.
+/// Clauses see a set as the list of its turns: the points, in rising order, from each of which on
+/// membership is the other way. `holds_at` tells which points a set holds; two sets that hold the same
+/// points are equal.
 #[derive(Drop)]
 pub struct Ranges<T: RangeValue> {
     /// Whether the set holds the point below all.
@@ -46,8 +46,7 @@ impl<T: RangeValue> Model for Ranges<T> {
 
 impl<T: RangeValue> Ranges<T> {
     /// Whether the set holds the point below all, and the boundaries, in rising order, at each of which
-    /// membership
-    /// turns. It takes no memory and constant time.
+    /// membership turns. It takes no memory and constant time.
     pub fn turns(&self) -> (bool, &[Boundary<T>])
         ensures turns { turns_of result.0 result.1.now ≡ self.now }
         ensures normal { IsNormal T.cmp self.now }

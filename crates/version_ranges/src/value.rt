@@ -7,9 +7,8 @@ use std::hash::Hash;
 
 /// A value that may bound an interval: it has a total order, a hash and a copy that equals its source.
 ///
-/// Nothing else is used of the order, above all no value between two others. Values that are equal may still
-/// differ,
-/// as versions that are spelled in two ways: which of them a set keeps is left open.
+/// Nothing else is used of the order, above all no value between two others. Values that are equal may
+/// still differ, as versions that are spelled in two ways: which of them a set keeps is left open.
 pub trait RangeValue: Ord + Hash + Drop {
     /// A copy, which equals its source. The only refusal is want of memory.
     fn try_clone(&self, alloc: Global) -> Result<Self, AllocError>
