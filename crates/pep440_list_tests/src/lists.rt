@@ -198,6 +198,37 @@ fn keeps_the_line_of_a_fault(rt: HostRuntime) -> Result<(), Fail> {
     Ok(())
 }
 
+/// What the error says of a text that is no list.
+fn fault_print(alloc: Global, text: &str) -> Result<String, Fail> {
+    let fault = VersionSpecifiers::from_str(alloc, text).err();
+    Ok(fault.ok_or("it was read")?.to_string(alloc)?)
+}
+
+#[test]
+fn prints_faults(rt: HostRuntime) -> Result<(), Fail> {
+    for (text, print) in [
+        (
+            ">=1,",
+            "Failed to parse version: Unexpected end of version specifier, expected operator",
+        ),
+        (
+            ">=1, == ,1",
+            "Failed to parse version: Unexpected end of version specifier, expected version",
+        ),
+        (
+            "é,>=1",
+            "Failed to parse version: Unexpected end of version specifier, expected operator",
+        ),
+        (
+            ">=1,<2.x",
+            "Failed to parse version: after parsing `2`, found `.x`, which is not part of a valid version",
+        ),
+    ] {
+        assert_eq!(rt; fault_print(rt.alloc(), text)?.as_str(), print);
+    }
+    Ok(())
+}
+
 /// The release of a version's text.
 fn release(alloc: Global, text: &str) -> Result<Version, Fail>
     ensures { IfOk result (λ version. IsReleaseVersion version) }

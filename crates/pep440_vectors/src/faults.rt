@@ -45,8 +45,8 @@ fn refused_piece(alloc: Global, error: &VersionSpecifiersParseError) -> Result<S
     match error {
         VersionSpecifiersParseError::Specifier(refused) => {
             let (start, end) = (refused.start(), refused.end());
-            let (piece, line) = (refused.piece(), refused.line());
-            format!(in alloc; "`{piece}` from {start} to {end} of `{line}`: {error}")
+            let (piece, line, fault) = (refused.piece(), refused.line(), refused.error());
+            format!(in alloc; "`{piece}` from {start} to {end} of `{line}`: {fault}")
         }
         VersionSpecifiersParseError::Memory => Err(AllocError),
     }
