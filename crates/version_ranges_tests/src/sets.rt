@@ -157,16 +157,28 @@ fn are_bounds(bounds: Option<(Bound<&String>, Bound<&String>)>, lower: &str, upp
 }
 
 #[test]
-fn intervals_are_shown(rt: HostRuntime) -> Result<(), Fail> {
-    let alloc = rt.alloc();
-    let two = two(alloc)?;
+fn bounds_of_the_whole_are_told(rt: HostRuntime) -> Result<(), Fail> {
+    let two = two(rt.alloc())?;
     assert!(rt; are_bounds(two.bounding_range(), "a", "d"));
+    let empty = Ranges::<String>::empty(rt.alloc());
+    assert!(rt; empty.bounding_range().is_none());
+    Ok(())
+}
+
+#[test]
+fn intervals_are_shown(rt: HostRuntime) -> Result<(), Fail> {
+    let two = two(rt.alloc())?;
     let mut intervals = two.iter();
     assert!(rt; are_bounds(intervals.next(), "a", "b"));
     assert!(rt; are_bounds(intervals.next(), "c", "d"));
     assert!(rt; intervals.next().is_none());
-    assert!(rt; two.try_clone(alloc)? == two);
-    assert!(rt; Ranges::<String>::empty(alloc).bounding_range().is_none());
+    Ok(())
+}
+
+#[test]
+fn copies_are_equal(rt: HostRuntime) -> Result<(), Fail> {
+    let two = two(rt.alloc())?;
+    assert!(rt; two.try_clone(rt.alloc())? == two);
     Ok(())
 }
 
@@ -240,7 +252,14 @@ fn values_are_joined_by_their_order(rt: HostRuntime) -> Result<(), Fail> {
     assert!(rt; single.intersection(alloc, &other)? == single);
     let union = single.union(alloc, &other)?;
     assert!(rt; union.as_singleton().is_some_and(|value| value.rank == 1));
-    let others = other.complement(alloc)?;
+    Ok(())
+}
+
+#[test]
+fn values_are_left_out_by_their_order(rt: HostRuntime) -> Result<(), Fail> {
+    let alloc = rt.alloc();
+    let single = one(alloc, 1)?;
+    let others = one(alloc, 2)?.complement(alloc)?;
     assert!(rt; single.intersection(alloc, &others)?.is_empty());
     Ok(())
 }
