@@ -1,7 +1,8 @@
 //! Specifiers and their operators.
 
-ghost use Rattle.std.specs.Prelude.{IfOk};
+ghost use Rattle.std.specs.Prelude.{◌≡◌, ◌∷◌, [], IfOk};
 ghost use Rattle.pep440_rs.specs.Bounds.{IsReleaseVersion};
+ghost use Rattle.pep440_rs.specs.Record.{release_record};
 
 use pep440_rs::{
     BoundError, FromValueError, Operator, OperatorParseError, Version, VersionSpecifier,
@@ -122,8 +123,10 @@ fn has_parts(rt: HostRuntime) -> Result<(), Fail> {
     Ok(())
 }
 
-/// The specifier of a version by this operator, where it has a call of its own.
-fn made(operator: Operator, version: Version) -> Option<VersionSpecifier> {
+/// The specifier of `1` by this operator, where it has a call of its own.
+fn made(operator: Operator, version: Version) -> Option<VersionSpecifier>
+    requires { version ≡ release_record (1 ∷ []) }
+{
     Some(match operator {
         Operator::Equal => VersionSpecifier::equals_version(version),
         Operator::EqualStar => VersionSpecifier::equals_star_version(version),

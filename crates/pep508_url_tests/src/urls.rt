@@ -1,5 +1,8 @@
 //! URLs of requirements.
 
+ghost use Rattle.std.specs.Prelude.{IfSome};
+ghost use Rattle.pep508_url.specs.Vars.{IsAbsolute};
+
 use pep508_url::{
     Pep508Url, Scheme, UnnamedRequirementUrl, Vars, VerbatimUrl, expand_env_vars,
     normalize_absolute_path, normalize_url_path, split_extras, split_scheme, strip_host,
@@ -163,7 +166,9 @@ fn read(
     text: &str,
     vars: &Vars,
     working_dir: Option<&str>,
-) -> Result<String, AllocError> {
+) -> Result<String, AllocError>
+    requires { IfSome working_dir (λ directory. IsAbsolute directory.now) }
+{
     match <VerbatimUrl as Pep508Url>::parse_url(alloc, text, vars, working_dir) {
         Ok(url) => String::from_str(alloc, url.raw().as_str()),
         Err(error) => error.to_string(alloc),
