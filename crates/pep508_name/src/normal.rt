@@ -1,11 +1,12 @@
 //! Names in normal form: what the names of packages and of extras have in common.
 
-ghost use Rattle.std.specs.Prelude.{◌≡◌, ◌<◌, IsTrue, IfOk, IfSome, Some, Err, option_copied, false, length, refl};
+ghost use Rattle.std.specs.Prelude.{◌≡◌, ◌<◌, ◌||◌, IsTrue, IfOk, IfSome, Some, Err, option_copied, false, length, refl};
 ghost use Rattle.std.specs.Option.{option_map_or};
 ghost use Rattle.std.specs.Cmp.{partial_equiv_from_equiv};
 ghost use Rattle.std.specs.Cmp.Lexicographic.{nat_list_eq_equiv, nat_list_cmp_total, texts_ties, texts_po};
 ghost use Rattle.std.specs.Ordering.{as_partial_cmp};
 ghost use Rattle.std.specs.Fmt.{debug_str};
+ghost use Rattle.std.specs.Char.{is_ascii_digit, is_ascii_lowercase};
 ghost use Rattle.std.specs.List.{list_all};
 ghost use Rattle.std.specs.String.{string_bytes};
 ghost use Rattle.read_outcome.specs.Outcome.{Answers};
@@ -48,7 +49,7 @@ impl NormalName {
             return Err(invalid(alloc, text));
         }
         Ok(NormalName {
-            text: normalized(alloc, text)?,
+            text: normal_form(alloc, text)?,
         })
     }
 
@@ -186,6 +187,47 @@ fn invalid(alloc: Global, text: &str) -> InvalidNameError
 }
 
 /// The normal form of a name, in one allocation of the name's length.
+fn normal_form(alloc: Global, text: &str) -> Result<String, AllocError>
+    requires { IsTrue (is_name text.now) }
+    ensures { IfOk result (λ name. string_bytes name ≡ normal_name text.now) }
+{
+    if is_normal(text) {
+        return String::from_str(alloc, text);
+    }
+    normalized(alloc, text)
+}
+
+/// Whether a name is plainly its own normal form, as most are: small letters and digits, with a `-`
+/// between some.
+fn is_normal(text: &str) -> bool
+    requires { IsTrue (is_name text.now) }
+    ensures { IsTrue result → normal_name text.now ≡ text.now }
+{
+    let mut separated = false;
+    for byte in text.as_bytes() {
+        if *byte == b'-' {
+            if separated {
+                return false;
+            }
+            separated = true;
+        } else {
+            if !is_small(*byte) {
+                return false;
+            }
+            separated = false;
+        }
+    }
+    true
+}
+
+/// Whether a byte is a small letter or a digit.
+fn is_small(byte: u8) -> bool
+    ensures { result ≡ (is_ascii_lowercase byte || is_ascii_digit byte) }
+{
+    byte.is_ascii_lowercase() || byte.is_ascii_digit()
+}
+
+/// The normal form of a name, byte by byte.
 fn normalized(alloc: Global, text: &str) -> Result<String, AllocError>
     requires { IsTrue (is_name text.now) }
     ensures { IfOk result (λ name. string_bytes name ≡ normal_name text.now) }
