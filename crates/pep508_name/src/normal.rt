@@ -203,18 +203,18 @@ fn is_normal(text: &str) -> bool
     requires { IsTrue (is_name text.now) }
     ensures { IsTrue result → normal_name text.now ≡ text.now }
 {
-    let mut separated = false;
+    let mut behind_dash = false;
     for byte in text.as_bytes() {
         if *byte == b'-' {
-            if separated {
+            if behind_dash {
                 return false;
             }
-            separated = true;
+            behind_dash = true;
         } else {
             if !is_small(*byte) {
                 return false;
             }
-            separated = false;
+            behind_dash = false;
         }
     }
     true

@@ -7,4 +7,4 @@ pub returns : goal.returns
 returns c =
     λ u. stays_is_normal c.args.text.now c.requires
     (c.loop-byte.invariant
-    ∙ ap (stays c.loop-byte.separated) (drop_all c.loop-byte.byte-index c.as_bytes-byte-items.result.now c.loop-byte-test.false))
+    ∙ ap (stays c.loop-byte.behind_dash) (drop_all c.loop-byte.byte-index c.as_bytes-byte-items.result.now c.loop-byte-test.false))
