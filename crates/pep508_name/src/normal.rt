@@ -1,12 +1,11 @@
 //! Names in normal form: what the names of packages and of extras have in common.
 
-ghost use Rattle.std.specs.Prelude.{◌≡◌, ◌<◌, ◌||◌, IsTrue, IfOk, IfSome, Some, Err, option_copied, false, length, refl};
+ghost use Rattle.std.specs.Prelude.{◌≡◌, ◌<◌, IsTrue, IfOk, IfSome, Some, Err, option_copied, false, length, refl};
 ghost use Rattle.std.specs.Option.{option_map_or};
 ghost use Rattle.std.specs.Cmp.{partial_equiv_from_equiv};
 ghost use Rattle.std.specs.Cmp.Lexicographic.{nat_list_eq_equiv, nat_list_cmp_total, texts_ties, texts_po};
 ghost use Rattle.std.specs.Ordering.{as_partial_cmp};
 ghost use Rattle.std.specs.Fmt.{debug_str};
-ghost use Rattle.std.specs.Char.{is_ascii_digit, is_ascii_lowercase};
 ghost use Rattle.std.specs.List.{list_all};
 ghost use Rattle.std.specs.String.{string_bytes};
 ghost use Rattle.read_outcome.specs.Outcome.{Answers};
@@ -14,6 +13,7 @@ ghost use Rattle.pep508_name.specs.Name.{is_name, is_name_byte, is_alphanumeric,
 ghost use Rattle.pep508_name.specs.Hashing.{alike_names};
 
 use crate::InvalidNameError;
+use crate::unchanged::is_normal;
 use std::alloc::{AllocError, Global};
 use std::cmp::Ordering;
 use std::fmt;
@@ -195,36 +195,6 @@ fn normal_form(alloc: Global, text: &str) -> Result<String, AllocError>
         return String::from_str(alloc, text);
     }
     normalized(alloc, text)
-}
-
-/// Whether a name is plainly its own normal form, as most are: small letters and digits, with a `-`
-/// between some.
-fn is_normal(text: &str) -> bool
-    requires { IsTrue (is_name text.now) }
-    ensures { IsTrue result → normal_name text.now ≡ text.now }
-{
-    let mut behind_dash = false;
-    for byte in text.as_bytes() {
-        if *byte == b'-' {
-            if behind_dash {
-                return false;
-            }
-            behind_dash = true;
-        } else {
-            if !is_small(*byte) {
-                return false;
-            }
-            behind_dash = false;
-        }
-    }
-    true
-}
-
-/// Whether a byte is a small letter or a digit.
-fn is_small(byte: u8) -> bool
-    ensures { result ≡ (is_ascii_lowercase byte || is_ascii_digit byte) }
-{
-    byte.is_ascii_lowercase() || byte.is_ascii_digit()
 }
 
 /// The normal form of a name, byte by byte.

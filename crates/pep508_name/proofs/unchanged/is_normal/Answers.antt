@@ -1,7 +1,7 @@
 use Rattle.std.proofs.Common.{◌∙◌, ap}
 use Rattle.std.proofs.lemmas.List.{drop_all}
 use Rattle.pep508_name.proofs.Same.{stays, stays_is_normal}
-use Rattle.pep508_name.proofs.normal.is_normal.Goals as goal
+use Rattle.pep508_name.proofs.unchanged.is_normal.Goals as goal
 
 pub returns : goal.returns
 returns c =
