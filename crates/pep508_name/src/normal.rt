@@ -45,11 +45,16 @@ impl NormalName {
         ensures answered { Answers (λ name. name) told_name result (name_reading text.now) }
         ensures grown { result ≡ Err InvalidNameError.Memory → 0 < length text.now }
     {
+        if is_normal(text) {
+            return Ok(NormalName {
+                text: String::from_str(alloc, text)?,
+            });
+        }
         if !is_name(text) {
             return Err(invalid(alloc, text));
         }
         Ok(NormalName {
-            text: normal_form(alloc, text)?,
+            text: normalized(alloc, text)?,
         })
     }
 
@@ -187,17 +192,6 @@ fn invalid(alloc: Global, text: &str) -> InvalidNameError
 }
 
 /// The normal form of a name, in one allocation of the name's length.
-fn normal_form(alloc: Global, text: &str) -> Result<String, AllocError>
-    requires { IsTrue (is_name text.now) }
-    ensures { IfOk result (λ name. string_bytes name ≡ normal_name text.now) }
-{
-    if is_normal(text) {
-        return String::from_str(alloc, text);
-    }
-    normalized(alloc, text)
-}
-
-/// The normal form of a name, byte by byte.
 fn normalized(alloc: Global, text: &str) -> Result<String, AllocError>
     requires { IsTrue (is_name text.now) }
     ensures { IfOk result (λ name. string_bytes name ≡ normal_name text.now) }

@@ -4,27 +4,27 @@ ghost use Rattle.std.specs.Prelude.{◌≡◌, ◌||◌, IsTrue};
 ghost use Rattle.std.specs.Char.{is_ascii_digit, is_ascii_lowercase};
 ghost use Rattle.pep508_name.specs.Name.{is_name, normal_name};
 
-/// Whether a name is plainly its own normal form, as most are: small letters and digits, with a `-`
-/// between some.
+/// Whether a text is a name and plainly its own normal form: small letters and digits, with a `-`
+/// between some. One pass over the text, with no allocation.
 pub(crate) fn is_normal(text: &str) -> bool
-    requires { IsTrue (is_name text.now) }
-    ensures { IsTrue result → normal_name text.now ≡ text.now }
+    ensures { IsTrue result → IsTrue (is_name text.now) × (normal_name text.now ≡ text.now) }
 {
-    let mut behind_dash = false;
+    // A `-` may stand neither at the front nor behind another one.
+    let mut may_end = false;
     for byte in text.as_bytes() {
         if *byte == b'-' {
-            if behind_dash {
+            if !may_end {
                 return false;
             }
-            behind_dash = true;
+            may_end = false;
         } else {
             if !is_small(*byte) {
                 return false;
             }
-            behind_dash = false;
+            may_end = true;
         }
     }
-    true
+    may_end
 }
 
 /// Whether a byte is a small letter or a digit.

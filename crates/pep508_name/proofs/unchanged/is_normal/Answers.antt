@@ -5,6 +5,7 @@ use Rattle.pep508_name.proofs.unchanged.is_normal.Goals as goal
 
 pub returns : goal.returns
 returns c =
-    λ u. stays_is_normal c.args.text.now c.requires
+    λ h. stays_is_normal c.args.text.now
     (c.loop-byte.invariant
-    ∙ ap (stays c.loop-byte.behind_dash) (drop_all c.loop-byte.byte-index c.as_bytes-byte-items.result.now c.loop-byte-test.false))
+    ∙ ap (stays c.loop-byte.may_end) (drop_all c.loop-byte.byte-index c.as_bytes-byte-items.result.now c.loop-byte-test.false)
+    ∙ h)
