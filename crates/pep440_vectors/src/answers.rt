@@ -188,10 +188,7 @@ fn in_range(alloc: Global, list: &str, candidate: &str) -> Result<String, AllocE
 fn intervals(alloc: Global, list: &str) -> Result<String, AllocError> {
     match range(alloc, list)? {
         Some(range) => {
-            let mut count = 0u64;
-            for _ in range.iter() {
-                count = count.saturating_add(1);
-            }
+            let count = range.iter().count();
             format!(in alloc; "{count}")
         }
         None => String::from_str(alloc, REFUSED),

@@ -15,6 +15,7 @@ mod extra;
 pub mod laws;
 mod normal;
 mod package;
+mod unchanged;
 
 pub use extra::ExtraName;
 pub use normal::is_name;

@@ -13,6 +13,7 @@ ghost use Rattle.pep508_name.specs.Name.{is_name, is_name_byte, is_alphanumeric,
 ghost use Rattle.pep508_name.specs.Hashing.{alike_names};
 
 use crate::InvalidNameError;
+use crate::unchanged::is_normal;
 use std::alloc::{AllocError, Global};
 use std::cmp::Ordering;
 use std::fmt;
@@ -44,6 +45,11 @@ impl NormalName {
         ensures answered { Answers (λ name. name) told_name result (name_reading text.now) }
         ensures grown { result ≡ Err InvalidNameError.Memory → 0 < length text.now }
     {
+        if is_normal(text) {
+            return Ok(NormalName {
+                text: String::from_str(alloc, text)?,
+            });
+        }
         if !is_name(text) {
             return Err(invalid(alloc, text));
         }

@@ -322,10 +322,7 @@ fn boundaries_reach_what_lies_above(rt: HostRuntime) -> Result<(), Fail> {
 /// How many intervals an iterator says that it has left, where it has so many.
 fn count_left(set: &Texts) -> Option<usize> {
     let (least, most) = set.iter().size_hint();
-    let mut count = 0usize;
-    for _ in set.iter() {
-        count = count.saturating_add(1);
-    }
+    let count = set.iter().count();
     if least == count && most == Some(count) {
         Some(count)
     } else {
@@ -356,8 +353,8 @@ fn prepared(alloc: Global) -> Result<(Texts, Texts, Texts, Texts), AllocError> {
     ))
 }
 
-/// Want of memory leaves both sets as they were: `rt try --test --fail-alloc N` refuses the Nth allocation. The test
-/// fails only where a set changed or an answer is wrong, not where memory is refused.
+/// Want of memory leaves both sets as they were: `rt try --test --fail-alloc N` refuses the Nth allocation.
+/// The test fails only where a set changed or an answer is wrong, not where memory is refused.
 #[test]
 fn refused_memory_changes_no_set(rt: HostRuntime) {
     let alloc = rt.alloc();
