@@ -3,3 +3,5 @@ pub mod Same
 pub mod Parts
 pub mod Steps
 pub mod Again
+pub mod Escaped
+pub mod Forms

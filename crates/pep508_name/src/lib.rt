@@ -14,15 +14,17 @@ use std::fmt;
 mod extra;
 pub mod laws;
 mod normal;
+mod origin;
 mod package;
 mod unchanged;
 
 pub use extra::ExtraName;
 pub use normal::is_name;
+pub use origin::RequirementOrigin;
 pub use package::PackageName;
 
 /// Why a text is not taken for a name.
-#[derive(Debug, Drop)]
+#[derive(Debug, PartialEq, Eq, Drop)]
 pub enum InvalidNameError {
     /// Memory ran out while reading.
     Memory,
