@@ -1,14 +1,14 @@
 -- White space that is skipped, and characters that are cut off at the front.
 use Rattle.std.proofs.Common.{◌≡◌, ℕ, suc, ◌+◌, ◌<◌, ◌==◌, Bool, true, false, not, cond, if◌then◌else◌, List}
-use Rattle.std.proofs.Common.{[], ◌∷◌, ◌++◌, length, take, drop, Option, Some, None, IsTrue, refl, ap, sym}
-use Rattle.std.proofs.Common.{subst, ◌∙◌, arith, length-append}
+use Rattle.std.proofs.Common.{[], ◌∷◌, ◌++◌, length, take, drop, Some, None, refl, ap, sym}
+use Rattle.std.proofs.Common.{◌∙◌, arith, length-append}
 use Rattle.std.specs.Prelude.{nat_lt}
 use Rattle.std.proofs.Math.Seq.{take-append_seam}
 use Rattle.std.proofs.lemmas.Bool.Decides.{nat_tests}
-use Rattle.std.proofs.lemmas.List.{take-append-drop, append-nil}
+use Rattle.std.proofs.lemmas.List.{append-nil}
 use Rattle.std.proofs.lemmas.List.Prefix.{front_rest}
 use Rattle.std.specs.Char.{is_whitespace}
-use Rattle.std.specs.List.{AllByRecursion, position_or_len, before_first, after_first}
+use Rattle.std.specs.List.{AllByRecursion, position_or_len}
 use Rattle.std.specs.Str.{encode_utf8_all, skip_leading_whitespace}
 use Rattle.pep440_specifier.specs.SpecifierText.{AreSpaces}
 use Rattle.pep508_requirement_text.specs.UrlEnds.{begins_with}
