@@ -13,6 +13,7 @@ use Rattle.std.specs.Str.{encode_utf8_all, skip_leading_whitespace}
 use Rattle.pep440_specifier.specs.SpecifierText.{AreSpaces}
 use Rattle.pep508_requirement_text.specs.UrlEnds.{begins_with}
 use Rattle.pep508_requirement_text.specs.FrontReading.{cut_before, cut_around}
+use Rattle.pep508_requirement_text.proofs.Tests.{itself, the_same}
 
 -- ---- white space
 
@@ -124,12 +125,6 @@ behind_one [] y ys = refl
 behind_one (x ∷ xs) y ys =
     (let e : length (x ∷ xs) + 1 ≡ suc (length xs + 1) = omega arith in ap (λ n. drop n (x ∷ (xs ++ y ∷ ys))) e
     ∙ behind_one xs y ys)
-
-pub itself : (c : ℕ) → (c == c) ≡ true
-itself c = grind (arith, nat_tests)
-
-pub the_same : (d c : ℕ) → (d == c) ≡ true → d ≡ c
-the_same d c h = grind (arith, nat_tests)
 
 within : (n m : ℕ) → n < m → nat_lt n m ≡ true
 within n m h = grind (arith, nat_tests)

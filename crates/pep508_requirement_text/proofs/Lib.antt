@@ -1,2 +1,4 @@
+pub mod Tests
 pub mod Cuts
 pub mod UrlLaws
+pub mod Pieces

@@ -6,38 +6,8 @@ use Rattle.std.specs.Char.{is_whitespace}
 use Rattle.pep508_requirement_text.specs.UrlEnds.{depth_behind, is_line_break, is_mark, begins_with, begins_with_end}
 use Rattle.pep508_requirement_text.specs.UrlEnds.{ends_before, ends_behind, with_char, url_split, depth_of}
 use Rattle.pep508_requirement_text.specs.UrlEnds.{EndsWithMark, EndsBetween, IsUrlBefore}
-use Rattle.pep508_requirement_text.proofs.Cuts.{the_same}
-
--- ---- tests
-
-or_left : (a b : Bool) → a ≡ true → (a || b) ≡ true
-or_left a b h = ap (λ t. t || b) h
-
-or_right : (a b : Bool) → b ≡ true → (a || b) ≡ true
-or_right true b h = refl
-or_right false b h = h
-
-or_cases : (a b : Bool) → (a || b) ≡ true → (a ≡ true) ⊎ (b ≡ true)
-or_cases true b h = inl refl
-or_cases false b h = inr h
-
-neither : (a b : Bool) → a ≡ false → b ≡ false → (a || b) ≡ false
-neither a b h k = ap (λ t. t || b) h ∙ k
-
-or_first : (a b : Bool) → (a || b) ≡ false → a ≡ false
-or_first true b h = absurd (cc)
-or_first false b h = refl
-
-or_second : (a b : Bool) → (a || b) ≡ false → b ≡ false
-or_second true b h = absurd (cc)
-or_second false b h = h
-
-both : (a b : Bool) → a ≡ true → b ≡ true → (a && b) ≡ true
-both a b h k = ap (λ t. t && b) h ∙ k
-
-and_parts : (a b : Bool) → (a && b) ≡ true → (a ≡ true) × (b ≡ true)
-and_parts true b h = (refl, h)
-and_parts false b h = absurd (cc)
+use Rattle.pep508_requirement_text.proofs.Tests.{the_same, or_left, or_right, or_cases, neither, or_first, or_second}
+use Rattle.pep508_requirement_text.proofs.Tests.{both, and_parts}
 
 -- ---- places at which a URL may end
 
