@@ -2,3 +2,4 @@ pub mod Tests
 pub mod Cuts
 pub mod UrlLaws
 pub mod Pieces
+pub mod Names

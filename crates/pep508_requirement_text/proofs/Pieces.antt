@@ -1,18 +1,17 @@
 -- Characters and their bytes: what is cut at commas, and white space around a piece.
-use Rattle.std.proofs.Common.{◌≡◌, ℕ, zero, suc, ◌+◌, ◌<◌, ◌≤◌, ◌==◌, ◌&&◌, Bool, true, false, cond, List, []}
+use Rattle.std.proofs.Common.{◌≡◌, ℕ, zero, suc, ◌<◌, ◌==◌, ◌&&◌, Bool, true, false, cond, List, []}
 use Rattle.std.proofs.Common.{◌∷◌, ◌++◌, length, get_or, map, refl, ap, sym, subst, ◌∙◌, arith, lit<}
-use Rattle.std.proofs.lemmas.Bool.Decides.{nat_tests}
 use Rattle.std.proofs.lemmas.List.{append-nil}
 use Rattle.std.proofs.lemmas.List.Splits.{length-slice_split, slice_split-cons_yes, slice_split-cons_no}
 use Rattle.std.proofs.lemmas.Str.{inside_one, encode_ascii, chars-encodes, length-le-encodes}
 use Rattle.std.proofs.Math.Utf8.{scalar}
 use Rattle.std.specs.Char.{is_whitespace, encode_utf8}
 use Rattle.std.specs.List.{AllByRecursion, slice_split, onto_first, join_with_byte}
-use Rattle.std.specs.Str.{chars, encode_utf8_all, all_scalars, skip_leading_whitespace, trim, trim_start, trim_end}
+use Rattle.std.specs.Str.{encode_utf8_all, all_scalars, skip_leading_whitespace, trim, trim_start, trim_end}
 use Rattle.std.specs.Str.{drop_trailing_whitespace}
 use Rattle.pep440_specifier.specs.SpecifierText.{AreSpaces}
 use Rattle.pep508_requirement_text.proofs.Tests.{the_same, both, and_parts}
-use Rattle.pep508_requirement_text.proofs.Cuts.{NonePasses, Skipped, spaces_found}
+use Rattle.pep508_requirement_text.proofs.Cuts.{NonePasses, spaces_found}
 
 -- ---- characters
 
@@ -69,7 +68,7 @@ with_encoded : (c : ℕ) (pieces : List (List ℕ)) → 0 < length pieces
 with_encoded c [] h = absurd (omega arith)
 with_encoded c (piece ∷ pieces) h = before_first_piece (encode_utf8 c) (encode_utf8_all piece) (map encode_utf8_all pieces)
 
-some_piece : (cs : List ℕ) → 0 < length (slice_split is_comma cs)
+pub some_piece : (cs : List ℕ) → 0 < length (slice_split is_comma cs)
 some_piece cs = omega (arith, length-slice_split is_comma cs)
 
 encoded_by : (c : ℕ) (cs : List ℕ) (t : Bool) → is_comma c ≡ t
