@@ -3,3 +3,4 @@ pub mod Cuts
 pub mod UrlLaws
 pub mod Pieces
 pub mod Names
+pub mod Extras

@@ -172,7 +172,7 @@ names_again (p ∷ ps) (n ∷ ns) u h =
 
 -- ---- the names between brackets
 
-spaces_joined : (front rest : List ℕ) → AreSpaces front → AreSpaces rest → AreSpaces (front ++ rest)
+pub spaces_joined : (front rest : List ℕ) → AreSpaces front → AreSpaces rest → AreSpaces (front ++ rest)
 spaces_joined [] rest h k = k
 spaces_joined (c ∷ cs) rest h k = (h.0, spaces_joined cs rest h.1 k)
 
@@ -220,11 +220,11 @@ another : (test : ℕ → Bool) (c k : ℕ) (t : Bool) → test c ≡ true → t
 another test c k true h n e = (let same = ap test (the_same c k e) in absurd (cc))
 another test c k false h n e = refl
 
-none_joined : (test : ℕ → Bool) (front rest : List ℕ) → NonePasses test front → NonePasses test rest → NonePasses test (front ++ rest)
+pub none_joined : (test : ℕ → Bool) (front rest : List ℕ) → NonePasses test front → NonePasses test rest → NonePasses test (front ++ rest)
 none_joined test [] rest h k = k
 none_joined test (c ∷ cs) rest h k = (h.0, none_joined test cs rest h.1 k)
 
-none_in_spaces : (k : ℕ) → is_whitespace k ≡ false → (cs : List ℕ) → AreSpaces cs → NonePasses (λ c. c == k) cs
+pub none_in_spaces : (k : ℕ) → is_whitespace k ≡ false → (cs : List ℕ) → AreSpaces cs → NonePasses (λ c. c == k) cs
 none_in_spaces k n cs h =
     mapped (λ c. is_whitespace c ≡ true) (λ c. (c == k) ≡ false) (λ c e. another is_whitespace c k (c == k) e n refl) cs h
 
@@ -255,7 +255,7 @@ none_in_names k n (p ∷ q ∷ ps) h =
 
 -- ---- the inside of the brackets
 
-abbrev IsInside : List ℕ → List (List ℕ) → Type 0
+abbrev pub IsInside : List ℕ → List (List ℕ) → Type 0
 IsInside inside names = (AreSpaces inside × (names ≡ [])) ⊎ AreNames inside names
 
 inside_by : (inside : List ℕ) (names : List (List ℕ)) (t : Bool) → AreScalars inside
@@ -272,7 +272,7 @@ inside_by inside names false u e h =
       nonempty = some_piece inside;
     }
 
-inside_found : (inside : List ℕ) (names : List (List ℕ)) → AreScalars inside → extras_of (encode_utf8_all inside) ≡ Some names
+pub inside_found : (inside : List ℕ) (names : List (List ℕ)) → AreScalars inside → extras_of (encode_utf8_all inside) ≡ Some names
     → IsInside inside names
 unfolding extras_of
 inside_found inside names u h = inside_by inside names (length (trim (encode_utf8_all inside)) == 0) u refl h
@@ -282,7 +282,7 @@ not_spaces : (inside : List ℕ) (t : Bool) → AreScalars inside → (AreSpaces
 not_spaces inside true u n e = absurd (n (all_spaces inside u e))
 not_spaces inside false u n e = refl
 
-inside_again : (inside : List ℕ) (names : List (List ℕ)) → AreScalars inside → IsInside inside names
+pub inside_again : (inside : List ℕ) (names : List (List ℕ)) → AreScalars inside → IsInside inside names
     → extras_of (encode_utf8_all inside) ≡ Some names
 unfolding extras_of
 inside_again inside names u (inl h) =
@@ -300,7 +300,7 @@ inside_again inside names u (inr h) =
     ∙ names_again h.pieces names (scalar_pieces h.pieces (subst AreScalars h.joined u)) h.are_names
 
 -- no bracket stands inside
-unbracketed : (inside : List ℕ) (names : List (List ℕ)) → IsInside inside names → NonePasses (λ c. c == 93) inside
+pub unbracketed : (inside : List ℕ) (names : List (List ℕ)) → IsInside inside names → NonePasses (λ c. c == 93) inside
 unbracketed inside names (inl h) = none_in_spaces 93 refl inside h.0
 unbracketed inside names (inr h) =
     subst (NonePasses (λ c. c == 93)) (sym h.joined)
