@@ -70,6 +70,10 @@ only_spaces spaces h = ap skip_leading_whitespace (sym (append-nil spaces)) ∙ 
 abbrev pub NonePasses : (ℕ → Bool) → List ℕ → Type 0
 NonePasses test = AllByRecursion (λ c. test c ≡ false)
 
+pub none_joined : (test : ℕ → Bool) (front rest : List ℕ) → NonePasses test front → NonePasses test rest → NonePasses test (front ++ rest)
+none_joined test [] rest h k = k
+none_joined test (c ∷ cs) rest h k = (h.0, none_joined test cs rest h.1 k)
+
 -- a character that passes stands first, or none is left
 abbrev pub Ends : (ℕ → Bool) → List ℕ → Type 0
 Ends test [] = Unit {0}

@@ -4,3 +4,4 @@ pub mod UrlLaws
 pub mod Pieces
 pub mod Names
 pub mod Extras
+pub mod Lists

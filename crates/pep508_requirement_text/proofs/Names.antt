@@ -16,7 +16,7 @@ use Rattle.pep508_requirement_text.specs.FrontReading.{with_name}
 use Rattle.pep508_requirement_text.specs.FrontReading.{names_of, extras_of}
 use Rattle.pep508_requirement_text.specs.FrontText.{IsSpacedName, AreNames}
 use Rattle.pep508_requirement_text.proofs.Tests.{the_same, and_parts}
-use Rattle.pep508_requirement_text.proofs.Cuts.{Unspaced, NonePasses, spaces_found, spaces_again, only_spaces}
+use Rattle.pep508_requirement_text.proofs.Cuts.{Unspaced, NonePasses, none_joined, spaces_found, spaces_again, only_spaces}
 use Rattle.pep508_requirement_text.proofs.Pieces.{AreScalars, is_comma, split_encoded, split_joined}
 use Rattle.pep508_requirement_text.proofs.Pieces.{scalar_pieces, trailing_found, trailing_again, bare, trimmed}
 use Rattle.pep508_requirement_text.proofs.Pieces.{nothing_encoded, some_piece}
@@ -219,10 +219,6 @@ IsOther k = (is_whitespace k ≡ false) × (is_name_byte k ≡ false)
 another : (test : ℕ → Bool) (c k : ℕ) (t : Bool) → test c ≡ true → test k ≡ false → (c == k) ≡ t → t ≡ false
 another test c k true h n e = (let same = ap test (the_same c k e) in absurd (cc))
 another test c k false h n e = refl
-
-pub none_joined : (test : ℕ → Bool) (front rest : List ℕ) → NonePasses test front → NonePasses test rest → NonePasses test (front ++ rest)
-none_joined test [] rest h k = k
-none_joined test (c ∷ cs) rest h k = (h.0, none_joined test cs rest h.1 k)
 
 pub none_in_spaces : (k : ℕ) → is_whitespace k ≡ false → (cs : List ℕ) → AreSpaces cs → NonePasses (λ c. c == k) cs
 none_in_spaces k n cs h =

@@ -11,7 +11,7 @@ use Rattle.std.specs.Str.{encode_utf8_all, all_scalars, skip_leading_whitespace,
 use Rattle.std.specs.Str.{drop_trailing_whitespace}
 use Rattle.pep440_specifier.specs.SpecifierText.{AreSpaces}
 use Rattle.pep508_requirement_text.proofs.Tests.{the_same, both, and_parts}
-use Rattle.pep508_requirement_text.proofs.Cuts.{NonePasses, spaces_found}
+use Rattle.pep508_requirement_text.proofs.Cuts.{NonePasses, none_joined, spaces_found}
 
 -- ---- characters
 
@@ -46,7 +46,7 @@ before_first_piece : (front piece : List ℕ) (pieces : List (List ℕ))
 before_first_piece [] piece pieces = refl
 before_first_piece (c ∷ cs) piece pieces = ap (onto_first c) (before_first_piece cs piece pieces)
 
-by_places : (xs : List ℕ) (test : ℕ → Bool) → ((k : ℕ) → k < length xs → test (get_or xs k 0) ≡ false) → NonePasses test xs
+pub by_places : (xs : List ℕ) (test : ℕ → Bool) → ((k : ℕ) → k < length xs → test (get_or xs k 0) ≡ false) → NonePasses test xs
 by_places [] test h = tt
 by_places (x ∷ xs) test h = (h zero (omega arith), by_places xs test (λ k l. h (suc k) (omega arith)))
 
@@ -62,6 +62,11 @@ no_comma c h = by_places (encode_utf8 c) is_comma (λ k l.
     inside_one c [] (encode_utf8 c) k (sym (append-nil (encode_utf8 c))) l (subst (λ n. n < 128) (sym e) (lit< tt)) in
     let comma : is_comma c ≡ true = ap is_comma (same ∙ e) in
     absurd (cc))))
+
+pub encoded_apart : (cs : List ℕ) → NonePasses is_comma cs → NonePasses is_comma (encode_utf8_all cs)
+encoded_apart [] h = tt
+encoded_apart (c ∷ cs) h =
+    none_joined is_comma (encode_utf8 c) (encode_utf8_all cs) (no_comma c h.0) (encoded_apart cs h.1)
 
 with_encoded : (c : ℕ) (pieces : List (List ℕ)) → 0 < length pieces
     → before_pieces (encode_utf8 c) (map encode_utf8_all pieces) ≡ map encode_utf8_all (onto_first c pieces)
@@ -158,7 +163,7 @@ trailing_again (c ∷ cs) spaces h k =
 
 -- ---- bytes without white space
 
-skipped_scalars : (cs : List ℕ) → AreScalars cs → AreScalars (skip_leading_whitespace cs)
+pub skipped_scalars : (cs : List ℕ) → AreScalars cs → AreScalars (skip_leading_whitespace cs)
 skipped_scalars cs h =
     let s = spaces_found cs in
     (scalars_parts s.spaces (skip_leading_whitespace cs) (subst AreScalars s.split h)).1
