@@ -61,6 +61,12 @@ spaces_again [] rest h k = unspaced_same rest k
 spaces_again (c ∷ cs) rest h k =
     ap (λ t. cond t (skip_leading_whitespace (cs ++ rest)) (c ∷ (cs ++ rest))) h.0 ∙ spaces_again cs rest h.1 k
 
+pub skipped_front : (spaces rest : List ℕ) → AreSpaces spaces
+    → skip_leading_whitespace (spaces ++ rest) ≡ skip_leading_whitespace rest
+skipped_front [] rest h = refl
+skipped_front (c ∷ cs) rest h =
+    ap (λ t. cond t (skip_leading_whitespace (cs ++ rest)) (c ∷ (cs ++ rest))) h.0 ∙ skipped_front cs rest h.1
+
 pub only_spaces : (spaces : List ℕ) → AreSpaces spaces → skip_leading_whitespace spaces ≡ []
 only_spaces spaces h = ap skip_leading_whitespace (sym (append-nil spaces)) ∙ spaces_again spaces [] h refl
 

@@ -5,3 +5,4 @@ pub mod Pieces
 pub mod Names
 pub mod Extras
 pub mod Lists
+pub mod Sources

@@ -15,7 +15,7 @@ use Rattle.pep508_name.specs.Name.{is_name, is_name_byte, is_alphanumeric_at, na
 use Rattle.pep508_requirement_text.specs.FrontReading.{with_name}
 use Rattle.pep508_requirement_text.specs.FrontReading.{names_of, extras_of}
 use Rattle.pep508_requirement_text.specs.FrontText.{IsSpacedName, AreNames}
-use Rattle.pep508_requirement_text.proofs.Tests.{the_same, and_parts}
+use Rattle.pep508_requirement_text.proofs.Tests.{another, and_parts}
 use Rattle.pep508_requirement_text.proofs.Cuts.{Unspaced, NonePasses, none_joined, spaces_found, spaces_again, only_spaces}
 use Rattle.pep508_requirement_text.proofs.Pieces.{AreScalars, is_comma, split_encoded, split_joined}
 use Rattle.pep508_requirement_text.proofs.Pieces.{scalar_pieces, trailing_found, trailing_again, bare, trimmed}
@@ -215,10 +215,6 @@ no_spaces_joined (p ∷ q ∷ ps) (n ∷ ns) some h k = no_spaces_spaced p n (44
 
 abbrev IsOther : ℕ → Type 0
 IsOther k = (is_whitespace k ≡ false) × (is_name_byte k ≡ false)
-
-another : (test : ℕ → Bool) (c k : ℕ) (t : Bool) → test c ≡ true → test k ≡ false → (c == k) ≡ t → t ≡ false
-another test c k true h n e = (let same = ap test (the_same c k e) in absurd (cc))
-another test c k false h n e = refl
 
 pub none_in_spaces : (k : ℕ) → is_whitespace k ≡ false → (cs : List ℕ) → AreSpaces cs → NonePasses (λ c. c == k) cs
 none_in_spaces k n cs h =

@@ -36,3 +36,8 @@ both a b h k = ap (λ t. t && b) h ∙ k
 pub and_parts : (a b : Bool) → (a && b) ≡ true → (a ≡ true) × (b ≡ true)
 and_parts true b h = (refl, h)
 and_parts false b h = absurd (cc)
+
+-- a character that passes is no character that does not
+pub another : (test : ℕ → Bool) (c k : ℕ) (t : Bool) → test c ≡ true → test k ≡ false → (c == k) ≡ t → t ≡ false
+another test c k true h n e = (let same = ap test (the_same c k e) in absurd (cc))
+another test c k false h n e = refl
