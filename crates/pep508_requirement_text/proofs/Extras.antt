@@ -13,7 +13,7 @@ use Rattle.pep508_requirement_text.specs.FrontText.{IsExtrasText}
 use Rattle.pep508_requirement_text.proofs.Tests.{the_same}
 use Rattle.pep508_requirement_text.proofs.Cuts.{Ends, cut_again, cut_found, cut_is, around_again, around_found}
 use Rattle.pep508_requirement_text.proofs.Pieces.{AreScalars, scalars_parts}
-use Rattle.pep508_requirement_text.proofs.Names.{AreNameBytes, named, mapped, name_encoded}
+use Rattle.pep508_requirement_text.proofs.Names.{AreNameBytes, IsInside, named, mapped, name_encoded}
 use Rattle.pep508_requirement_text.proofs.Names.{inside_found, inside_again, unbracketed}
 
 -- ---- answers
@@ -135,20 +135,13 @@ pub extras_found : (cs : List ℕ) (found : List (List ℕ) × List ℕ) → Are
 extras_found [] found u h = no_brackets [] found h
 extras_found (c ∷ cs) found u h = extras_by c cs found (c == 91) (scalars_parts (c ∷ []) cs u).1 refl h
 
-no_bracket : (rest : List ℕ) → begins_with (λ c. c == 91) rest ≡ false → extras_at rest ≡ Ok ([], rest)
-no_bracket [] h = refl
-no_bracket (c ∷ cs) h = ap (λ t. if t then if_there (cut_around 93 cs) >>= bracketed else Ok ([], c ∷ cs)) h
+-- without brackets nothing is taken
+pub no_extras_again : (rest : List ℕ) → begins_with (λ c. c == 91) rest ≡ false → extras_at rest ≡ Ok ([], rest)
+no_extras_again [] h = refl
+no_extras_again (c ∷ cs) h = ap (λ t. if t then if_there (cut_around 93 cs) >>= bracketed else Ok ([], c ∷ cs)) h
 
-pub extras_again : (brackets rest : List ℕ) (names : List (List ℕ)) → AreScalars brackets → IsExtrasText brackets names
-    → begins_with (λ c. c == 91) rest ≡ false → extras_at (brackets ++ rest) ≡ Ok (names, rest)
-extras_again brackets rest names u (inl h) n =
-    ap (λ ds. extras_at (ds ++ rest)) h.0 ∙ no_bracket rest n ∙ ap (λ ns. Ok (ns, rest)) (sym h.1)
-extras_again brackets rest names u (inr h) n =
-    let inside : List ℕ = h.0 in
-    let scalars : AreScalars inside =
-    (scalars_parts inside (93 ∷ []) (scalars_parts (91 ∷ []) (inside ++ 93 ∷ []) (subst AreScalars h.1 u)).1).0 in
-    let split : brackets ++ rest ≡ 91 ∷ (inside ++ 93 ∷ rest) =
-    ap (λ ds. ds ++ rest) h.1 ∙ ap (λ ds. 91 ∷ ds) (append_assoc inside (93 ∷ []) rest) in
-    ap extras_at split
-    ∙ ap (λ found. if_there found >>= bracketed) (around_again 93 inside rest (unbracketed inside names h.2))
-    ∙ ap (λ read. if_there (option_map (found_before rest) read)) (inside_again inside names scalars h.2)
+pub extras_again : (inside rest : List ℕ) (names : List (List ℕ)) → AreScalars inside → IsInside inside names
+    → extras_at (91 ∷ (inside ++ 93 ∷ rest)) ≡ Ok (names, rest)
+extras_again inside rest names u h =
+    ap (λ found. if_there found >>= bracketed) (around_again 93 inside rest (unbracketed inside names h))
+    ∙ ap (λ read. if_there (option_map (found_before rest) read)) (inside_again inside names u h)

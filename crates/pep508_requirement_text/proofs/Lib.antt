@@ -6,3 +6,5 @@ pub mod Names
 pub mod Extras
 pub mod Lists
 pub mod Sources
+pub mod Found
+pub mod Again
