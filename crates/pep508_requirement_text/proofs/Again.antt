@@ -1,5 +1,5 @@
 -- What is written at the front of a text is read.
-use Rattle.std.proofs.Common.{◌≡◌, ℕ, ◌==◌, Bool, true, false, not, List, [], ◌∷◌, ◌++◌, Ok, inl, inr}
+use Rattle.std.proofs.Common.{◌≡◌, ℕ, ◌==◌, Bool, true, false, not, List, [], ◌∷◌, ◌++◌, Ok, Err, inl, inr}
 use Rattle.std.proofs.Common.{refl, ap, sym, subst, ◌∙◌, append_assoc}
 use Rattle.std.proofs.lemmas.Str.{scalars-chars}
 use Rattle.std.specs.Char.{is_whitespace}
@@ -8,13 +8,13 @@ use Rattle.pep508_name.specs.Name.{is_name_byte}
 use Rattle.pep440_specifier.specs.SpecifierText.{AreSpaces}
 use Rattle.pep440_specifier_list.proofs.Grammar.{SpecifierLaw}
 use Rattle.pep508_requirement_text.specs.UrlEnds.{begins_with}
-use Rattle.pep508_requirement_text.specs.FrontReading.{Front, ◌>>=◌, name_at, extras_at}
+use Rattle.pep508_requirement_text.specs.FrontReading.{Refused, Front, ◌>>=◌, name_at, extras_at}
 use Rattle.pep508_requirement_text.specs.FrontReading.{source_at, with_source, behind_extras, behind_name, front_reading}
-use Rattle.pep508_requirement_text.specs.FrontText.{IsExtrasText, IsFrontText}
+use Rattle.pep508_requirement_text.specs.FrontText.{IsExtrasText, IsFrontText, IsRequirementText}
 use Rattle.pep508_requirement_text.proofs.Cuts.{Unspaced, Ends, unspaced_same, spaces_again, skipped_front}
 use Rattle.pep508_requirement_text.proofs.Pieces.{AreScalars, scalars_parts}
 use Rattle.pep508_requirement_text.proofs.Names.{named, name_unspaced, behind_spaces}
-use Rattle.pep508_requirement_text.proofs.Extras.{name_again, no_extras_again, extras_again}
+use Rattle.pep508_requirement_text.proofs.Extras.{answer, ok_same, name_again, no_extras_again, extras_again}
 use Rattle.pep508_requirement_text.proofs.Sources.{source_again, source_apart, space_apart, bracket_apart, name_apart}
 
 -- ---- behind the name
@@ -86,8 +86,8 @@ front_again law text rest front u h =
     let unnamed : begins_with is_name_byte from ≡ false =
     unnamed_spaces h.behind_name behind h.spaces_behind_name
     (unnamed_extras h.brackets (h.behind_extras ++ left) front.extras h.are_extras
-     (unnamed_spaces h.behind_extras left h.spaces_behind_extras
-      (source_apart is_name_byte h.written h.asked rest front.source name_apart h.is_source))) in
+    (unnamed_spaces h.behind_extras left h.spaces_behind_extras
+    (source_apart is_name_byte h.written h.asked rest front.source name_apart h.is_source))) in
     let first : skip_leading_whitespace cs ≡ h.written ++ from =
     ap skip_leading_whitespace h.split ∙ behind_spaces h.before h.written from front.name h.spaces_before h.is_name in
     let extras : ExtrasAgain from front.extras left =
@@ -100,3 +100,20 @@ front_again law text rest front u h =
     ∙ ap (λ ds. source_at cs h.written ds >>= with_source h.written front.extras) extras.skips
     ∙ ap (λ read. read >>= with_source h.written front.extras) (source_again law cs h.written h.asked rest front.source asked h.is_source)
     ∙ ap (λ n. Ok (record { name = n; extras = front.extras; source = front.source }, rest)) (named h.written front.name h.is_name).normal
+
+-- ---- requirements
+
+-- what is written is read
+abbrev pub FrontLaw : Type 0
+FrontLaw = (text : List ℕ) (front : Front) (rest : List ℕ) → IsUtf8 text → IsFrontText text front rest
+    → front_reading text ≡ Ok (front, rest)
+
+pub one_requirement : FrontLaw → (text : List ℕ) (front other : Front) → IsUtf8 text → IsRequirementText text front
+    → IsRequirementText text other → front ≡ other
+one_requirement law text front other u h k =
+    let first : answer (front, h.0) ≡ Ok (other, k.0) = sym (law text front h.0 u h.1) ∙ law text other k.0 u k.1 in
+    ap (λ (p : Front × List ℕ). p.0) (ok_same (front, h.0) (other, k.0) first)
+
+pub no_requirement : FrontLaw → (text : List ℕ) (refused : Refused) → IsUtf8 text → front_reading text ≡ Err refused
+    → (front : Front) → IsRequirementText text front → ⊥
+no_requirement law text refused u e front h = (let read = law text front h.0 u h.1 in absurd (cc))

@@ -15,6 +15,15 @@ use Rattle.pep508_requirement_text.specs.UrlEnds.{begins_with}
 use Rattle.pep508_requirement_text.specs.FrontReading.{cut_before, cut_around}
 use Rattle.pep508_requirement_text.proofs.Tests.{itself, the_same}
 
+-- ---- lists
+
+pub behind_front : (P : ℕ → Type 0) (front rest : List ℕ) → AllByRecursion P (front ++ rest) → AllByRecursion P rest
+behind_front P [] rest h = h
+behind_front P (c ∷ cs) rest h = behind_front P cs rest h.1
+
+pub some_same : {A : Type 0} (x y : A) → Some x ≡ Some y → x ≡ y
+some_same x y h = cc
+
 -- ---- white space
 
 -- no white space stands first
@@ -167,9 +176,6 @@ pub record CutAround (c : ℕ) (cs : List ℕ) (parts : List ℕ × List ℕ) : 
   pub split : cs ≡ front ++ c ∷ parts.1
   pub passes : NonePasses (λ d. d == c) front
   pub encoded : parts.0 ≡ encode_utf8_all front
-
-some_same : {A : Type 0} (x y : A) → Some x ≡ Some y → x ≡ y
-some_same x y h = cc
 
 around_by : (c : ℕ) (cs front rest : List ℕ) (parts : List ℕ × List ℕ) → cs ≡ front ++ rest → NonePasses (λ d. d == c) front
     → Ends (λ d. d == c) rest → cut_around c cs ≡ Some parts → CutAround c cs parts

@@ -84,8 +84,8 @@ name_again written rest name h k =
     let n = named written name h in
     let cs : List ℕ = written ++ rest in
     ap (if_name cs) (cut_again ends_name written rest
-     (mapped (λ c. is_name_byte c ≡ true) (λ c. ends_name c ≡ false) (λ c e. ap not e) written n.bytes) k
-     ∙ ap (λ bs. (bs, rest)) (name_encoded written n.bytes))
+    (mapped (λ c. is_name_byte c ≡ true) (λ c. ends_name c ≡ false) (λ c e. ap not e) written n.bytes) k
+    ∙ ap (λ bs. (bs, rest)) (name_encoded written n.bytes))
     ∙ ap (λ t. if t then Ok (written, rest) else Err (if is_alphanumeric_at written 0 then Malformed else Nameless (run_of cs))) n.is_one
 
 -- ---- the extras
@@ -126,7 +126,7 @@ extras_by c cs found true u e h =
     record {
       brackets = 91 ∷ (k.front ++ 93 ∷ []);
       split = ap (λ x. x ∷ cs) (the_same c 91 e) ∙ ap (λ ds. 91 ∷ ds) (k.split ∙ ap (λ ds. k.front ++ 93 ∷ ds) b.1
-      ∙ sym (append_assoc k.front (93 ∷ []) found.1));
+          ∙ sym (append_assoc k.front (93 ∷ []) found.1));
       are_extras = inr (k.front, refl, inside);
     }
 

@@ -39,7 +39,7 @@ front_found law text found u h =
     let scalars : AreScalars from =
     behind parts.1 between.spaces from between.split
     (behind (skip_leading_whitespace cs) parts.0 parts.1 name.split
-     (behind cs before.spaces (skip_leading_whitespace cs) before.split (scalars-chars text u))) in
+    (behind cs before.spaces (skip_leading_whitespace cs) before.split (scalars-chars text u))) in
     let second = in_steps (extras_at from) (behind_extras cs parts.0) found first.next_is in
     let read : List (List ℕ) × List ℕ = second.middle in
     let extras = extras_found from read scalars second.first_is in

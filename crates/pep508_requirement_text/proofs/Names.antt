@@ -16,7 +16,7 @@ use Rattle.pep508_requirement_text.specs.FrontReading.{with_name}
 use Rattle.pep508_requirement_text.specs.FrontReading.{names_of, extras_of}
 use Rattle.pep508_requirement_text.specs.FrontText.{IsSpacedName, AreNames}
 use Rattle.pep508_requirement_text.proofs.Tests.{another, and_parts}
-use Rattle.pep508_requirement_text.proofs.Cuts.{Unspaced, NonePasses, none_joined, spaces_found, spaces_again, only_spaces}
+use Rattle.pep508_requirement_text.proofs.Cuts.{behind_front, some_same, Unspaced, NonePasses, none_joined, spaces_found, spaces_again, only_spaces}
 use Rattle.pep508_requirement_text.proofs.Pieces.{AreScalars, is_comma, split_encoded, split_joined}
 use Rattle.pep508_requirement_text.proofs.Pieces.{scalar_pieces, trailing_found, trailing_again, bare, trimmed}
 use Rattle.pep508_requirement_text.proofs.Pieces.{nothing_encoded, some_piece}
@@ -137,9 +137,6 @@ record AreWithName (first : Option (List ℕ)) (others : Option (List (List ℕ)
   others_are : others ≡ Some more
   names_are : names ≡ name ∷ more
 
-some_same : {A : Type 0} (x y : A) → Some x ≡ Some y → x ≡ y
-some_same x y h = cc
-
 name_and_more : (first : Option (List ℕ)) (others : Option (List (List ℕ))) (names : List (List ℕ))
     → with_name first others ≡ Some names → AreWithName first others names
 name_and_more None others names h = absurd (cc)
@@ -189,10 +186,6 @@ no_spaces_in_name : (written rest : List ℕ) → written ≢ [] → AreNameByte
 no_spaces_in_name [] rest some h k = some refl
 no_spaces_in_name (c ∷ cs) rest some h k = (let no = name_unspaced c h.0 in let yes = k.0 in absurd (cc))
 
-behind_front : (front rest : List ℕ) → AreSpaces (front ++ rest) → AreSpaces rest
-behind_front [] rest h = h
-behind_front (c ∷ cs) rest h = behind_front cs rest h.1
-
 -- a name is no white space
 no_spaces_spaced : (cs name more : List ℕ) → IsSpacedName cs name → AreSpaces (cs ++ more) → ⊥
 no_spaces_spaced cs name more h k =
@@ -202,7 +195,7 @@ no_spaces_spaced cs name more h k =
     ∙ append_assoc h.before (h.written ++ h.after) more
     ∙ ap (λ ds. h.before ++ ds) (append_assoc h.written h.after more) in
     no_spaces_in_name h.written (h.after ++ more) n.first n.bytes
-    (behind_front h.before (h.written ++ (h.after ++ more)) (subst AreSpaces split k))
+    (behind_front (λ c. is_whitespace c ≡ true) h.before (h.written ++ (h.after ++ more)) (subst AreSpaces split k))
 
 no_spaces_joined : (pieces names : List (List ℕ)) → 0 < length pieces → AllZip IsSpacedName pieces names
     → AreSpaces (join_with_byte 44 pieces) → ⊥
@@ -228,9 +221,9 @@ none_in_spaced : (k : ℕ) → IsOther k → (cs name : List ℕ) → IsSpacedNa
 none_in_spaced k n cs name h =
     subst (NonePasses (λ c. c == k)) (sym h.split)
     (none_joined (λ c. c == k) (h.before ++ h.written) h.after
-     (none_joined (λ c. c == k) h.before h.written (none_in_spaces k n.0 h.before h.spaces_before)
-      (none_in_name k n.1 h.written (named h.written name h.is_name).bytes))
-     (none_in_spaces k n.0 h.after h.spaces_after))
+    (none_joined (λ c. c == k) h.before h.written (none_in_spaces k n.0 h.before h.spaces_before)
+    (none_in_name k n.1 h.written (named h.written name h.is_name).bytes))
+    (none_in_spaces k n.0 h.after h.spaces_after))
 
 none_in_pieces : (k : ℕ) → IsOther k → (pieces names : List (List ℕ)) → AllZip IsSpacedName pieces names
     → AllByRecursion (NonePasses (λ c. c == k)) pieces

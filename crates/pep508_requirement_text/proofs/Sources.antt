@@ -18,13 +18,13 @@ use Rattle.pep508_requirement_text.specs.FrontReading.{specifiers_of_text, liste
 use Rattle.pep508_requirement_text.specs.FrontReading.{alone, source_at}
 use Rattle.pep508_requirement_text.specs.FrontText.{IsBeforeMarker, IsEnclosed, IsOpenList, IsUrlText, IsSourceText}
 use Rattle.pep508_requirement_text.proofs.Tests.{the_same, or_cases, another}
-use Rattle.pep508_requirement_text.proofs.Cuts.{NonePasses, Ends, none_joined, spaces_found, spaces_again, skipped_front}
+use Rattle.pep508_requirement_text.proofs.Cuts.{behind_front, NonePasses, Ends, none_joined, spaces_found, spaces_again, skipped_front}
 use Rattle.pep508_requirement_text.proofs.Cuts.{cut_again, cut_found, cut_is, around_again, around_found}
 use Rattle.pep508_requirement_text.proofs.Pieces.{AreScalars, scalars_parts, by_places, trimmed_start}
 use Rattle.pep508_requirement_text.proofs.Names.{none_in_spaces}
 use Rattle.pep508_requirement_text.proofs.Extras.{answer, ok_same, in_steps, there}
 use Rattle.pep508_requirement_text.proofs.Lists.{list_by_pieces, pieces_by_list, skipped_list, given_found, given_again}
-use Rattle.pep508_requirement_text.proofs.UrlLaws.{url_found, url_joined, url_again}
+use Rattle.pep508_requirement_text.proofs.UrlLaws.{url_found, url_joined, url_again, unspaced_whole}
 
 pub record SourceFound (name cs : List ℕ) (source : Source) (rest : List ℕ) : Type 0 where
   pub asked : List ℕ
@@ -82,10 +82,6 @@ is_listed parts found h =
 utf8 : (cs : List ℕ) → AreScalars cs → IsUtf8 (encode_utf8_all cs)
 utf8 cs u = (cs, (u, refl))
 
-behind_front : (test : ℕ → Bool) (front rest : List ℕ) → NonePasses test (front ++ rest) → NonePasses test rest
-behind_front test [] rest h = h
-behind_front test (c ∷ cs) rest h = behind_front test cs rest h.1
-
 module _ (law : SpecifierLaw) where
   enclosed_found : (name cs : List ℕ) (found : Source × List ℕ) → AreScalars cs
       → (if_there (cut_around 41 cs) >>= enclosed) ≡ Ok found → SourceFound name (40 ∷ cs) found.0 found.1
@@ -99,7 +95,7 @@ module _ (law : SpecifierLaw) where
       let scalars : AreScalars inside = (scalars_parts w.spaces inside (subst AreScalars w.split whole)).1 in
       let text : trim_start s.middle.0 ≡ encode_utf8_all inside = ap trim_start k.encoded ∙ trimmed_start k.front whole in
       let read = pieces_by_list (encode_utf8_all inside) l.given (ap specifiers_of_text (sym text) ∙ l.read) in
-      let closed = behind_front (λ c. c == 41) w.spaces inside (subst (NonePasses (λ c. c == 41)) w.split k.passes) in
+      let closed = behind_front (λ c. (c == 41) ≡ false) w.spaces inside (subst (NonePasses (λ c. c == 41)) w.split k.passes) in
       let given : IsEnclosed (40 ∷ (k.front ++ 41 ∷ [])) l.given = record {
         before = w.spaces;
         inside = inside;
@@ -204,7 +200,7 @@ long_some (c ∷ cs) h = λ nothing. absurd (cc)
 
 url_by : (name cs : List ℕ) (found : Source × List ℕ) (t : Bool) → (length (url_split false 0 (skip_leading_whitespace cs)).0 == 0) ≡ t
     → (if t then Err Malformed
-       else answer (Url (encode_utf8_all (url_split false 0 (skip_leading_whitespace cs)).0), (url_split false 0 (skip_leading_whitespace cs)).1)) ≡ Ok found
+    else answer (Url (encode_utf8_all (url_split false 0 (skip_leading_whitespace cs)).0), (url_split false 0 (skip_leading_whitespace cs)).1)) ≡ Ok found
     → SourceFound name (64 ∷ cs) found.0 found.1
 url_by name cs found true e h = absurd (cc)
 url_by name cs found false e h =
@@ -227,16 +223,12 @@ url_by name cs found false e h =
       is_source = is_url;
     })
 
-url_unspaced : (url rest : List ℕ) → url ≢ [] → begins_with is_whitespace url ≡ false → begins_with is_whitespace (url ++ rest) ≡ false
-url_unspaced [] rest some h = absurd (some refl)
-url_unspaced (c ∷ cs) rest some h = h
-
 url_source_again : (asked rest url whole name : List ℕ) → IsUrlText asked rest url → source_at whole name (asked ++ rest) ≡ Ok (Url url, rest)
 url_source_again asked rest url whole name h =
     let split : asked ++ rest ≡ 64 ∷ (h.before ++ (h.written ++ rest)) =
     ap (λ ds. ds ++ rest) h.split ∙ ap (λ ds. 64 ∷ ds) (append_assoc h.before h.written rest) in
     let skips : skip_leading_whitespace (h.before ++ (h.written ++ rest)) ≡ h.written ++ rest =
-    spaces_again h.before (h.written ++ rest) h.spaces (url_unspaced h.written rest h.ends.some h.ends.starts) in
+    spaces_again h.before (h.written ++ rest) h.spaces (unspaced_whole h.written rest h.ends.some h.ends.starts) in
     ap (source_at whole name) split
     ∙ ap (λ cs. if_url (url_split false 0 cs)) skips
     ∙ ap if_url (url_again false h.written rest h.ends)
@@ -250,9 +242,9 @@ module _ (law : SpecifierLaw) where
   source_by : (whole name : List ℕ) (c : ℕ) (cs : List ℕ) (found : Source × List ℕ) (url inside list none : Bool) → AreScalars (c ∷ cs)
       → (c == 64) ≡ url → (c == 40) ≡ inside → begins_operator c ≡ list → (c == 59) ≡ none
       → (if url then if_url (url_split false 0 (skip_leading_whitespace cs))
-         else (if inside then if_there (cut_around 41 cs) >>= enclosed
-         else (if list then listed (cut_before (λ d. d == 59) (c ∷ cs))
-         else (if none then alone name (c ∷ cs) else Err (Nameless (run_of whole)))))) ≡ Ok found
+      else (if inside then if_there (cut_around 41 cs) >>= enclosed
+      else (if list then listed (cut_before (λ d. d == 59) (c ∷ cs))
+      else (if none then alone name (c ∷ cs) else Err (Nameless (run_of whole)))))) ≡ Ok found
       → SourceFound name (c ∷ cs) found.0 found.1
   source_by whole name c cs found true inside list none u e1 e2 e3 e4 h =
       subst (λ x. SourceFound name (x ∷ cs) found.0 found.1) (sym (the_same c 64 e1))
@@ -316,14 +308,18 @@ operator_by : (test : ℕ → Bool) → test 60 ≡ false → test 61 ≡ false 
     → (c : ℕ) → begins_operator c ≡ true → test c ≡ false
 operator_by test less equal greater tilde bang c h =
     elim (or_cases (c == 60 || c == 61 || c == 62 || c == 126) (c == 33) h) [
-      inr e ↦ ap test (the_same c 33 e) ∙ bang
-    | inl h ↦ elim (or_cases (c == 60 || c == 61 || c == 62) (c == 126) h) [
-        inr e ↦ ap test (the_same c 126 e) ∙ tilde
-      | inl h ↦ elim (or_cases (c == 60 || c == 61) (c == 62) h) [
-          inr e ↦ ap test (the_same c 62 e) ∙ greater
-        | inl h ↦ elim (or_cases (c == 60) (c == 61) h) [
-            inr e ↦ ap test (the_same c 61 e) ∙ equal
-          | inl e ↦ ap test (the_same c 60 e) ∙ less ] ] ] ]
+      | inr e ↦ ap test (the_same c 33 e) ∙ bang
+      | inl h ↦ elim (or_cases (c == 60 || c == 61 || c == 62) (c == 126) h) [
+        | inr e ↦ ap test (the_same c 126 e) ∙ tilde
+        | inl h ↦ elim (or_cases (c == 60 || c == 61) (c == 62) h) [
+          | inr e ↦ ap test (the_same c 62 e) ∙ greater
+          | inl h ↦ elim (or_cases (c == 60) (c == 61) h) [
+            | inr e ↦ ap test (the_same c 61 e) ∙ equal
+            | inl e ↦ ap test (the_same c 60 e) ∙ less
+          ]
+        ]
+      ]
+    ]
 
 pub space_apart : IsApart is_whitespace
 space_apart = record { url = refl; inside = refl; list = operator_by is_whitespace refl refl refl refl refl; marker = refl }

@@ -1,5 +1,5 @@
 -- Where a URL ends: what splitting finds is what the definition says at once.
-use Rattle.std.proofs.Common.{◌≡◌, ◌≢◌, ◌⊎◌, ℕ, ◌==◌, ◌&&◌, ◌||◌, Bool, true, false, if◌then◌else◌, List}
+use Rattle.std.proofs.Common.{◌≡◌, ◌≢◌, ◌⊎◌, ◌↔◌, ℕ, ◌==◌, ◌&&◌, ◌||◌, Bool, true, false, if◌then◌else◌, List}
 use Rattle.std.proofs.Common.{[], ◌∷◌, ◌++◌, inl, inr, refl, ap, sym, subst, ◌∙◌}
 use Rattle.std.specs.Prelude.{fold}
 use Rattle.std.specs.Char.{is_whitespace}
@@ -39,10 +39,10 @@ split_by : (brackets : Bool) (depth : ℕ) (mark : Bool) (c : ℕ) (cs : List �
     → ends_before depth (c ∷ cs) ≡ before → ends_behind_mark depth mark (c ∷ cs) ≡ false
     → ends_behind (depth_behind brackets depth c) c cs ≡ behind
     → (behind ≡ false
-       → IsSplit brackets (depth_behind brackets depth c) (is_mark c) cs (url_split brackets (depth_behind brackets depth c) cs))
+    → IsSplit brackets (depth_behind brackets depth c) (is_mark c) cs (url_split brackets (depth_behind brackets depth c) cs))
     → IsSplit brackets depth mark (c ∷ cs)
-      (if before then ([], c ∷ cs)
-      else with_char c (if behind then ([], cs) else url_split brackets (depth_behind brackets depth c) cs))
+    (if before then ([], c ∷ cs)
+    else with_char c (if behind then ([], cs) else url_split brackets (depth_behind brackets depth c) cs))
 split_by brackets depth mark c cs true behind e n k more = record {
   joined = refl;
   first = or_left (ends_before depth (c ∷ cs)) (ends_behind_mark depth mark (c ∷ cs)) e;
@@ -60,7 +60,7 @@ split_by brackets depth mark c cs false false e n k more =
       joined = ap (λ ds. c ∷ ds) s.joined;
       first = (
         ap (λ ds. may_end depth mark (c ∷ ds)) (sym s.joined)
-        ∙ neither (ends_before depth (c ∷ cs)) (ends_behind_mark depth mark (c ∷ cs)) e n,
+            ∙ neither (ends_before depth (c ∷ cs)) (ends_behind_mark depth mark (c ∷ cs)) e n,
         s.first,
       );
     }
@@ -142,7 +142,7 @@ first_from brackets depth mark [] rest ends alone = ends
 first_from brackets depth mark (c ∷ cs) rest ends alone = (
   alone [] (c ∷ cs) refl (some_list c cs),
   first_from brackets (depth_behind brackets depth c) (is_mark c) cs rest ends
-  (λ front back e n. alone (c ∷ front) back (ap (λ ds. c ∷ ds) e) n),
+      (λ front back e n. alone (c ∷ front) back (ap (λ ds. c ∷ ds) e) n),
 )
 
 -- ---- marks
@@ -156,8 +156,9 @@ last_found : (mark : Bool) (front : List ℕ) → last_mark mark front ≡ true
 last_found mark [] h = inl (refl, h)
 last_found mark (c ∷ cs) h =
     elim (last_found (is_mark c) cs h) [
-      inl p ↦ inr ([], c, ap (λ ds. c ∷ ds) p.0, p.1)
-    | inr p ↦ inr (c ∷ p.0, p.1, ap (λ ds. c ∷ ds) p.2, p.3) ]
+      | inl p ↦ inr ([], c, ap (λ ds. c ∷ ds) p.0, p.1)
+      | inr p ↦ inr (c ∷ p.0, p.1, ap (λ ds. c ∷ ds) p.2, p.3)
+    ]
 
 ends_with_mark : (front : List ℕ) → last_mark false front ≡ true → EndsWithMark front
 ends_with_mark front h = elim (last_found false front h) [ inl p ↦ absurd (cc) | inr p ↦ p ]
@@ -181,11 +182,12 @@ may_from brackets front (c ∷ cs) (inr (inr h)) =
     let depth : ℕ = depth_of brackets front in
     let zero_is : (depth == 0) ≡ true = ap (λ n. n == 0) h.0 in
     elim h.1 [
-      inl e ↦ or_left (ends_before depth rest) (ends_behind_mark depth (last_mark false front) rest)
-      (or_right (begins_with is_line_break rest) (depth == 0 && begins_with_end rest) (both (depth == 0) (begins_with_end rest) zero_is e))
-    | inr e ↦ or_right (ends_before depth rest) (ends_behind_mark depth (last_mark false front) rest)
-      (both (depth == 0 && last_mark false front) (begins_with is_whitespace rest)
-       (both (depth == 0) (last_mark false front) zero_is (mark_is_last front e.0)) e.1) ]
+      | inl e ↦ or_left (ends_before depth rest) (ends_behind_mark depth (last_mark false front) rest)
+          (or_right (begins_with is_line_break rest) (depth == 0 && begins_with_end rest) (both (depth == 0) (begins_with_end rest) zero_is e))
+      | inr e ↦ or_right (ends_before depth rest) (ends_behind_mark depth (last_mark false front) rest)
+          (both (depth == 0 && last_mark false front) (begins_with is_whitespace rest)
+          (both (depth == 0) (last_mark false front) zero_is (mark_is_last front e.0)) e.1)
+    ]
 
 between_from : (brackets : Bool) (front rest : List ℕ) → MayEndBehind brackets 0 false front rest true
     → EndsBetween brackets front rest
@@ -194,12 +196,14 @@ between_from brackets front (c ∷ cs) h =
     let rest : List ℕ = c ∷ cs in
     let depth : ℕ = depth_of brackets front in
     elim (or_cases (ends_before depth rest) (ends_behind_mark depth (last_mark false front) rest) h) [
-      inl e ↦ elim (or_cases (begins_with is_line_break rest) (depth == 0 && begins_with_end rest) e) [
-          inl l ↦ inr (inl l)
-        | inr l ↦ (let p = and_parts (depth == 0) (begins_with_end rest) l in inr (inr (the_same depth 0 p.0, inl p.1))) ]
-    | inr e ↦ (let p = and_parts (depth == 0 && last_mark false front) (begins_with is_whitespace rest) e in
-        let q = and_parts (depth == 0) (last_mark false front) p.0 in
-        inr (inr (the_same depth 0 q.0, inr (ends_with_mark front q.1, p.1)))) ]
+      | inl e ↦ elim (or_cases (begins_with is_line_break rest) (depth == 0 && begins_with_end rest) e) [
+        | inl l ↦ inr (inl l)
+        | inr l ↦ (let p = and_parts (depth == 0) (begins_with_end rest) l in inr (inr (the_same depth 0 p.0, inl p.1)))
+      ]
+      | inr e ↦ (let p = and_parts (depth == 0 && last_mark false front) (begins_with is_whitespace rest) e in
+          let q = and_parts (depth == 0) (last_mark false front) p.0 in
+          inr (inr (the_same depth 0 q.0, inr (ends_with_mark front q.1, p.1))))
+    ]
 
 -- ---- the law
 
@@ -237,5 +241,26 @@ pub url_again : (brackets : Bool) (url rest : List ℕ) → IsUrlBefore brackets
 url_again brackets url rest h =
     let first = first_from brackets 0 false url rest (may_from brackets url rest h.ends)
     (λ front back e n. not_true (may_end (depth_of brackets front) (last_mark false front) (back ++ rest))
-     (λ t. h.first front back e n (between_from brackets front (back ++ rest) t))) in
+    (λ t. h.first front back e n (between_from brackets front (back ++ rest) t))) in
     split_again brackets 0 false url rest first (nothing_first (url ++ rest))
+
+pub unspaced_whole : (url rest : List ℕ) → url ≢ [] → begins_with is_whitespace url ≡ false → begins_with is_whitespace (url ++ rest) ≡ false
+unspaced_whole [] rest some h = absurd (some refl)
+unspaced_whole (c ∷ cs) rest some h = h
+
+split_off : (brackets : Bool) (url rest : List ℕ) → url_split brackets 0 (url ++ rest) ≡ (url, rest) → url ≢ []
+    → begins_with is_whitespace url ≡ false → IsUrlBefore brackets url rest
+split_off brackets url rest e some unspaced =
+    let parts : List ℕ × List ℕ = url_split brackets 0 (url ++ rest) in
+    let same : (url, rest) ≡ parts = sym e in
+    subst (λ (p : List ℕ × List ℕ). IsUrlBefore brackets p.0 p.1) e
+    (url_found brackets (url ++ rest) (unspaced_whole url rest some unspaced)
+    (subst (λ (p : List ℕ × List ℕ). p.0 ≢ []) same some))
+
+pub url_law : (brackets : Bool) (url rest : List ℕ)
+    → (url_split brackets 0 (url ++ rest) ≡ (url, rest)) × (url ≢ []) × (begins_with is_whitespace url ≡ false)
+    ↔ IsUrlBefore brackets url rest
+url_law brackets url rest = (
+  λ h. split_off brackets url rest h.0 h.1 h.2,
+  λ h. (url_again brackets url rest h, h.some, h.starts),
+)
