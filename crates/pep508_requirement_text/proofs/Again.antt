@@ -9,13 +9,15 @@ use Rattle.pep440_specifier.specs.SpecifierText.{AreSpaces}
 use Rattle.pep440_specifier_list.proofs.Grammar.{SpecifierLaw}
 use Rattle.pep508_requirement_text.specs.UrlEnds.{begins_with}
 use Rattle.pep508_requirement_text.specs.FrontReading.{Refused, Front, ◌>>=◌, name_at, extras_at}
-use Rattle.pep508_requirement_text.specs.FrontReading.{source_at, with_source, behind_extras, behind_name, front_reading}
+use Rattle.pep508_requirement_text.specs.FrontReading.{source_at, with_source, behind_extras, behind_name}
+use Rattle.pep508_requirement_text.specs.FrontReading.{front_reading}
 use Rattle.pep508_requirement_text.specs.FrontText.{IsExtrasText, IsFrontText, IsRequirementText}
 use Rattle.pep508_requirement_text.proofs.Cuts.{Unspaced, Ends, unspaced_same, spaces_again, skipped_front}
 use Rattle.pep508_requirement_text.proofs.Pieces.{AreScalars, scalars_parts}
 use Rattle.pep508_requirement_text.proofs.Names.{named, name_unspaced, behind_spaces}
 use Rattle.pep508_requirement_text.proofs.Extras.{answer, ok_same, name_again, no_extras_again, extras_again}
-use Rattle.pep508_requirement_text.proofs.Sources.{source_again, source_apart, space_apart, bracket_apart, name_apart}
+use Rattle.pep508_requirement_text.proofs.Sources.{source_again, source_apart, space_apart, bracket_apart}
+use Rattle.pep508_requirement_text.proofs.Sources.{name_apart}
 
 -- ---- behind the name
 
@@ -44,7 +46,8 @@ record ExtrasAgain (cs : List ℕ) (names : List (List ℕ)) (left : List ℕ) :
   read : extras_at (skip_leading_whitespace cs) ≡ Ok (names, rest)
   skips : skip_leading_whitespace rest ≡ left
 
-extras_skipped : (before brackets after left : List ℕ) (names : List (List ℕ)) → AreScalars brackets → AreSpaces before
+extras_skipped : (before brackets after left : List ℕ) (names : List (List ℕ)) → AreScalars brackets
+    → AreSpaces before
     → IsExtrasText brackets names → AreSpaces after → Unspaced left → begins_with (λ c. c == 91) left ≡ false
     → ExtrasAgain (before ++ (brackets ++ (after ++ left))) names left
 extras_skipped before brackets after left names u b (inl h) a n k = record {
@@ -70,7 +73,8 @@ extras_skipped before brackets after left names u b (inr h) a n k =
 
 -- ---- the whole
 
-pub front_again : (law : SpecifierLaw) (text rest : List ℕ) (front : Front) → IsUtf8 text → IsFrontText text front rest
+pub front_again : (law : SpecifierLaw) (text rest : List ℕ) (front : Front) → IsUtf8 text
+    → IsFrontText text front rest
     → front_reading text ≡ Ok (front, rest)
 unfolding front_reading
 front_again law text rest front u h =
@@ -108,12 +112,14 @@ abbrev pub FrontLaw : Type 0
 FrontLaw = (text : List ℕ) (front : Front) (rest : List ℕ) → IsUtf8 text → IsFrontText text front rest
     → front_reading text ≡ Ok (front, rest)
 
-pub one_requirement : FrontLaw → (text : List ℕ) (front other : Front) → IsUtf8 text → IsRequirementText text front
+pub one_requirement : FrontLaw → (text : List ℕ) (front other : Front) → IsUtf8 text
+    → IsRequirementText text front
     → IsRequirementText text other → front ≡ other
 one_requirement law text front other u h k =
     let first : answer (front, h.0) ≡ Ok (other, k.0) = sym (law text front h.0 u h.1) ∙ law text other k.0 u k.1 in
     ap (λ (p : Front × List ℕ). p.0) (ok_same (front, h.0) (other, k.0) first)
 
-pub no_requirement : FrontLaw → (text : List ℕ) (refused : Refused) → IsUtf8 text → front_reading text ≡ Err refused
+pub no_requirement : FrontLaw → (text : List ℕ) (refused : Refused) → IsUtf8 text
+    → front_reading text ≡ Err refused
     → (front : Front) → IsRequirementText text front → ⊥
 no_requirement law text refused u e front h = (let read = law text front h.0 u h.1 in absurd (cc))

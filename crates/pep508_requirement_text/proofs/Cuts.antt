@@ -17,7 +17,8 @@ use Rattle.pep508_requirement_text.proofs.Tests.{itself, the_same}
 
 -- ---- lists
 
-pub behind_front : (P : ℕ → Type 0) (front rest : List ℕ) → AllByRecursion P (front ++ rest) → AllByRecursion P rest
+pub behind_front : (P : ℕ → Type 0) (front rest : List ℕ) → AllByRecursion P (front ++ rest)
+    → AllByRecursion P rest
 behind_front P [] rest h = h
 behind_front P (c ∷ cs) rest h = behind_front P cs rest h.1
 
@@ -85,7 +86,8 @@ only_spaces spaces h = ap skip_leading_whitespace (sym (append-nil spaces)) ∙ 
 abbrev pub NonePasses : (ℕ → Bool) → List ℕ → Type 0
 NonePasses test = AllByRecursion (λ c. test c ≡ false)
 
-pub none_joined : (test : ℕ → Bool) (front rest : List ℕ) → NonePasses test front → NonePasses test rest → NonePasses test (front ++ rest)
+pub none_joined : (test : ℕ → Bool) (front rest : List ℕ) → NonePasses test front → NonePasses test rest
+    → NonePasses test (front ++ rest)
 none_joined test [] rest h k = k
 none_joined test (c ∷ cs) rest h k = (h.0, none_joined test cs rest h.1 k)
 
@@ -134,7 +136,8 @@ pub cut_found : (test : ℕ → Bool) (cs : List ℕ) → Cut test cs
 cut_found test [] = record { front = []; rest = []; split = refl; passes = tt; ends = tt }
 cut_found test (c ∷ cs) = cut_by test c cs (test c) refl (cut_found test cs)
 
-pub cut_is : (test : ℕ → Bool) (cs : List ℕ) (k : Cut test cs) → cut_before test cs ≡ (encode_utf8_all k.front, k.rest)
+pub cut_is : (test : ℕ → Bool) (cs : List ℕ) (k : Cut test cs)
+    → cut_before test cs ≡ (encode_utf8_all k.front, k.rest)
 cut_is test cs k = ap (cut_before test) k.split ∙ cut_again test k.front k.rest k.passes k.ends
 
 -- ---- cuts around a character
@@ -177,7 +180,8 @@ pub record CutAround (c : ℕ) (cs : List ℕ) (parts : List ℕ × List ℕ) : 
   pub passes : NonePasses (λ d. d == c) front
   pub encoded : parts.0 ≡ encode_utf8_all front
 
-around_by : (c : ℕ) (cs front rest : List ℕ) (parts : List ℕ × List ℕ) → cs ≡ front ++ rest → NonePasses (λ d. d == c) front
+around_by : (c : ℕ) (cs front rest : List ℕ) (parts : List ℕ × List ℕ) → cs ≡ front ++ rest
+    → NonePasses (λ d. d == c) front
     → Ends (λ d. d == c) rest → cut_around c cs ≡ Some parts → CutAround c cs parts
 around_by c cs front [] parts e n k h =
     let none : cut_around c cs ≡ None = ap (cut_around c) (e ∙ append-nil front) ∙ around_none c front n in
@@ -193,6 +197,7 @@ around_by c cs front (d ∷ rest) parts e n k h =
       encoded = ap (λ (p : List ℕ × List ℕ). p.0) (sym same);
     }
 
-pub around_found : (c : ℕ) (cs : List ℕ) (parts : List ℕ × List ℕ) → cut_around c cs ≡ Some parts → CutAround c cs parts
+pub around_found : (c : ℕ) (cs : List ℕ) (parts : List ℕ × List ℕ) → cut_around c cs ≡ Some parts
+    → CutAround c cs parts
 around_found c cs parts h =
     let k = cut_found (λ d. d == c) cs in around_by c cs k.front k.rest parts k.split k.passes k.ends h

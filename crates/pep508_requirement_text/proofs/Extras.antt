@@ -7,11 +7,13 @@ use Rattle.std.specs.Str.{encode_utf8_all}
 use Rattle.pep508_name.specs.Name.{is_name, is_name_byte, is_alphanumeric_at, name_of, normal_name}
 use Rattle.pep508_requirement_text.specs.UrlEnds.{begins_with}
 use Rattle.pep508_requirement_text.specs.FrontReading.{Refused, Malformed, Nameless, ◌>>=◌, cut_before}
-use Rattle.pep508_requirement_text.specs.FrontReading.{cut_around, run_of, if_name, name_at, extras_of, if_there}
+use Rattle.pep508_requirement_text.specs.FrontReading.{cut_around, run_of, if_name, name_at, extras_of}
+use Rattle.pep508_requirement_text.specs.FrontReading.{if_there}
 use Rattle.pep508_requirement_text.specs.FrontReading.{bracketed, extras_at}
 use Rattle.pep508_requirement_text.specs.FrontText.{IsExtrasText}
 use Rattle.pep508_requirement_text.proofs.Tests.{the_same}
-use Rattle.pep508_requirement_text.proofs.Cuts.{Ends, cut_again, cut_found, cut_is, around_again, around_found}
+use Rattle.pep508_requirement_text.proofs.Cuts.{Ends, cut_again, cut_found, cut_is, around_again}
+use Rattle.pep508_requirement_text.proofs.Cuts.{around_found}
 use Rattle.pep508_requirement_text.proofs.Pieces.{AreScalars, scalars_parts}
 use Rattle.pep508_requirement_text.proofs.Names.{AreNameBytes, IsInside, named, mapped, name_encoded}
 use Rattle.pep508_requirement_text.proofs.Names.{inside_found, inside_again, unbracketed}
@@ -106,7 +108,8 @@ bracketed_found rest (Some names) found h =
     let same : made ≡ found = cc in
     (ap (λ (p : List (List ℕ) × List ℕ). Some p.0) same, ap (λ (p : List (List ℕ) × List ℕ). p.1) same)
 
-no_brackets : (cs : List ℕ) (found : List (List ℕ) × List ℕ) → answer ([], cs) ≡ Ok found → ExtrasFound cs found.0 found.1
+no_brackets : (cs : List ℕ) (found : List (List ℕ) × List ℕ) → answer ([], cs) ≡ Ok found
+    → ExtrasFound cs found.0 found.1
 no_brackets cs found h =
     let made : List (List ℕ) × List ℕ = ([], cs) in
     let same : made ≡ found = ok_same made found h in
@@ -114,7 +117,8 @@ no_brackets cs found h =
     (record { brackets = []; split = refl; are_extras = inl (refl, refl) })
 
 extras_by : (c : ℕ) (cs : List ℕ) (found : List (List ℕ) × List ℕ) (t : Bool) → AreScalars cs → (c == 91) ≡ t
-    → (if t then if_there (cut_around 93 cs) >>= bracketed else Ok ([], c ∷ cs)) ≡ Ok found → ExtrasFound (c ∷ cs) found.0 found.1
+    → (if t then if_there (cut_around 93 cs) >>= bracketed else Ok ([], c ∷ cs)) ≡ Ok found
+    → ExtrasFound (c ∷ cs) found.0 found.1
 extras_by c cs found false u e h = no_brackets (c ∷ cs) found h
 extras_by c cs found true u e h =
     let s = in_steps (if_there (cut_around 93 cs)) bracketed found h in
@@ -136,7 +140,8 @@ extras_found [] found u h = no_brackets [] found h
 extras_found (c ∷ cs) found u h = extras_by c cs found (c == 91) (scalars_parts (c ∷ []) cs u).1 refl h
 
 -- without brackets nothing is taken
-pub no_extras_again : (rest : List ℕ) → begins_with (λ c. c == 91) rest ≡ false → extras_at rest ≡ Ok ([], rest)
+pub no_extras_again : (rest : List ℕ) → begins_with (λ c. c == 91) rest ≡ false
+    → extras_at rest ≡ Ok ([], rest)
 no_extras_again [] h = refl
 no_extras_again (c ∷ cs) h = ap (λ t. if t then if_there (cut_around 93 cs) >>= bracketed else Ok ([], c ∷ cs)) h
 

@@ -19,7 +19,8 @@ behind whole front rest e u = (scalars_parts front rest (subst AreScalars e u)).
 -- parts one behind the other
 module _ (a b c d e f : List ℕ) where
   in_parts : (whole behind_a behind_b behind_c behind_d behind_e rest : List ℕ) → whole ≡ a ++ behind_a
-      → behind_a ≡ b ++ behind_b → behind_b ≡ c ++ behind_c → behind_c ≡ d ++ behind_d → behind_d ≡ e ++ behind_e
+      → behind_a ≡ b ++ behind_b → behind_b ≡ c ++ behind_c → behind_c ≡ d ++ behind_d
+      → behind_d ≡ e ++ behind_e
       → behind_e ≡ f ++ rest → whole ≡ a ++ (b ++ (c ++ (d ++ (e ++ (f ++ rest)))))
   in_parts whole behind_a behind_b behind_c behind_d behind_e rest ea eb ec ed ee ef =
       ea ∙ ap (λ xs. a ++ xs) (eb ∙ ap (λ xs. b ++ xs) (ec ∙ ap (λ xs. c ++ xs) (ed ∙ ap (λ xs. d ++ xs)

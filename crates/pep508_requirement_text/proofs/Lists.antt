@@ -12,7 +12,8 @@ use Rattle.std.specs.Str.{IsUtf8, chars, encode_utf8_all, skip_leading_whitespac
 use Rattle.pep440_operator.specs.OperatorReading.{ends_operator}
 use Rattle.pep440_specifier.specs.Matching.{SpecifierRecord}
 use Rattle.pep440_specifier.specs.SpecifierText.{IsSpecifierText}
-use Rattle.pep440_specifier.specs.SpecifierReading.{specifier_of, specifier_reading, front_in, before_operator}
+use Rattle.pep440_specifier.specs.SpecifierReading.{specifier_of, specifier_reading, front_in}
+use Rattle.pep440_specifier.specs.SpecifierReading.{before_operator}
 use Rattle.pep440_specifier_list.specs.ListReading.{ListReading, list_reading, specifiers_of, pieces_of}
 use Rattle.pep440_specifier_list.specs.ListText.{AreSpecifierTexts}
 use Rattle.pep440_specifier_list.proofs.Commas.{NoComma, specifier}
@@ -22,7 +23,8 @@ use Rattle.pep440_specifier_list.proofs.Whole.{whole}
 use Rattle.pep508_requirement_text.specs.FrontReading.{Malformed, if_list, specifiers_of_text}
 use Rattle.pep508_requirement_text.proofs.Tests.{the_same}
 use Rattle.pep508_requirement_text.proofs.Cuts.{NonePasses}
-use Rattle.pep508_requirement_text.proofs.Pieces.{AreScalars, scalars_parts, is_comma, split_encoded, split_joined}
+use Rattle.pep508_requirement_text.proofs.Pieces.{AreScalars, scalars_parts, is_comma, split_encoded}
+use Rattle.pep508_requirement_text.proofs.Pieces.{split_joined}
 use Rattle.pep508_requirement_text.proofs.Pieces.{some_piece, scalar_pieces, encoded_apart}
 
 -- ---- by pieces
@@ -37,11 +39,13 @@ some_text [] given h =
     let none : all_read (pieces_of []) ≡ None = ap (λ found. with_found found (Some [])) nothing_read in absurd (cc)
 some_text (b ∷ bs) given h = (let n : 0 < length (b ∷ bs) = omega arith in grind (arith, nat_tests))
 
-if_list_is : (read : ListReading) (given : List SpecifierRecord) → result_ok read ≡ Some given → if_list read ≡ Ok given
+if_list_is : (read : ListReading) (given : List SpecifierRecord) → result_ok read ≡ Some given
+    → if_list read ≡ Ok given
 if_list_is (Ok one) given h = (let same : one ≡ given = cc in ap Ok same)
 if_list_is (Err fault) given h = absurd (cc)
 
-list_is : (read : ListReading) (given : List SpecifierRecord) → if_list read ≡ Ok given → result_ok read ≡ Some given
+list_is : (read : ListReading) (given : List SpecifierRecord) → if_list read ≡ Ok given
+    → result_ok read ≡ Some given
 list_is (Ok one) given h = (let same : one ≡ given = cc in ap Some same)
 list_is (Err fault) given h = absurd (cc)
 
@@ -54,7 +58,8 @@ list_by_pieces text given h =
     ∙ if_list_is (list_reading text) given (whole text some ∙ h)
 
 pieces_by : (text : List ℕ) (given : List SpecifierRecord) (t : Bool) → (length text == 0) ≡ t
-    → (if t then Err Malformed else if_list (list_reading text)) ≡ Ok given → all_read (pieces_of text) ≡ Some given
+    → (if t then Err Malformed else if_list (list_reading text)) ≡ Ok given
+    → all_read (pieces_of text) ≡ Some given
 unfolding specifiers_of
 pieces_by text given true e h = absurd (cc)
 pieces_by text given false e h = sym (whole text e) ∙ list_is (list_reading text) given h
@@ -80,13 +85,15 @@ spaced_piece c piece h u =
     ∙ ap (λ t. read (cond t (skip_leading_whitespace piece) (c ∷ piece))) h
     ∙ ap (λ cs. read (skip_leading_whitespace cs)) (sym (chars-encodes piece (scalars_parts (c ∷ []) piece u).1))
 
-spaced_pieces : (c : ℕ) (pieces : List (List ℕ)) → is_whitespace c ≡ true → 0 < length pieces → AllByRecursion AreScalars (onto_first c pieces)
+spaced_pieces : (c : ℕ) (pieces : List (List ℕ)) → is_whitespace c ≡ true → 0 < length pieces
+    → AllByRecursion AreScalars (onto_first c pieces)
     → all_read (map encode_utf8_all (onto_first c pieces)) ≡ all_read (map encode_utf8_all pieces)
 spaced_pieces c [] h some u = absurd (omega arith)
 spaced_pieces c (p ∷ ps) h some u =
     ap (λ first. with_found first (all_read (map encode_utf8_all ps))) (spaced_piece c p h u.0)
 
-by_characters : (cs : List ℕ) → all_read (pieces_of (encode_utf8_all cs)) ≡ all_read (map encode_utf8_all (slice_split is_comma cs))
+by_characters : (cs : List ℕ)
+    → all_read (pieces_of (encode_utf8_all cs)) ≡ all_read (map encode_utf8_all (slice_split is_comma cs))
 by_characters cs = ap all_read (split_encoded cs)
 
 spaced_list : (c : ℕ) (cs : List ℕ) → is_whitespace c ≡ true → AreScalars (c ∷ cs)
@@ -120,7 +127,8 @@ none_passes [] h = tt
 none_passes (c ∷ cs) h = (h.0, none_passes cs h.1)
 
 -- the text of a specifier has no comma
-apart : (text : List ℕ) (member : SpecifierRecord) → IsUtf8 text → IsSpecifierText text member → NonePasses is_comma text
+apart : (text : List ℕ) (member : SpecifierRecord) → IsUtf8 text → IsSpecifierText text member
+    → NonePasses is_comma text
 apart text member u h =
     subst (NonePasses is_comma) (encodes-chars text u)
     (encoded_apart (chars text) (none_passes (chars text) (specifier text member h)))
@@ -149,7 +157,8 @@ module _ (law : SpecifierLaw) where
   again_pieces (p ∷ ps) (m ∷ ms) u h =
       with_both (specifier_of p) (all_read ps) m ms ((law p m u.0).1 h.0) (again_pieces ps ms u.1 h.1)
 
-  pub given_found : (text : List ℕ) (given : List SpecifierRecord) → IsUtf8 text → all_read (pieces_of text) ≡ Some given
+  pub given_found : (text : List ℕ) (given : List SpecifierRecord) → IsUtf8 text
+      → all_read (pieces_of text) ≡ Some given
       → AreSpecifierTexts text given
   given_found text given u h =
       let joined = join_with_byte-slice_split 44 text in
@@ -160,7 +169,8 @@ module _ (law : SpecifierLaw) where
         nonempty = some_piece text;
       }
 
-  pub given_again : (text : List ℕ) (given : List SpecifierRecord) → IsUtf8 text → AreSpecifierTexts text given
+  pub given_again : (text : List ℕ) (given : List SpecifierRecord) → IsUtf8 text
+      → AreSpecifierTexts text given
       → all_read (pieces_of text) ≡ Some given
   given_again text given u h =
       let texts = utf8_pieces h.pieces (subst IsUtf8 h.joined u) in

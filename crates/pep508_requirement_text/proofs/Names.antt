@@ -16,9 +16,11 @@ use Rattle.pep508_requirement_text.specs.FrontReading.{with_name}
 use Rattle.pep508_requirement_text.specs.FrontReading.{names_of, extras_of}
 use Rattle.pep508_requirement_text.specs.FrontText.{IsSpacedName, AreNames}
 use Rattle.pep508_requirement_text.proofs.Tests.{another, and_parts}
-use Rattle.pep508_requirement_text.proofs.Cuts.{behind_front, some_same, Unspaced, NonePasses, none_joined, spaces_found, spaces_again, only_spaces}
+use Rattle.pep508_requirement_text.proofs.Cuts.{behind_front, some_same, Unspaced, NonePasses, none_joined}
+use Rattle.pep508_requirement_text.proofs.Cuts.{spaces_found, spaces_again, only_spaces}
 use Rattle.pep508_requirement_text.proofs.Pieces.{AreScalars, is_comma, split_encoded, split_joined}
-use Rattle.pep508_requirement_text.proofs.Pieces.{scalar_pieces, trailing_found, trailing_again, bare, trimmed}
+use Rattle.pep508_requirement_text.proofs.Pieces.{scalar_pieces, trailing_found, trailing_again, bare}
+use Rattle.pep508_requirement_text.proofs.Pieces.{trimmed}
 use Rattle.pep508_requirement_text.proofs.Pieces.{nothing_encoded, some_piece}
 
 -- ---- the characters of names
@@ -47,7 +49,8 @@ pub record IsNamed (cs : List ℕ) (name : List ℕ) : Type 0 where
   pub bytes : AreNameBytes cs
   pub first : cs ≢ []
 
-named_by : (cs name : List ℕ) (t : Bool) → is_name cs ≡ t → (if t then Some (normal_name cs) else None) ≡ Some name
+named_by : (cs name : List ℕ) (t : Bool) → is_name cs ≡ t
+    → (if t then Some (normal_name cs) else None) ≡ Some name
     → IsNamed cs name
 named_by cs name true e h =
     let p = and_parts (list_all is_name_byte cs && is_alphanumeric_at cs 0) (is_alphanumeric_at cs (length cs - 1)) e in
@@ -65,7 +68,8 @@ pub named : (cs name : List ℕ) → name_of cs ≡ Some name → IsNamed cs nam
 unfolding name_of
 named cs name h = named_by cs name (is_name cs) refl h
 
-pub mapped : (P Q : ℕ → Type 0) → ((c : ℕ) → P c → Q c) → (cs : List ℕ) → AllByRecursion P cs → AllByRecursion Q cs
+pub mapped : (P Q : ℕ → Type 0) → ((c : ℕ) → P c → Q c) → (cs : List ℕ) → AllByRecursion P cs
+    → AllByRecursion Q cs
 mapped P Q f [] h = tt
 mapped P Q f (c ∷ cs) h = (f c h.0, mapped P Q f cs h.1)
 
@@ -100,7 +104,8 @@ behind_spaces before written rest name spaces h =
     let n = named written name h in
     spaces_again before (written ++ rest) spaces (name_front written rest n.first n.bytes)
 
-spaced_found : (cs name : List ℕ) → AreScalars cs → name_of (trim (encode_utf8_all cs)) ≡ Some name → IsSpacedName cs name
+spaced_found : (cs name : List ℕ) → AreScalars cs → name_of (trim (encode_utf8_all cs)) ≡ Some name
+    → IsSpacedName cs name
 spaced_found cs name u h =
     let s = spaces_found cs in
     let t = trailing_found (skip_leading_whitespace cs) in
@@ -116,7 +121,8 @@ spaced_found cs name u h =
       spaces_after = t.are_spaces;
     }
 
-spaced_again : (cs name : List ℕ) → AreScalars cs → IsSpacedName cs name → name_of (trim (encode_utf8_all cs)) ≡ Some name
+spaced_again : (cs name : List ℕ) → AreScalars cs → IsSpacedName cs name
+    → name_of (trim (encode_utf8_all cs)) ≡ Some name
 spaced_again cs name u h =
     let n = named h.written name h.is_name in
     let skips : skip_leading_whitespace cs ≡ h.written ++ h.after =
@@ -158,7 +164,8 @@ names_found (p ∷ ps) names u h =
     subst (AllZip IsSpacedName (p ∷ ps)) (sym are.names_are)
     (spaced_found p are.name u.0 are.first_is, names_found ps are.more u.1 are.others_are)
 
-names_again : (pieces names : List (List ℕ)) → AllByRecursion AreScalars pieces → AllZip IsSpacedName pieces names
+names_again : (pieces names : List (List ℕ)) → AllByRecursion AreScalars pieces
+    → AllZip IsSpacedName pieces names
     → names_of (map encode_utf8_all pieces) ≡ Some names
 names_again [] [] u h = refl
 names_again [] (n ∷ ns) u h = absurd h
@@ -182,7 +189,8 @@ all_spaces cs u h =
     let split : cs ≡ s.spaces ++ t.spaces = s.split ∙ ap (λ ds. s.spaces ++ ds) (t.split ∙ ap (λ ds. ds ++ t.spaces) none) in
     subst AreSpaces (sym split) (spaces_joined s.spaces t.spaces s.are_spaces t.are_spaces)
 
-no_spaces_in_name : (written rest : List ℕ) → written ≢ [] → AreNameBytes written → AreSpaces (written ++ rest) → ⊥
+no_spaces_in_name : (written rest : List ℕ) → written ≢ [] → AreNameBytes written
+    → AreSpaces (written ++ rest) → ⊥
 no_spaces_in_name [] rest some h k = some refl
 no_spaces_in_name (c ∷ cs) rest some h k = (let no = name_unspaced c h.0 in let yes = k.0 in absurd (cc))
 
@@ -209,11 +217,13 @@ no_spaces_joined (p ∷ q ∷ ps) (n ∷ ns) some h k = no_spaces_spaced p n (44
 abbrev IsOther : ℕ → Type 0
 IsOther k = (is_whitespace k ≡ false) × (is_name_byte k ≡ false)
 
-pub none_in_spaces : (k : ℕ) → is_whitespace k ≡ false → (cs : List ℕ) → AreSpaces cs → NonePasses (λ c. c == k) cs
+pub none_in_spaces : (k : ℕ) → is_whitespace k ≡ false → (cs : List ℕ) → AreSpaces cs
+    → NonePasses (λ c. c == k) cs
 none_in_spaces k n cs h =
     mapped (λ c. is_whitespace c ≡ true) (λ c. (c == k) ≡ false) (λ c e. another is_whitespace c k (c == k) e n refl) cs h
 
-none_in_name : (k : ℕ) → is_name_byte k ≡ false → (cs : List ℕ) → AreNameBytes cs → NonePasses (λ c. c == k) cs
+none_in_name : (k : ℕ) → is_name_byte k ≡ false → (cs : List ℕ) → AreNameBytes cs
+    → NonePasses (λ c. c == k) cs
 none_in_name k n cs h =
     mapped (λ c. is_name_byte c ≡ true) (λ c. (c == k) ≡ false) (λ c e. another is_name_byte c k (c == k) e n refl) cs h
 
@@ -231,7 +241,8 @@ none_in_pieces k n [] names h = tt
 none_in_pieces k n (p ∷ ps) [] h = absurd h
 none_in_pieces k n (p ∷ ps) (m ∷ ms) h = (none_in_spaced k n p m h.0, none_in_pieces k n ps ms h.1)
 
-none_in_names : (k : ℕ) → (44 == k) ≡ false → (pieces : List (List ℕ)) → AllByRecursion (NonePasses (λ c. c == k)) pieces
+none_in_names : (k : ℕ) → (44 == k) ≡ false → (pieces : List (List ℕ))
+    → AllByRecursion (NonePasses (λ c. c == k)) pieces
     → NonePasses (λ c. c == k) (join_with_byte 44 pieces)
 none_in_names k n [] h = tt
 none_in_names k n (p ∷ []) h = h.0
@@ -245,7 +256,8 @@ IsInside inside names = (AreSpaces inside × (names ≡ [])) ⊎ AreNames inside
 
 inside_by : (inside : List ℕ) (names : List (List ℕ)) (t : Bool) → AreScalars inside
     → (length (trim (encode_utf8_all inside)) == 0) ≡ t
-    → (if t then Some [] else names_of (slice_split is_comma (encode_utf8_all inside))) ≡ Some names → IsInside inside names
+    → (if t then Some [] else names_of (slice_split is_comma (encode_utf8_all inside))) ≡ Some names
+    → IsInside inside names
 inside_by inside names true u e h = inl (all_spaces inside u e, sym (some_same [] names h))
 inside_by inside names false u e h =
     let pieces : List (List ℕ) = slice_split is_comma inside in
@@ -257,12 +269,14 @@ inside_by inside names false u e h =
       nonempty = some_piece inside;
     }
 
-pub inside_found : (inside : List ℕ) (names : List (List ℕ)) → AreScalars inside → extras_of (encode_utf8_all inside) ≡ Some names
+pub inside_found : (inside : List ℕ) (names : List (List ℕ)) → AreScalars inside
+    → extras_of (encode_utf8_all inside) ≡ Some names
     → IsInside inside names
 unfolding extras_of
 inside_found inside names u h = inside_by inside names (length (trim (encode_utf8_all inside)) == 0) u refl h
 
-not_spaces : (inside : List ℕ) (t : Bool) → AreScalars inside → (AreSpaces inside → ⊥) → (length (trim (encode_utf8_all inside)) == 0) ≡ t
+not_spaces : (inside : List ℕ) (t : Bool) → AreScalars inside → (AreSpaces inside → ⊥)
+    → (length (trim (encode_utf8_all inside)) == 0) ≡ t
     → t ≡ false
 not_spaces inside true u n e = absurd (n (all_spaces inside u e))
 not_spaces inside false u n e = refl
@@ -285,7 +299,8 @@ inside_again inside names u (inr h) =
     ∙ names_again h.pieces names (scalar_pieces h.pieces (subst AreScalars h.joined u)) h.are_names
 
 -- no bracket stands inside
-pub unbracketed : (inside : List ℕ) (names : List (List ℕ)) → IsInside inside names → NonePasses (λ c. c == 93) inside
+pub unbracketed : (inside : List ℕ) (names : List (List ℕ)) → IsInside inside names
+    → NonePasses (λ c. c == 93) inside
 unbracketed inside names (inl h) = none_in_spaces 93 refl inside h.0
 unbracketed inside names (inr h) =
     subst (NonePasses (λ c. c == 93)) (sym h.joined)

@@ -46,7 +46,8 @@ before_first_piece : (front piece : List ℕ) (pieces : List (List ℕ))
 before_first_piece [] piece pieces = refl
 before_first_piece (c ∷ cs) piece pieces = ap (onto_first c) (before_first_piece cs piece pieces)
 
-pub by_places : (xs : List ℕ) (test : ℕ → Bool) → ((k : ℕ) → k < length xs → test (get_or xs k 0) ≡ false) → NonePasses test xs
+pub by_places : (xs : List ℕ) (test : ℕ → Bool) → ((k : ℕ) → k < length xs → test (get_or xs k 0) ≡ false)
+    → NonePasses test xs
 by_places [] test h = tt
 by_places (x ∷ xs) test h = (h zero (omega arith), by_places xs test (λ k l. h (suc k) (omega arith)))
 
@@ -90,7 +91,8 @@ encoded_by c cs false e h =
     ∙ ap (map encode_utf8_all) (sym (slice_split-cons_no is_comma c cs e))
 
 -- the bytes are cut where the characters are
-pub split_encoded : (cs : List ℕ) → slice_split is_comma (encode_utf8_all cs) ≡ map encode_utf8_all (slice_split is_comma cs)
+pub split_encoded : (cs : List ℕ)
+    → slice_split is_comma (encode_utf8_all cs) ≡ map encode_utf8_all (slice_split is_comma cs)
 split_encoded [] = refl
 split_encoded (c ∷ cs) = encoded_by c cs (is_comma c) refl (split_encoded cs)
 
@@ -109,7 +111,8 @@ split_joined (p ∷ q ∷ ps) some h =
 
 -- ---- pieces of characters
 
-pub scalar_pieces : (pieces : List (List ℕ)) → AreScalars (join_with_byte 44 pieces) → AllByRecursion AreScalars pieces
+pub scalar_pieces : (pieces : List (List ℕ)) → AreScalars (join_with_byte 44 pieces)
+    → AllByRecursion AreScalars pieces
 scalar_pieces [] h = tt
 scalar_pieces (p ∷ []) h = (h, tt)
 scalar_pieces (p ∷ q ∷ ps) h =
@@ -127,7 +130,8 @@ nothing_long : (cs : List ℕ) → (length cs == 0) ≡ true → cs ≡ []
 nothing_long [] h = refl
 nothing_long (c ∷ cs) h = absurd (let n : length (c ∷ cs) ≡ 0 = the_same (length (c ∷ cs)) 0 h in omega (arith, n))
 
-trailing_by : (c : ℕ) (cs : List ℕ) (t : Bool) → (is_whitespace c && length (drop_trailing_whitespace cs) == 0) ≡ t
+trailing_by : (c : ℕ) (cs : List ℕ) (t : Bool)
+    → (is_whitespace c && length (drop_trailing_whitespace cs) == 0) ≡ t
     → Trailing cs → Trailing (c ∷ cs)
 trailing_by c cs true e h =
     let parts = and_parts (is_whitespace c) (length (drop_trailing_whitespace cs) == 0) e in
@@ -168,11 +172,13 @@ skipped_scalars cs h =
     let s = spaces_found cs in
     (scalars_parts s.spaces (skip_leading_whitespace cs) (subst AreScalars s.split h)).1
 
-pub trimmed_start : (cs : List ℕ) → AreScalars cs → trim_start (encode_utf8_all cs) ≡ encode_utf8_all (skip_leading_whitespace cs)
+pub trimmed_start : (cs : List ℕ) → AreScalars cs
+    → trim_start (encode_utf8_all cs) ≡ encode_utf8_all (skip_leading_whitespace cs)
 unfolding trim_start
 trimmed_start cs h = ap (λ ds. encode_utf8_all (skip_leading_whitespace ds)) (chars-encodes cs h)
 
-trimmed_end : (cs : List ℕ) → AreScalars cs → trim_end (encode_utf8_all cs) ≡ encode_utf8_all (drop_trailing_whitespace cs)
+trimmed_end : (cs : List ℕ) → AreScalars cs
+    → trim_end (encode_utf8_all cs) ≡ encode_utf8_all (drop_trailing_whitespace cs)
 unfolding trim_end
 trimmed_end cs h = ap (λ ds. encode_utf8_all (drop_trailing_whitespace ds)) (chars-encodes cs h)
 

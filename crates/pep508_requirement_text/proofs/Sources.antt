@@ -1,5 +1,6 @@
 -- What a name is asked for with: what is read is what the grammar gives.
-use Rattle.std.proofs.Common.{◌≡◌, ◌≢◌, ℕ, zero, suc, ◌<◌, ◌==◌, ◌||◌, Bool, true, false, if◌then◌else◌, List, []}
+use Rattle.std.proofs.Common.{◌≡◌, ◌≢◌, ℕ, zero, suc, ◌<◌, ◌==◌, ◌||◌, Bool, true, false, if◌then◌else◌, List}
+use Rattle.std.proofs.Common.{[]}
 use Rattle.std.proofs.Common.{◌∷◌, ◌++◌, length, get_or, All, Some, Ok, Err, IsTrue, inl, inr, refl}
 use Rattle.std.proofs.Common.{ap, sym, subst, ◌∙◌, arith, append_assoc}
 use Rattle.std.proofs.lemmas.Bool.Decides.{nat_tests}
@@ -13,17 +14,22 @@ use Rattle.pep508_name.specs.Name.{is_name_byte}
 use Rattle.pep508_requirement_text.specs.Archives.{is_archive}
 use Rattle.pep508_requirement_text.specs.UrlEnds.{begins_with, url_split}
 use Rattle.pep508_requirement_text.specs.FrontReading.{Source, Any, Specifiers, Url, Malformed, Nameless}
-use Rattle.pep508_requirement_text.specs.FrontReading.{Archive, Reading, ◌>>=◌, cut_before, cut_around, run_of, if_there}
-use Rattle.pep508_requirement_text.specs.FrontReading.{specifiers_of_text, listed, enclosed, if_url, begins_operator}
+use Rattle.pep508_requirement_text.specs.FrontReading.{Archive, Reading, ◌>>=◌, cut_before, cut_around}
+use Rattle.pep508_requirement_text.specs.FrontReading.{run_of, if_there}
+use Rattle.pep508_requirement_text.specs.FrontReading.{specifiers_of_text, listed, enclosed, if_url}
+use Rattle.pep508_requirement_text.specs.FrontReading.{begins_operator}
 use Rattle.pep508_requirement_text.specs.FrontReading.{alone, source_at}
-use Rattle.pep508_requirement_text.specs.FrontText.{IsBeforeMarker, IsEnclosed, IsOpenList, IsUrlText, IsSourceText}
+use Rattle.pep508_requirement_text.specs.FrontText.{IsBeforeMarker, IsEnclosed, IsOpenList, IsUrlText}
+use Rattle.pep508_requirement_text.specs.FrontText.{IsSourceText}
 use Rattle.pep508_requirement_text.proofs.Tests.{the_same, or_cases, another}
-use Rattle.pep508_requirement_text.proofs.Cuts.{behind_front, NonePasses, Ends, none_joined, spaces_found, spaces_again, skipped_front}
+use Rattle.pep508_requirement_text.proofs.Cuts.{behind_front, NonePasses, Ends, none_joined, spaces_found}
+use Rattle.pep508_requirement_text.proofs.Cuts.{spaces_again, skipped_front}
 use Rattle.pep508_requirement_text.proofs.Cuts.{cut_again, cut_found, cut_is, around_again, around_found}
 use Rattle.pep508_requirement_text.proofs.Pieces.{AreScalars, scalars_parts, by_places, trimmed_start}
 use Rattle.pep508_requirement_text.proofs.Names.{none_in_spaces}
 use Rattle.pep508_requirement_text.proofs.Extras.{answer, ok_same, in_steps, there}
-use Rattle.pep508_requirement_text.proofs.Lists.{list_by_pieces, pieces_by_list, skipped_list, given_found, given_again}
+use Rattle.pep508_requirement_text.proofs.Lists.{list_by_pieces, pieces_by_list, skipped_list, given_found}
+use Rattle.pep508_requirement_text.proofs.Lists.{given_again}
 use Rattle.pep508_requirement_text.proofs.UrlLaws.{url_found, url_joined, url_again, unspaced_whole}
 
 pub record SourceFound (name cs : List ℕ) (source : Source) (rest : List ℕ) : Type 0 where
@@ -32,13 +38,15 @@ pub record SourceFound (name cs : List ℕ) (source : Source) (rest : List ℕ) 
   pub is_source : IsSourceText name asked rest source
 
 -- what was found, as it was made
-found_as : (name cs : List ℕ) (made found : Source × List ℕ) → made ≡ found → SourceFound name cs made.0 made.1
+found_as : (name cs : List ℕ) (made found : Source × List ℕ) → made ≡ found
+    → SourceFound name cs made.0 made.1
     → SourceFound name cs found.0 found.1
 found_as name cs made found e h = subst (λ (p : Source × List ℕ). SourceFound name cs p.0 p.1) e h
 
 -- ---- characters, place by place
 
-at_place : (test : ℕ → Bool) (xs : List ℕ) → NonePasses test xs → (k d : ℕ) → k < length xs → test (get_or xs k d) ≡ false
+at_place : (test : ℕ → Bool) (xs : List ℕ) → NonePasses test xs → (k d : ℕ) → k < length xs
+    → test (get_or xs k d) ≡ false
 at_place test [] h k d within = absurd (omega arith)
 at_place test (x ∷ xs) h zero d within = h.0
 at_place test (x ∷ xs) h (suc k) d within = at_place test xs h.1 k d (omega arith)
@@ -111,7 +119,8 @@ module _ (law : SpecifierLaw) where
         is_source = inl given;
       })
 
-  enclosed_again : (asked rest : List ℕ) (given : List SpecifierRecord) → (whole name : List ℕ) → AreScalars asked
+  enclosed_again : (asked rest : List ℕ) (given : List SpecifierRecord) → (whole name : List ℕ)
+      → AreScalars asked
       → IsEnclosed asked given → source_at whole name (asked ++ rest) ≡ Ok (Specifiers given, rest)
   enclosed_again asked rest given whole name u h =
       let front : List ℕ = h.before ++ h.inside in
@@ -133,7 +142,8 @@ module _ (law : SpecifierLaw) where
       (list_by_pieces (encode_utf8_all (skip_leading_whitespace front)) given read)
 
   -- without brackets
-  open_by : (c : ℕ) (cs front rest : List ℕ) → begins_operator c ≡ true → c ∷ cs ≡ front ++ rest → Ends (λ d. d == 59) rest
+  open_by : (c : ℕ) (cs front rest : List ℕ) → begins_operator c ≡ true → c ∷ cs ≡ front ++ rest
+      → Ends (λ d. d == 59) rest
       → IsTrue (begins_with begins_operator front)
   open_by c cs [] [] b e k = absurd (cc)
   open_by c cs [] (d ∷ rest) b e k =
@@ -172,7 +182,8 @@ module _ (law : SpecifierLaw) where
       (another begins_operator c 40 (c == 40) b refl refl)
       ∙ ap (λ t. if t then list else other) b
 
-  open_again_by : (asked rest : List ℕ) (given : List SpecifierRecord) → (whole name : List ℕ) → AreScalars asked
+  open_again_by : (asked rest : List ℕ) (given : List SpecifierRecord) → (whole name : List ℕ)
+      → AreScalars asked
       → IsTrue (begins_with begins_operator asked) → NonePasses (λ c. c == 59) asked
       → all_read (pieces_of (encode_utf8_all asked)) ≡ Some given → Ends (λ c. c == 59) rest
       → source_at whole name (asked ++ rest) ≡ Ok (Specifiers given, rest)
@@ -198,7 +209,8 @@ long_some : (cs : List ℕ) → (length cs == 0) ≡ false → cs ≢ []
 long_some [] h = absurd (cc)
 long_some (c ∷ cs) h = λ nothing. absurd (cc)
 
-url_by : (name cs : List ℕ) (found : Source × List ℕ) (t : Bool) → (length (url_split false 0 (skip_leading_whitespace cs)).0 == 0) ≡ t
+url_by : (name cs : List ℕ) (found : Source × List ℕ) (t : Bool)
+    → (length (url_split false 0 (skip_leading_whitespace cs)).0 == 0) ≡ t
     → (if t then Err Malformed
     else answer (Url (encode_utf8_all (url_split false 0 (skip_leading_whitespace cs)).0), (url_split false 0 (skip_leading_whitespace cs)).1)) ≡ Ok found
     → SourceFound name (64 ∷ cs) found.0 found.1
@@ -223,7 +235,8 @@ url_by name cs found false e h =
       is_source = is_url;
     })
 
-url_source_again : (asked rest url whole name : List ℕ) → IsUrlText asked rest url → source_at whole name (asked ++ rest) ≡ Ok (Url url, rest)
+url_source_again : (asked rest url whole name : List ℕ) → IsUrlText asked rest url
+    → source_at whole name (asked ++ rest) ≡ Ok (Url url, rest)
 url_source_again asked rest url whole name h =
     let split : asked ++ rest ≡ 64 ∷ (h.before ++ (h.written ++ rest)) =
     ap (λ ds. ds ++ rest) h.split ∙ ap (λ ds. 64 ∷ ds) (append_assoc h.before h.written rest) in
@@ -257,7 +270,8 @@ module _ (law : SpecifierLaw) where
       alone_by name (c ∷ cs) found (is_archive name) (inr e4) refl h
   source_by whole name c cs found false false false false u e1 e2 e3 e4 h = absurd (cc)
 
-  pub source_found : (whole name cs : List ℕ) (found : Source × List ℕ) → AreScalars cs → source_at whole name cs ≡ Ok found
+  pub source_found : (whole name cs : List ℕ) (found : Source × List ℕ) → AreScalars cs
+      → source_at whole name cs ≡ Ok found
       → SourceFound name cs found.0 found.1
   source_found whole name [] found u h = alone_by name [] found (is_archive name) (inl refl) refl h
   source_found whole name (c ∷ cs) found u h =
@@ -287,12 +301,14 @@ pub record IsApart (test : ℕ → Bool) : Type 0 where
   pub list : (c : ℕ) → begins_operator c ≡ true → test c ≡ false
   pub marker : test 59 ≡ false
 
-marker_apart : (test : ℕ → Bool) (rest : List ℕ) → IsApart test → IsBeforeMarker rest → begins_with test rest ≡ false
+marker_apart : (test : ℕ → Bool) (rest : List ℕ) → IsApart test → IsBeforeMarker rest
+    → begins_with test rest ≡ false
 marker_apart test [] a b = refl
 marker_apart test (c ∷ cs) a (inl b) = absurd (cc)
 marker_apart test (c ∷ cs) a (inr b) = ap test (the_same c 59 b) ∙ a.marker
 
-open_apart : (test : ℕ → Bool) (asked rest : List ℕ) → IsApart test → IsTrue (begins_with begins_operator asked)
+open_apart : (test : ℕ → Bool) (asked rest : List ℕ) → IsApart test
+    → IsTrue (begins_with begins_operator asked)
     → begins_with test (asked ++ rest) ≡ false
 open_apart test [] rest a b = absurd (cc)
 open_apart test (c ∷ cs) rest a b = a.list c b
@@ -304,7 +320,8 @@ source_apart test name asked rest (Specifiers given) a (inl h) = ap (λ ds. begi
 source_apart test name asked rest (Specifiers given) a (inr h) = open_apart test asked rest a h.begins
 source_apart test name asked rest (Url url) a h = ap (λ ds. begins_with test (ds ++ rest)) h.split ∙ a.url
 
-operator_by : (test : ℕ → Bool) → test 60 ≡ false → test 61 ≡ false → test 62 ≡ false → test 126 ≡ false → test 33 ≡ false
+operator_by : (test : ℕ → Bool) → test 60 ≡ false → test 61 ≡ false → test 62 ≡ false → test 126 ≡ false
+    → test 33 ≡ false
     → (c : ℕ) → begins_operator c ≡ true → test c ≡ false
 operator_by test less equal greater tilde bang c h =
     elim (or_cases (c == 60 || c == 61 || c == 62 || c == 126) (c == 33) h) [

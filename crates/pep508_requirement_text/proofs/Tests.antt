@@ -1,5 +1,6 @@
 -- Tests, and what their answers tell.
-use Rattle.std.proofs.Common.{◌≡◌, ◌⊎◌, ℕ, ◌==◌, ◌&&◌, ◌||◌, Bool, true, false, inl, inr, refl, ap, ◌∙◌, arith}
+use Rattle.std.proofs.Common.{◌≡◌, ◌⊎◌, ℕ, ◌==◌, ◌&&◌, ◌||◌, Bool, true, false, inl, inr, refl, ap, ◌∙◌}
+use Rattle.std.proofs.Common.{arith}
 use Rattle.std.proofs.lemmas.Bool.Decides.{nat_tests}
 
 pub itself : (c : ℕ) → (c == c) ≡ true
@@ -38,6 +39,7 @@ and_parts true b h = (refl, h)
 and_parts false b h = absurd (cc)
 
 -- a character that passes is no character that does not
-pub another : (test : ℕ → Bool) (c k : ℕ) (t : Bool) → test c ≡ true → test k ≡ false → (c == k) ≡ t → t ≡ false
+pub another : (test : ℕ → Bool) (c k : ℕ) (t : Bool) → test c ≡ true → test k ≡ false → (c == k) ≡ t
+    → t ≡ false
 another test c k true h n e = (let same = ap test (the_same c k e) in absurd (cc))
 another test c k false h n e = refl

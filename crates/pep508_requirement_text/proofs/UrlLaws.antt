@@ -3,10 +3,12 @@ use Rattle.std.proofs.Common.{◌≡◌, ◌≢◌, ◌⊎◌, ◌↔◌, ℕ, �
 use Rattle.std.proofs.Common.{[], ◌∷◌, ◌++◌, inl, inr, refl, ap, sym, subst, ◌∙◌}
 use Rattle.std.specs.Prelude.{fold}
 use Rattle.std.specs.Char.{is_whitespace}
-use Rattle.pep508_requirement_text.specs.UrlEnds.{depth_behind, is_line_break, is_mark, begins_with, begins_with_end}
+use Rattle.pep508_requirement_text.specs.UrlEnds.{depth_behind, is_line_break, is_mark, begins_with}
+use Rattle.pep508_requirement_text.specs.UrlEnds.{begins_with_end}
 use Rattle.pep508_requirement_text.specs.UrlEnds.{ends_before, ends_behind, with_char, url_split, depth_of}
 use Rattle.pep508_requirement_text.specs.UrlEnds.{EndsWithMark, EndsBetween, IsUrlBefore}
-use Rattle.pep508_requirement_text.proofs.Tests.{the_same, or_left, or_right, or_cases, neither, or_first, or_second}
+use Rattle.pep508_requirement_text.proofs.Tests.{the_same, or_left, or_right, or_cases, neither, or_first}
+use Rattle.pep508_requirement_text.proofs.Tests.{or_second}
 use Rattle.pep508_requirement_text.proofs.Tests.{both, and_parts}
 
 -- ---- places at which a URL may end
@@ -31,7 +33,8 @@ record IsSplit (brackets : Bool) (depth : ℕ) (mark : Bool) (cs : List ℕ) (pa
   joined : cs ≡ parts.0 ++ parts.1
   first : EndsFirst brackets depth mark parts.0 parts.1
 
-behind_mark : (depth : ℕ) (mark : Bool) (cs : List ℕ) → ends_behind_mark depth mark cs ≡ true → may_end depth mark cs ≡ true
+behind_mark : (depth : ℕ) (mark : Bool) (cs : List ℕ) → ends_behind_mark depth mark cs ≡ true
+    → may_end depth mark cs ≡ true
 behind_mark depth mark [] h = refl
 behind_mark depth mark (c ∷ cs) h = or_right (ends_before depth (c ∷ cs)) (ends_behind_mark depth mark (c ∷ cs)) h
 
@@ -91,7 +94,8 @@ behind_again brackets depth c (d ∷ cs) rest true f e more =
     absurd (cc)
 behind_again brackets depth c cs rest false f e more = more refl
 
-split_again : (brackets : Bool) (depth : ℕ) (mark : Bool) (cs rest : List ℕ) → EndsFirst brackets depth mark cs rest
+split_again : (brackets : Bool) (depth : ℕ) (mark : Bool) (cs rest : List ℕ)
+    → EndsFirst brackets depth mark cs rest
     → ends_behind_mark depth mark (cs ++ rest) ≡ false → url_split brackets depth (cs ++ rest) ≡ (cs, rest)
 split_again brackets depth mark [] rest f n = here_again brackets depth mark rest f n
 split_again brackets depth mark (c ∷ cs) rest f n =
@@ -112,7 +116,8 @@ abbrev MayEndBehind : Bool → ℕ → Bool → List ℕ → List ℕ → Bool �
 MayEndBehind brackets depth mark front rest t =
     may_end (fold (depth_behind brackets) depth front) (last_mark mark front) rest ≡ t
 
-first_ends : (brackets : Bool) (depth : ℕ) (mark : Bool) (cs rest : List ℕ) → EndsFirst brackets depth mark cs rest
+first_ends : (brackets : Bool) (depth : ℕ) (mark : Bool) (cs rest : List ℕ)
+    → EndsFirst brackets depth mark cs rest
     → MayEndBehind brackets depth mark cs rest true
 first_ends brackets depth mark [] rest f = f
 first_ends brackets depth mark (c ∷ cs) rest f = first_ends brackets (depth_behind brackets depth c) (is_mark c) cs rest f.1
@@ -135,7 +140,8 @@ first_alone brackets depth mark (c ∷ cs) rest (d ∷ front) back f e n =
 some_list : (c : ℕ) (cs : List ℕ) → c ∷ cs ≢ []
 some_list c cs = λ e. absurd (cc)
 
-first_from : (brackets : Bool) (depth : ℕ) (mark : Bool) (cs rest : List ℕ) → MayEndBehind brackets depth mark cs rest true
+first_from : (brackets : Bool) (depth : ℕ) (mark : Bool) (cs rest : List ℕ)
+    → MayEndBehind brackets depth mark cs rest true
     → ((front back : List ℕ) → cs ≡ front ++ back → back ≢ [] → MayEndBehind brackets depth mark front (back ++ rest) false)
     → EndsFirst brackets depth mark cs rest
 first_from brackets depth mark [] rest ends alone = ends
@@ -214,11 +220,13 @@ not_true : (t : Bool) → (t ≡ true → ⊥) → t ≡ false
 not_true true h = absurd (h refl)
 not_true false h = refl
 
-unspaced_front : (cs rest : List ℕ) → cs ≢ [] → begins_with is_whitespace (cs ++ rest) ≡ false → begins_with is_whitespace cs ≡ false
+unspaced_front : (cs rest : List ℕ) → cs ≢ [] → begins_with is_whitespace (cs ++ rest) ≡ false
+    → begins_with is_whitespace cs ≡ false
 unspaced_front [] rest some h = absurd (some refl)
 unspaced_front (c ∷ cs) rest some h = h
 
-pub url_found : (brackets : Bool) (cs : List ℕ) → begins_with is_whitespace cs ≡ false → (url_split brackets 0 cs).0 ≢ []
+pub url_found : (brackets : Bool) (cs : List ℕ) → begins_with is_whitespace cs ≡ false
+    → (url_split brackets 0 cs).0 ≢ []
     → IsUrlBefore brackets (url_split brackets 0 cs).0 (url_split brackets 0 cs).1
 url_found brackets cs unspaced some =
     let url : List ℕ = (url_split brackets 0 cs).0 in
@@ -233,7 +241,8 @@ url_found brackets cs unspaced some =
           let yes = may_from brackets front (back ++ rest) h in absurd (cc));
     }
 
-pub url_joined : (brackets : Bool) (cs : List ℕ) → cs ≡ (url_split brackets 0 cs).0 ++ (url_split brackets 0 cs).1
+pub url_joined : (brackets : Bool) (cs : List ℕ)
+    → cs ≡ (url_split brackets 0 cs).0 ++ (url_split brackets 0 cs).1
 url_joined brackets cs = (splits brackets 0 false cs (nothing_first cs)).joined
 
 pub url_again : (brackets : Bool) (url rest : List ℕ) → IsUrlBefore brackets url rest
@@ -244,11 +253,13 @@ url_again brackets url rest h =
     (λ t. h.first front back e n (between_from brackets front (back ++ rest) t))) in
     split_again brackets 0 false url rest first (nothing_first (url ++ rest))
 
-pub unspaced_whole : (url rest : List ℕ) → url ≢ [] → begins_with is_whitespace url ≡ false → begins_with is_whitespace (url ++ rest) ≡ false
+pub unspaced_whole : (url rest : List ℕ) → url ≢ [] → begins_with is_whitespace url ≡ false
+    → begins_with is_whitespace (url ++ rest) ≡ false
 unspaced_whole [] rest some h = absurd (some refl)
 unspaced_whole (c ∷ cs) rest some h = h
 
-split_off : (brackets : Bool) (url rest : List ℕ) → url_split brackets 0 (url ++ rest) ≡ (url, rest) → url ≢ []
+split_off : (brackets : Bool) (url rest : List ℕ) → url_split brackets 0 (url ++ rest) ≡ (url, rest)
+    → url ≢ []
     → begins_with is_whitespace url ≡ false → IsUrlBefore brackets url rest
 split_off brackets url rest e some unspaced =
     let parts : List ℕ × List ℕ = url_split brackets 0 (url ++ rest) in

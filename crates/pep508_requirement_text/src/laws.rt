@@ -44,6 +44,7 @@ pub fn a_refused_text_is_none()
 /// A URL is split off exactly where it ends: at the first place behind it at which one may end.
 pub fn a_url_is_split_where_it_ends()
     ensures { (brackets : Bool) (url rest : List ℕ)
-        → (url_split brackets 0 (url ++ rest) ≡ (url, rest)) × (url ≢ []) × (begins_with is_whitespace url ≡ false)
+        → (url_split brackets 0 (url ++ rest) ≡ (url, rest)) × (url ≢ [])
+        × (begins_with is_whitespace url ≡ false)
         ↔ IsUrlBefore brackets url rest }
 {}
