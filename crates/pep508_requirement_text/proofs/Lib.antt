@@ -8,3 +8,4 @@ pub mod Lists
 pub mod Sources
 pub mod Found
 pub mod Again
+pub mod Decoded
