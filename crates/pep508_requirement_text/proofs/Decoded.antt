@@ -1,6 +1,6 @@
 -- The characters of an encoding are those that were encoded, whatever numbers they are.
-use Rattle.std.proofs.Common.{◌≡◌, ℕ, zero, suc, ◌+◌, ◌-◌, ◌*◌, ◌/◌, ◌%◌, ◌<◌, ◌≤◌, Bool, true, false, cond, List, []}
-use Rattle.std.proofs.Common.{◌∷◌, ◌++◌, refl, sym, ap, ◌∙◌, arith, append_assoc}
+use Rattle.std.proofs.Common.{◌≡◌, ℕ, zero, ◌+◌, ◌-◌, ◌*◌, ◌/◌, ◌%◌, ◌<◌, ◌≤◌, Bool, true, false, cond, List, []}
+use Rattle.std.proofs.Common.{◌∷◌, ◌++◌, refl, ap, ◌∙◌, arith}
 use Rattle.std.specs.Prelude.{nat_lt}
 use Rattle.std.proofs.lemmas.Bool.Decides.{nat_tests}
 use Rattle.std.specs.Str.{chars, chars_after, continuation_len, lead_bits, encode_utf8_all}
@@ -14,9 +14,6 @@ whole c (b ∷ bs) = refl
 led : (a n v : ℕ) (bs : List ℕ) → continuation_len a ≡ n → lead_bits a ≡ v → chars (a ∷ bs) ≡ chars_after n v bs
 unfolding chars
 led a n v bs p q = ap (λ m. chars_after m (lead_bits a) bs) p ∙ ap (λ w. chars_after n w bs) q
-
-not_below : (c n : ℕ) → nat_lt c n ≡ false → n ≤ c
-not_below c n h = grind (arith, nat_tests)
 
 below : (c n : ℕ) → nat_lt c n ≡ true → c < n
 below c n h = grind (arith, nat_tests)
@@ -44,8 +41,8 @@ four_bytes a b d e c rest low h =
 
 decoded_by : (c : ℕ) (rest : List ℕ) (one two three : Bool) → nat_lt c 128 ≡ one → nat_lt c 2048 ≡ two → nat_lt c 65536 ≡ three
     → chars (cond one (c ∷ []) (cond two ((192 + c / 64) ∷ (128 + c % 64) ∷ []) (cond three
-      ((224 + c / 4096) ∷ (128 + (c / 64) % 64) ∷ (128 + c % 64) ∷ [])
-      ((240 + c / 262144) ∷ (128 + (c / 4096) % 64) ∷ (128 + (c / 64) % 64) ∷ (128 + c % 64) ∷ []))) ++ rest) ≡ c ∷ chars rest
+    ((224 + c / 4096) ∷ (128 + (c / 64) % 64) ∷ (128 + c % 64) ∷ [])
+    ((240 + c / 262144) ∷ (128 + (c / 4096) % 64) ∷ (128 + (c / 64) % 64) ∷ (128 + c % 64) ∷ []))) ++ rest) ≡ c ∷ chars rest
 decoded_by c rest true two three e1 e2 e3 = one_byte c rest (below c 128 e1)
 decoded_by c rest false true three e1 e2 e3 =
     let small : c < 2048 = below c 2048 e2 in

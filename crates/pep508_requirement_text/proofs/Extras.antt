@@ -14,7 +14,6 @@ use Rattle.pep508_requirement_text.specs.FrontText.{IsExtrasText}
 use Rattle.pep508_requirement_text.proofs.Tests.{the_same}
 use Rattle.pep508_requirement_text.proofs.Cuts.{Ends, cut_again, cut_found, cut_is, around_again}
 use Rattle.pep508_requirement_text.proofs.Cuts.{around_found}
-use Rattle.pep508_requirement_text.proofs.Pieces.{AreScalars, scalars_parts}
 use Rattle.pep508_requirement_text.proofs.Names.{AreNameBytes, IsInside, named, mapped, name_encoded}
 use Rattle.pep508_requirement_text.proofs.Names.{inside_found, inside_again, unbracketed}
 
@@ -116,17 +115,17 @@ no_brackets cs found h =
     subst (λ (p : List (List ℕ) × List ℕ). ExtrasFound cs p.0 p.1) same
     (record { brackets = []; split = refl; are_extras = inl (refl, refl) })
 
-extras_by : (c : ℕ) (cs : List ℕ) (found : List (List ℕ) × List ℕ) (t : Bool) → AreScalars cs → (c == 91) ≡ t
+extras_by : (c : ℕ) (cs : List ℕ) (found : List (List ℕ) × List ℕ) (t : Bool) → (c == 91) ≡ t
     → (if t then if_there (cut_around 93 cs) >>= bracketed else Ok ([], c ∷ cs)) ≡ Ok found
     → ExtrasFound (c ∷ cs) found.0 found.1
-extras_by c cs found false u e h = no_brackets (c ∷ cs) found h
-extras_by c cs found true u e h =
+extras_by c cs found false e h = no_brackets (c ∷ cs) found h
+extras_by c cs found true e h =
     let s = in_steps (if_there (cut_around 93 cs)) bracketed found h in
     let k = around_found 93 cs s.middle (there (cut_around 93 cs) s.middle s.first_is) in
     let b = bracketed_found s.middle.1 (extras_of s.middle.0) found
     (there (option_map (found_before s.middle.1) (extras_of s.middle.0)) found s.next_is) in
     let read : extras_of (encode_utf8_all k.front) ≡ Some found.0 = ap extras_of (sym k.encoded) ∙ b.0 in
-    let inside = inside_found k.front found.0 (scalars_parts k.front (93 ∷ s.middle.1) (subst AreScalars k.split u)).0 read in
+    let inside = inside_found k.front found.0 read in
     record {
       brackets = 91 ∷ (k.front ++ 93 ∷ []);
       split = ap (λ x. x ∷ cs) (the_same c 91 e) ∙ ap (λ ds. 91 ∷ ds) (k.split ∙ ap (λ ds. k.front ++ 93 ∷ ds) b.1
@@ -134,10 +133,10 @@ extras_by c cs found true u e h =
       are_extras = inr (k.front, refl, inside);
     }
 
-pub extras_found : (cs : List ℕ) (found : List (List ℕ) × List ℕ) → AreScalars cs → extras_at cs ≡ Ok found
+pub extras_found : (cs : List ℕ) (found : List (List ℕ) × List ℕ) → extras_at cs ≡ Ok found
     → ExtrasFound cs found.0 found.1
-extras_found [] found u h = no_brackets [] found h
-extras_found (c ∷ cs) found u h = extras_by c cs found (c == 91) (scalars_parts (c ∷ []) cs u).1 refl h
+extras_found [] found h = no_brackets [] found h
+extras_found (c ∷ cs) found h = extras_by c cs found (c == 91) refl h
 
 -- without brackets nothing is taken
 pub no_extras_again : (rest : List ℕ) → begins_with (λ c. c == 91) rest ≡ false
@@ -145,8 +144,8 @@ pub no_extras_again : (rest : List ℕ) → begins_with (λ c. c == 91) rest ≡
 no_extras_again [] h = refl
 no_extras_again (c ∷ cs) h = ap (λ t. if t then if_there (cut_around 93 cs) >>= bracketed else Ok ([], c ∷ cs)) h
 
-pub extras_again : (inside rest : List ℕ) (names : List (List ℕ)) → AreScalars inside → IsInside inside names
+pub extras_again : (inside rest : List ℕ) (names : List (List ℕ)) → IsInside inside names
     → extras_at (91 ∷ (inside ++ 93 ∷ rest)) ≡ Ok (names, rest)
-extras_again inside rest names u h =
+extras_again inside rest names h =
     ap (λ found. if_there found >>= bracketed) (around_again 93 inside rest (unbracketed inside names h))
-    ∙ ap (λ read. if_there (option_map (found_before rest) read)) (inside_again inside names u h)
+    ∙ ap (λ read. if_there (option_map (found_before rest) read)) (inside_again inside names h)

@@ -1,20 +1,14 @@
 -- What is read at the front of a text is written there.
 use Rattle.std.proofs.Common.{◌≡◌, ℕ, List, ◌++◌, Ok, ap, subst, ◌∙◌}
-use Rattle.std.proofs.lemmas.Str.{scalars-chars}
-use Rattle.std.specs.Str.{IsUtf8, chars, skip_leading_whitespace}
+use Rattle.std.specs.Str.{chars, skip_leading_whitespace}
 use Rattle.pep508_name.specs.Name.{normal_name}
-use Rattle.pep440_specifier_list.proofs.Grammar.{SpecifierLaw}
+use Rattle.pep508_requirement_text.proofs.Lists.{TextLaw}
 use Rattle.pep508_requirement_text.specs.FrontReading.{Source, Front, name_at, extras_at, source_at}
 use Rattle.pep508_requirement_text.specs.FrontReading.{with_source, behind_extras, behind_name, front_reading}
 use Rattle.pep508_requirement_text.specs.FrontText.{IsFrontText}
 use Rattle.pep508_requirement_text.proofs.Cuts.{spaces_found}
-use Rattle.pep508_requirement_text.proofs.Pieces.{AreScalars, scalars_parts}
 use Rattle.pep508_requirement_text.proofs.Extras.{ok_same, in_steps, name_found, extras_found}
 use Rattle.pep508_requirement_text.proofs.Sources.{source_found}
-
--- what stands behind some characters
-behind : (whole front rest : List ℕ) → whole ≡ front ++ rest → AreScalars whole → AreScalars rest
-behind whole front rest e u = (scalars_parts front rest (subst AreScalars e u)).1
 
 -- parts one behind the other
 module _ (a b c d e f : List ℕ) where
@@ -26,10 +20,10 @@ module _ (a b c d e f : List ℕ) where
       ea ∙ ap (λ xs. a ++ xs) (eb ∙ ap (λ xs. b ++ xs) (ec ∙ ap (λ xs. c ++ xs) (ed ∙ ap (λ xs. d ++ xs)
       (ee ∙ ap (λ xs. e ++ xs) ef))))
 
-pub front_found : (law : SpecifierLaw) (text : List ℕ) (found : Front × List ℕ) → IsUtf8 text
+pub front_found : (law : TextLaw) (text : List ℕ) (found : Front × List ℕ)
     → front_reading text ≡ Ok found → IsFrontText text found.0 found.1
 unfolding front_reading
-front_found law text found u h =
+front_found law text found h =
     let cs : List ℕ = chars text in
     let before = spaces_found cs in
     let first = in_steps (name_at (skip_leading_whitespace cs)) (behind_name cs) found h in
@@ -37,20 +31,14 @@ front_found law text found u h =
     let name = name_found (skip_leading_whitespace cs) parts first.first_is in
     let between = spaces_found parts.1 in
     let from : List ℕ = skip_leading_whitespace parts.1 in
-    let scalars : AreScalars from =
-    behind parts.1 between.spaces from between.split
-    (behind (skip_leading_whitespace cs) parts.0 parts.1 name.split
-    (behind cs before.spaces (skip_leading_whitespace cs) before.split (scalars-chars text u))) in
     let second = in_steps (extras_at from) (behind_extras cs parts.0) found first.next_is in
     let read : List (List ℕ) × List ℕ = second.middle in
-    let extras = extras_found from read scalars second.first_is in
+    let extras = extras_found from read second.first_is in
     let after = spaces_found read.1 in
     let left : List ℕ = skip_leading_whitespace read.1 in
-    let left_scalars : AreScalars left =
-    behind read.1 after.spaces left after.split (behind from extras.brackets read.1 extras.split scalars) in
     let third = in_steps (source_at cs parts.0 left) (with_source parts.0 read.0) found second.next_is in
     let last : Source × List ℕ = third.middle in
-    let source = source_found law cs parts.0 left last left_scalars third.first_is in
+    let source = source_found law cs parts.0 left last third.first_is in
     let made : Front × List ℕ = (record { name = normal_name parts.0; extras = read.0; source = last.0 }, last.1) in
     let written : IsFrontText text made.0 made.1 = record {
       before = before.spaces;

@@ -1,4 +1,5 @@
 pub mod Tests
+pub mod Decoded
 pub mod Cuts
 pub mod UrlLaws
 pub mod Pieces
@@ -8,4 +9,3 @@ pub mod Lists
 pub mod Sources
 pub mod Found
 pub mod Again
-pub mod Decoded

@@ -18,8 +18,8 @@ use Rattle.pep508_requirement_text.specs.FrontText.{IsSpacedName, AreNames}
 use Rattle.pep508_requirement_text.proofs.Tests.{another, and_parts}
 use Rattle.pep508_requirement_text.proofs.Cuts.{behind_front, some_same, Unspaced, NonePasses, none_joined}
 use Rattle.pep508_requirement_text.proofs.Cuts.{spaces_found, spaces_again, only_spaces}
-use Rattle.pep508_requirement_text.proofs.Pieces.{AreScalars, is_comma, split_encoded, split_joined}
-use Rattle.pep508_requirement_text.proofs.Pieces.{scalar_pieces, trailing_found, trailing_again, bare}
+use Rattle.pep508_requirement_text.proofs.Pieces.{is_comma, split_encoded, split_joined}
+use Rattle.pep508_requirement_text.proofs.Pieces.{trailing_found, trailing_again, bare}
 use Rattle.pep508_requirement_text.proofs.Pieces.{trimmed}
 use Rattle.pep508_requirement_text.proofs.Pieces.{nothing_encoded, some_piece}
 
@@ -104,12 +104,12 @@ behind_spaces before written rest name spaces h =
     let n = named written name h in
     spaces_again before (written ++ rest) spaces (name_front written rest n.first n.bytes)
 
-spaced_found : (cs name : List ℕ) → AreScalars cs → name_of (trim (encode_utf8_all cs)) ≡ Some name
+spaced_found : (cs name : List ℕ) → name_of (trim (encode_utf8_all cs)) ≡ Some name
     → IsSpacedName cs name
-spaced_found cs name u h =
+spaced_found cs name h =
     let s = spaces_found cs in
     let t = trailing_found (skip_leading_whitespace cs) in
-    let read : name_of (encode_utf8_all (bare cs)) ≡ Some name = ap name_of (sym (trimmed cs u)) ∙ h in
+    let read : name_of (encode_utf8_all (bare cs)) ≡ Some name = ap name_of (sym (trimmed cs)) ∙ h in
     let own = own_encoding (bare cs) (named (encode_utf8_all (bare cs)) name read).bytes in
     record {
       before = s.spaces;
@@ -121,9 +121,9 @@ spaced_found cs name u h =
       spaces_after = t.are_spaces;
     }
 
-spaced_again : (cs name : List ℕ) → AreScalars cs → IsSpacedName cs name
+spaced_again : (cs name : List ℕ) → IsSpacedName cs name
     → name_of (trim (encode_utf8_all cs)) ≡ Some name
-spaced_again cs name u h =
+spaced_again cs name h =
     let n = named h.written name h.is_name in
     let skips : skip_leading_whitespace cs ≡ h.written ++ h.after =
     ap skip_leading_whitespace (h.split ∙ append_assoc h.before h.written h.after)
@@ -132,7 +132,7 @@ spaced_again cs name u h =
     ap drop_trailing_whitespace skips
     ∙ trailing_again h.written h.after
     (mapped (λ c. is_name_byte c ≡ true) (λ c. is_whitespace c ≡ false) name_unspaced h.written n.bytes) h.spaces_after in
-    ap name_of (trimmed cs u ∙ ap encode_utf8_all is_bare ∙ name_encoded h.written n.bytes) ∙ h.is_name
+    ap name_of (trimmed cs ∙ ap encode_utf8_all is_bare ∙ name_encoded h.written n.bytes) ∙ h.is_name
 
 -- ---- names between commas
 
@@ -155,24 +155,24 @@ name_and_more (Some name) (Some more) names h = record {
   names_are = sym (some_same (name ∷ more) names h);
 }
 
-names_found : (pieces names : List (List ℕ)) → AllByRecursion AreScalars pieces
+names_found : (pieces names : List (List ℕ))
     → names_of (map encode_utf8_all pieces) ≡ Some names → AllZip IsSpacedName pieces names
-names_found [] [] u h = tt
-names_found [] (n ∷ ns) u h = absurd (cc)
-names_found (p ∷ ps) names u h =
+names_found [] [] h = tt
+names_found [] (n ∷ ns) h = absurd (cc)
+names_found (p ∷ ps) names h =
     let are = name_and_more (name_of (trim (encode_utf8_all p))) (names_of (map encode_utf8_all ps)) names h in
     subst (AllZip IsSpacedName (p ∷ ps)) (sym are.names_are)
-    (spaced_found p are.name u.0 are.first_is, names_found ps are.more u.1 are.others_are)
+    (spaced_found p are.name are.first_is, names_found ps are.more are.others_are)
 
-names_again : (pieces names : List (List ℕ)) → AllByRecursion AreScalars pieces
+names_again : (pieces names : List (List ℕ))
     → AllZip IsSpacedName pieces names
     → names_of (map encode_utf8_all pieces) ≡ Some names
-names_again [] [] u h = refl
-names_again [] (n ∷ ns) u h = absurd h
-names_again (p ∷ ps) [] u h = absurd h
-names_again (p ∷ ps) (n ∷ ns) u h =
-    ap (λ first. with_name first (names_of (map encode_utf8_all ps))) (spaced_again p n u.0 h.0)
-    ∙ ap (with_name (Some n)) (names_again ps ns u.1 h.1)
+names_again [] [] h = refl
+names_again [] (n ∷ ns) h = absurd h
+names_again (p ∷ ps) [] h = absurd h
+names_again (p ∷ ps) (n ∷ ns) h =
+    ap (λ first. with_name first (names_of (map encode_utf8_all ps))) (spaced_again p n h.0)
+    ∙ ap (with_name (Some n)) (names_again ps ns h.1)
 
 -- ---- the names between brackets
 
@@ -181,11 +181,11 @@ spaces_joined [] rest h k = k
 spaces_joined (c ∷ cs) rest h k = (h.0, spaces_joined cs rest h.1 k)
 
 -- white space alone
-all_spaces : (cs : List ℕ) → AreScalars cs → (length (trim (encode_utf8_all cs)) == 0) ≡ true → AreSpaces cs
-all_spaces cs u h =
+all_spaces : (cs : List ℕ) → (length (trim (encode_utf8_all cs)) == 0) ≡ true → AreSpaces cs
+all_spaces cs h =
     let s = spaces_found cs in
     let t = trailing_found (skip_leading_whitespace cs) in
-    let none : bare cs ≡ [] = nothing_encoded (bare cs) (ap (λ bs. length bs == 0) (sym (trimmed cs u)) ∙ h) in
+    let none : bare cs ≡ [] = nothing_encoded (bare cs) (ap (λ bs. length bs == 0) (sym (trimmed cs)) ∙ h) in
     let split : cs ≡ s.spaces ++ t.spaces = s.split ∙ ap (λ ds. s.spaces ++ ds) (t.split ∙ ap (λ ds. ds ++ t.spaces) none) in
     subst AreSpaces (sym split) (spaces_joined s.spaces t.spaces s.are_spaces t.are_spaces)
 
@@ -254,49 +254,49 @@ none_in_names k n (p ∷ q ∷ ps) h =
 abbrev pub IsInside : List ℕ → List (List ℕ) → Type 0
 IsInside inside names = (AreSpaces inside × (names ≡ [])) ⊎ AreNames inside names
 
-inside_by : (inside : List ℕ) (names : List (List ℕ)) (t : Bool) → AreScalars inside
+inside_by : (inside : List ℕ) (names : List (List ℕ)) (t : Bool)
     → (length (trim (encode_utf8_all inside)) == 0) ≡ t
     → (if t then Some [] else names_of (slice_split is_comma (encode_utf8_all inside))) ≡ Some names
     → IsInside inside names
-inside_by inside names true u e h = inl (all_spaces inside u e, sym (some_same [] names h))
-inside_by inside names false u e h =
+inside_by inside names true e h = inl (all_spaces inside e, sym (some_same [] names h))
+inside_by inside names false e h =
     let pieces : List (List ℕ) = slice_split is_comma inside in
     let joined : inside ≡ join_with_byte 44 pieces = sym (join_with_byte-slice_split 44 inside) in
     inr record {
       pieces = pieces;
       joined = joined;
-      are_names = names_found pieces names (scalar_pieces pieces (subst AreScalars joined u)) (ap names_of (sym (split_encoded inside)) ∙ h);
+      are_names = names_found pieces names (ap names_of (sym (split_encoded inside)) ∙ h);
       nonempty = some_piece inside;
     }
 
-pub inside_found : (inside : List ℕ) (names : List (List ℕ)) → AreScalars inside
+pub inside_found : (inside : List ℕ) (names : List (List ℕ))
     → extras_of (encode_utf8_all inside) ≡ Some names
     → IsInside inside names
 unfolding extras_of
-inside_found inside names u h = inside_by inside names (length (trim (encode_utf8_all inside)) == 0) u refl h
+inside_found inside names h = inside_by inside names (length (trim (encode_utf8_all inside)) == 0) refl h
 
-not_spaces : (inside : List ℕ) (t : Bool) → AreScalars inside → (AreSpaces inside → ⊥)
+not_spaces : (inside : List ℕ) (t : Bool) → (AreSpaces inside → ⊥)
     → (length (trim (encode_utf8_all inside)) == 0) ≡ t
     → t ≡ false
-not_spaces inside true u n e = absurd (n (all_spaces inside u e))
-not_spaces inside false u n e = refl
+not_spaces inside true n e = absurd (n (all_spaces inside e))
+not_spaces inside false n e = refl
 
-pub inside_again : (inside : List ℕ) (names : List (List ℕ)) → AreScalars inside → IsInside inside names
+pub inside_again : (inside : List ℕ) (names : List (List ℕ)) → IsInside inside names
     → extras_of (encode_utf8_all inside) ≡ Some names
 unfolding extras_of
-inside_again inside names u (inl h) =
+inside_again inside names (inl h) =
     let none : trim (encode_utf8_all inside) ≡ [] =
-    trimmed inside u ∙ ap (λ ds. encode_utf8_all (drop_trailing_whitespace ds)) (only_spaces inside h.0) in
+    trimmed inside ∙ ap (λ ds. encode_utf8_all (drop_trailing_whitespace ds)) (only_spaces inside h.0) in
     ap (λ bs. if length bs == 0 then Some [] else names_of (slice_split is_comma (encode_utf8_all inside))) none
     ∙ ap Some (sym h.1)
-inside_again inside names u (inr h) =
+inside_again inside names (inr h) =
     let spaced : AreSpaces inside → ⊥ = λ k. no_spaces_joined h.pieces names h.nonempty h.are_names (subst AreSpaces h.joined k) in
-    let some = not_spaces inside (length (trim (encode_utf8_all inside)) == 0) u spaced refl in
+    let some = not_spaces inside (length (trim (encode_utf8_all inside)) == 0) spaced refl in
     let apart = none_in_pieces 44 (refl, refl) h.pieces names h.are_names in
     let cut : slice_split is_comma inside ≡ h.pieces = ap (slice_split is_comma) h.joined ∙ split_joined h.pieces h.nonempty apart in
     ap (λ t. if t then Some [] else names_of (slice_split is_comma (encode_utf8_all inside))) some
     ∙ ap names_of (split_encoded inside ∙ ap (map encode_utf8_all) cut)
-    ∙ names_again h.pieces names (scalar_pieces h.pieces (subst AreScalars h.joined u)) h.are_names
+    ∙ names_again h.pieces names h.are_names
 
 -- no bracket stands inside
 pub unbracketed : (inside : List ℕ) (names : List (List ℕ)) → IsInside inside names

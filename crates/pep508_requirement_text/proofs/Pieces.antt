@@ -3,27 +3,15 @@ use Rattle.std.proofs.Common.{◌≡◌, ℕ, zero, suc, ◌<◌, ◌==◌, ◌&
 use Rattle.std.proofs.Common.{◌∷◌, ◌++◌, length, get_or, map, refl, ap, sym, subst, ◌∙◌, arith, lit<}
 use Rattle.std.proofs.lemmas.List.{append-nil}
 use Rattle.std.proofs.lemmas.List.Splits.{length-slice_split, slice_split-cons_yes, slice_split-cons_no}
-use Rattle.std.proofs.lemmas.Str.{inside_one, encode_ascii, chars-encodes, length-le-encodes}
-use Rattle.std.proofs.Math.Utf8.{scalar}
+use Rattle.std.proofs.lemmas.Str.{inside_one, encode_ascii, length-le-encodes}
 use Rattle.std.specs.Char.{is_whitespace, encode_utf8}
 use Rattle.std.specs.List.{AllByRecursion, slice_split, onto_first, join_with_byte}
-use Rattle.std.specs.Str.{encode_utf8_all, all_scalars, skip_leading_whitespace, trim, trim_start, trim_end}
+use Rattle.std.specs.Str.{encode_utf8_all, skip_leading_whitespace, trim, trim_start, trim_end}
 use Rattle.std.specs.Str.{drop_trailing_whitespace}
 use Rattle.pep440_specifier.specs.SpecifierText.{AreSpaces}
-use Rattle.pep508_requirement_text.proofs.Tests.{the_same, both, and_parts}
-use Rattle.pep508_requirement_text.proofs.Cuts.{NonePasses, none_joined, spaces_found}
-
--- ---- characters
-
-abbrev pub AreScalars : List ℕ → Type 0
-AreScalars cs = all_scalars cs ≡ true
-
-pub scalars_parts : (front rest : List ℕ) → AreScalars (front ++ rest) → AreScalars front × AreScalars rest
-scalars_parts [] rest h = (refl, h)
-scalars_parts (c ∷ cs) rest h =
-    let s = and_parts (scalar c) (all_scalars (cs ++ rest)) h in
-    let more = scalars_parts cs rest s.1 in
-    (both (scalar c) (all_scalars cs) s.0 more.0, more.1)
+use Rattle.pep508_requirement_text.proofs.Decoded.{decoded}
+use Rattle.pep508_requirement_text.proofs.Tests.{the_same, and_parts}
+use Rattle.pep508_requirement_text.proofs.Cuts.{NonePasses, none_joined}
 
 -- ---- cutting at commas
 
@@ -109,15 +97,80 @@ split_joined (p ∷ q ∷ ps) some h =
     ∙ before_first_piece p [] (q ∷ ps)
     ∙ ap (λ r. r ∷ q ∷ ps) (append-nil p)
 
--- ---- pieces of characters
+-- ---- pieces of an encoding
 
-pub scalar_pieces : (pieces : List (List ℕ)) → AreScalars (join_with_byte 44 pieces)
-    → AllByRecursion AreScalars pieces
-scalar_pieces [] h = tt
-scalar_pieces (p ∷ []) h = (h, tt)
-scalar_pieces (p ∷ q ∷ ps) h =
-    let s = scalars_parts p (44 ∷ join_with_byte 44 (q ∷ ps)) h in
-    (s.0, scalar_pieces (q ∷ ps) (scalars_parts (44 ∷ []) (join_with_byte 44 (q ∷ ps)) s.1).1)
+record Past (xs more front rest : List ℕ) : Type 0 where
+  left : List ℕ
+  front_is : front ≡ xs ++ left
+  more_is : more ≡ left ++ 44 ∷ rest
+
+-- what has no comma stands before the first one
+past : (xs more front rest : List ℕ) → NonePasses is_comma xs → xs ++ more ≡ front ++ 44 ∷ rest → Past xs more front rest
+past [] more front rest h e = record { left = front; front_is = refl; more_is = e }
+past (x ∷ xs) more [] rest h e =
+    let same : x ≡ 44 = cc in
+    let comma : is_comma x ≡ true = ap is_comma same in
+    let none : is_comma x ≡ false = h.0 in
+    absurd (cc)
+past (x ∷ xs) more (y ∷ ys) rest h e =
+    let same : x ≡ y = cc in
+    let tail : xs ++ more ≡ ys ++ 44 ∷ rest = cc in
+    let p = past xs more ys rest h.1 tail in
+    record {
+      left = p.left;
+      front_is = ap (λ z. z ∷ ys) (sym same) ∙ ap (λ zs. x ∷ zs) p.front_is;
+      more_is = p.more_is;
+    }
+
+-- both sides of a comma of an encoding are encodings
+record AroundComma (front rest : List ℕ) : Type 0 where
+  before : List ℕ
+  behind : List ℕ
+  front_is : front ≡ encode_utf8_all before
+  rest_is : rest ≡ encode_utf8_all behind
+
+around_by : (c : ℕ) (cs front rest : List ℕ) (t : Bool) → is_comma c ≡ t → encode_utf8_all (c ∷ cs) ≡ front ++ 44 ∷ rest
+    → ((later : List ℕ) → encode_utf8_all cs ≡ later ++ 44 ∷ rest → AroundComma later rest) → AroundComma front rest
+around_by c cs [] rest true k e more =
+    let one : encode_utf8 c ≡ 44 ∷ [] = ap encode_utf8 (the_same c 44 k) ∙ encode_ascii 44 (lit< tt) in
+    let split : 44 ∷ encode_utf8_all cs ≡ 44 ∷ rest = ap (λ bs. bs ++ encode_utf8_all cs) (sym one) ∙ e in
+    record { before = []; behind = cs; front_is = refl; rest_is = cc }
+around_by c cs (y ∷ ys) rest true k e more =
+    let one : encode_utf8 c ≡ 44 ∷ [] = ap encode_utf8 (the_same c 44 k) ∙ encode_ascii 44 (lit< tt) in
+    let split : 44 ∷ encode_utf8_all cs ≡ y ∷ (ys ++ 44 ∷ rest) = ap (λ bs. bs ++ encode_utf8_all cs) (sym one) ∙ e in
+    let tail : encode_utf8_all cs ≡ ys ++ 44 ∷ rest = cc in
+    let same : y ≡ 44 = cc in
+    let a = more ys tail in
+    record {
+      before = c ∷ a.before;
+      behind = a.behind;
+      front_is = ap (λ z. z ∷ ys) same ∙ ap (λ zs. 44 ∷ zs) a.front_is ∙ ap (λ bs. bs ++ encode_utf8_all a.before) (sym one);
+      rest_is = a.rest_is;
+    }
+around_by c cs front rest false k e more =
+    let p = past (encode_utf8 c) (encode_utf8_all cs) front rest (no_comma c k) e in
+    let a = more p.left p.more_is in
+    record {
+      before = c ∷ a.before;
+      behind = a.behind;
+      front_is = p.front_is ∙ ap (λ bs. encode_utf8 c ++ bs) a.front_is;
+      rest_is = a.rest_is;
+    }
+
+around_comma : (cs front rest : List ℕ) → encode_utf8_all cs ≡ front ++ 44 ∷ rest → AroundComma front rest
+around_comma [] [] rest e = absurd (cc)
+around_comma [] (x ∷ xs) rest e = absurd (cc)
+around_comma (c ∷ cs) front rest e =
+    around_by c cs front rest (is_comma c) refl e (λ later k. around_comma cs later rest k)
+
+pub encoded_pieces : (cs : List ℕ) (pieces : List (List ℕ)) → 0 < length pieces
+    → encode_utf8_all cs ≡ join_with_byte 44 pieces → (parts : List (List ℕ)) × (pieces ≡ map encode_utf8_all parts)
+encoded_pieces cs [] some e = absurd (omega arith)
+encoded_pieces cs (p ∷ []) some e = (cs ∷ [], ap (λ q. q ∷ []) (sym e))
+encoded_pieces cs (p ∷ q ∷ ps) some e =
+    let a = around_comma cs p (join_with_byte 44 (q ∷ ps)) e in
+    let more = encoded_pieces a.behind (q ∷ ps) (omega arith) (sym a.rest_is) in
+    (a.before ∷ more.0, ap (λ x. x ∷ q ∷ ps) a.front_is ∙ ap (λ xs. encode_utf8_all a.before ∷ xs) more.1)
 
 -- ---- white space at the end
 
@@ -167,26 +220,21 @@ trailing_again (c ∷ cs) spaces h k =
 
 -- ---- bytes without white space
 
-pub skipped_scalars : (cs : List ℕ) → AreScalars cs → AreScalars (skip_leading_whitespace cs)
-skipped_scalars cs h =
-    let s = spaces_found cs in
-    (scalars_parts s.spaces (skip_leading_whitespace cs) (subst AreScalars s.split h)).1
-
-pub trimmed_start : (cs : List ℕ) → AreScalars cs
+pub trimmed_start : (cs : List ℕ)
     → trim_start (encode_utf8_all cs) ≡ encode_utf8_all (skip_leading_whitespace cs)
 unfolding trim_start
-trimmed_start cs h = ap (λ ds. encode_utf8_all (skip_leading_whitespace ds)) (chars-encodes cs h)
+trimmed_start cs = ap (λ ds. encode_utf8_all (skip_leading_whitespace ds)) (decoded cs)
 
-trimmed_end : (cs : List ℕ) → AreScalars cs
+trimmed_end : (cs : List ℕ)
     → trim_end (encode_utf8_all cs) ≡ encode_utf8_all (drop_trailing_whitespace cs)
 unfolding trim_end
-trimmed_end cs h = ap (λ ds. encode_utf8_all (drop_trailing_whitespace ds)) (chars-encodes cs h)
+trimmed_end cs = ap (λ ds. encode_utf8_all (drop_trailing_whitespace ds)) (decoded cs)
 
 abbrev pub bare : List ℕ → List ℕ
 bare cs = drop_trailing_whitespace (skip_leading_whitespace cs)
 
-pub trimmed : (cs : List ℕ) → AreScalars cs → trim (encode_utf8_all cs) ≡ encode_utf8_all (bare cs)
-trimmed cs h = ap trim_end (trimmed_start cs h) ∙ trimmed_end (skip_leading_whitespace cs) (skipped_scalars cs h)
+pub trimmed : (cs : List ℕ) → trim (encode_utf8_all cs) ≡ encode_utf8_all (bare cs)
+trimmed cs = ap trim_end (trimmed_start cs) ∙ trimmed_end (skip_leading_whitespace cs)
 
 pub nothing_encoded : (cs : List ℕ) → (length (encode_utf8_all cs) == 0) ≡ true → cs ≡ []
 nothing_encoded [] h = refl

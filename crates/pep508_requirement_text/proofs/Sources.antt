@@ -5,10 +5,9 @@ use Rattle.std.proofs.Common.{◌∷◌, ◌++◌, length, get_or, All, Some, Ok
 use Rattle.std.proofs.Common.{ap, sym, subst, ◌∙◌, arith, append_assoc}
 use Rattle.std.proofs.lemmas.Bool.Decides.{nat_tests}
 use Rattle.std.specs.Char.{is_whitespace}
-use Rattle.std.specs.Str.{IsUtf8, encode_utf8_all, skip_leading_whitespace, trim_start}
+use Rattle.std.specs.Str.{encode_utf8_all, skip_leading_whitespace, trim_start}
 use Rattle.pep440_specifier.specs.Matching.{SpecifierRecord}
 use Rattle.pep440_specifier_list.specs.ListReading.{pieces_of}
-use Rattle.pep440_specifier_list.proofs.Grammar.{SpecifierLaw}
 use Rattle.pep440_specifier_list.proofs.Pieces.{all_read}
 use Rattle.pep508_name.specs.Name.{is_name_byte}
 use Rattle.pep508_requirement_text.specs.Archives.{is_archive}
@@ -25,11 +24,11 @@ use Rattle.pep508_requirement_text.proofs.Tests.{the_same, or_cases, another}
 use Rattle.pep508_requirement_text.proofs.Cuts.{behind_front, NonePasses, Ends, none_joined, spaces_found}
 use Rattle.pep508_requirement_text.proofs.Cuts.{spaces_again, skipped_front}
 use Rattle.pep508_requirement_text.proofs.Cuts.{cut_again, cut_found, cut_is, around_again, around_found}
-use Rattle.pep508_requirement_text.proofs.Pieces.{AreScalars, scalars_parts, by_places, trimmed_start}
+use Rattle.pep508_requirement_text.proofs.Pieces.{by_places, trimmed_start}
 use Rattle.pep508_requirement_text.proofs.Names.{none_in_spaces}
 use Rattle.pep508_requirement_text.proofs.Extras.{answer, ok_same, in_steps, there}
-use Rattle.pep508_requirement_text.proofs.Lists.{list_by_pieces, pieces_by_list, skipped_list, given_found}
-use Rattle.pep508_requirement_text.proofs.Lists.{given_again}
+use Rattle.pep508_requirement_text.proofs.Lists.{TextLaw, list_by_pieces, pieces_by_list, skipped_list, given_found}
+use Rattle.pep508_requirement_text.proofs.Lists.{TextLaw, given_again}
 use Rattle.pep508_requirement_text.proofs.UrlLaws.{url_found, url_joined, url_again, unspaced_whole}
 
 pub record SourceFound (name cs : List ℕ) (source : Source) (rest : List ℕ) : Type 0 where
@@ -87,21 +86,16 @@ is_listed parts found h =
     let s = in_steps (specifiers_of_text parts.0) next found h in
     record { given = s.middle; read = s.first_is; made = ok_same (Specifiers s.middle, parts.1) found s.next_is }
 
-utf8 : (cs : List ℕ) → AreScalars cs → IsUtf8 (encode_utf8_all cs)
-utf8 cs u = (cs, (u, refl))
-
-module _ (law : SpecifierLaw) where
-  enclosed_found : (name cs : List ℕ) (found : Source × List ℕ) → AreScalars cs
+module _ (law : TextLaw) where
+  enclosed_found : (name cs : List ℕ) (found : Source × List ℕ)
       → (if_there (cut_around 41 cs) >>= enclosed) ≡ Ok found → SourceFound name (40 ∷ cs) found.0 found.1
-  enclosed_found name cs found u h =
+  enclosed_found name cs found h =
       let s = in_steps (if_there (cut_around 41 cs)) enclosed found h in
       let k = around_found 41 cs s.middle (there (cut_around 41 cs) s.middle s.first_is) in
       let l = is_listed (trim_start s.middle.0, s.middle.1) found s.next_is in
       let w = spaces_found k.front in
       let inside : List ℕ = skip_leading_whitespace k.front in
-      let whole : AreScalars k.front = (scalars_parts k.front (41 ∷ s.middle.1) (subst AreScalars k.split u)).0 in
-      let scalars : AreScalars inside = (scalars_parts w.spaces inside (subst AreScalars w.split whole)).1 in
-      let text : trim_start s.middle.0 ≡ encode_utf8_all inside = ap trim_start k.encoded ∙ trimmed_start k.front whole in
+      let text : trim_start s.middle.0 ≡ encode_utf8_all inside = ap trim_start k.encoded ∙ trimmed_start k.front in
       let read = pieces_by_list (encode_utf8_all inside) l.given (ap specifiers_of_text (sym text) ∙ l.read) in
       let closed = behind_front (λ c. (c == 41) ≡ false) w.spaces inside (subst (NonePasses (λ c. c == 41)) w.split k.passes) in
       let given : IsEnclosed (40 ∷ (k.front ++ 41 ∷ [])) l.given = record {
@@ -110,7 +104,7 @@ module _ (law : SpecifierLaw) where
         split = ap (λ ds. 40 ∷ (ds ++ 41 ∷ [])) w.split;
         spaces = w.are_spaces;
         closed = at_places (λ c. c == 41) inside closed;
-        are_specifiers = given_found law (encode_utf8_all inside) l.given (utf8 inside scalars) read;
+        are_specifiers = given_found law (encode_utf8_all inside) l.given read;
       } in
       found_as name (40 ∷ cs) (Specifiers l.given, s.middle.1) found l.made
       (record {
@@ -120,24 +114,20 @@ module _ (law : SpecifierLaw) where
       })
 
   enclosed_again : (asked rest : List ℕ) (given : List SpecifierRecord) → (whole name : List ℕ)
-      → AreScalars asked
       → IsEnclosed asked given → source_at whole name (asked ++ rest) ≡ Ok (Specifiers given, rest)
-  enclosed_again asked rest given whole name u h =
+  enclosed_again asked rest given whole name h =
       let front : List ℕ = h.before ++ h.inside in
       let split : asked ++ rest ≡ 40 ∷ (front ++ 41 ∷ rest) =
       ap (λ ds. ds ++ rest) h.split ∙ ap (λ ds. 40 ∷ ds) (append_assoc front (41 ∷ []) rest) in
-      let scalars : AreScalars front =
-      (scalars_parts front (41 ∷ []) (scalars_parts (40 ∷ []) (front ++ 41 ∷ []) (subst AreScalars h.split u)).1).0 in
-      let inside : AreScalars h.inside = (scalars_parts h.before h.inside scalars).1 in
       let closed = none_joined (λ c. c == 41) h.before h.inside (none_in_spaces 41 refl h.before h.spaces)
       (from_places (λ c. c == 41) h.inside h.closed) in
       let skips : skip_leading_whitespace front ≡ skip_leading_whitespace h.inside = skipped_front h.before h.inside h.spaces in
       let read : all_read (pieces_of (encode_utf8_all (skip_leading_whitespace front))) ≡ Some given =
-      ap (λ cs. all_read (pieces_of (encode_utf8_all cs))) skips ∙ skipped_list h.inside inside
-      ∙ given_again law (encode_utf8_all h.inside) given (utf8 h.inside inside) h.are_specifiers in
+      ap (λ cs. all_read (pieces_of (encode_utf8_all cs))) skips ∙ skipped_list h.inside
+      ∙ given_again law h.inside given h.are_specifiers in
       ap (source_at whole name) split
       ∙ ap (λ found. if_there found >>= enclosed) (around_again 41 front rest closed)
-      ∙ ap (λ text. listed (text, rest)) (trimmed_start front scalars)
+      ∙ ap (λ text. listed (text, rest)) (trimmed_start front)
       ∙ ap (λ found. found >>= λ given. Ok (Specifiers given, rest))
       (list_by_pieces (encode_utf8_all (skip_leading_whitespace front)) given read)
 
@@ -152,18 +142,17 @@ module _ (law : SpecifierLaw) where
       absurd (cc)
   open_by c cs (d ∷ front) rest b e k = (let same : c ≡ d = cc in ap begins_operator (sym same) ∙ b)
 
-  open_found : (name : List ℕ) (c : ℕ) (cs : List ℕ) (found : Source × List ℕ) → AreScalars (c ∷ cs)
+  open_found : (name : List ℕ) (c : ℕ) (cs : List ℕ) (found : Source × List ℕ)
       → begins_operator c ≡ true → listed (cut_before (λ d. d == 59) (c ∷ cs)) ≡ Ok found
       → SourceFound name (c ∷ cs) found.0 found.1
-  open_found name c cs found u b h =
+  open_found name c cs found b h =
       let k = cut_found (λ d. d == 59) (c ∷ cs) in
       let l = is_listed (encode_utf8_all k.front, k.rest) found (ap listed (sym (cut_is (λ d. d == 59) (c ∷ cs) k)) ∙ h) in
       let read = pieces_by_list (encode_utf8_all k.front) l.given l.read in
-      let scalars : AreScalars k.front = (scalars_parts k.front k.rest (subst AreScalars k.split u)).0 in
       let given : IsOpenList k.front k.rest l.given = record {
         begins = open_by c cs k.front k.rest b k.split k.ends;
         whole = at_places (λ d. d == 59) k.front k.passes;
-        are_specifiers = given_found law (encode_utf8_all k.front) l.given (utf8 k.front scalars) read;
+        are_specifiers = given_found law (encode_utf8_all k.front) l.given read;
         before_marker = before_marker k.rest k.ends;
       } in
       found_as name (c ∷ cs) (Specifiers l.given, k.rest) found l.made
@@ -183,21 +172,20 @@ module _ (law : SpecifierLaw) where
       ∙ ap (λ t. if t then list else other) b
 
   open_again_by : (asked rest : List ℕ) (given : List SpecifierRecord) → (whole name : List ℕ)
-      → AreScalars asked
       → IsTrue (begins_with begins_operator asked) → NonePasses (λ c. c == 59) asked
       → all_read (pieces_of (encode_utf8_all asked)) ≡ Some given → Ends (λ c. c == 59) rest
       → source_at whole name (asked ++ rest) ≡ Ok (Specifiers given, rest)
-  open_again_by [] rest given whole name u b n read k = absurd (cc)
-  open_again_by (c ∷ cs) rest given whole name u b n read k =
+  open_again_by [] rest given whole name b n read k = absurd (cc)
+  open_again_by (c ∷ cs) rest given whole name b n read k =
       open_source whole name c (cs ++ rest) b
       ∙ ap listed (cut_again (λ d. d == 59) (c ∷ cs) rest n k)
       ∙ ap (λ found. found >>= λ given. Ok (Specifiers given, rest)) (list_by_pieces (encode_utf8_all (c ∷ cs)) given read)
 
-  open_again : (asked rest : List ℕ) (given : List SpecifierRecord) → (whole name : List ℕ) → AreScalars asked
+  open_again : (asked rest : List ℕ) (given : List SpecifierRecord) → (whole name : List ℕ)
       → IsOpenList asked rest given → source_at whole name (asked ++ rest) ≡ Ok (Specifiers given, rest)
-  open_again asked rest given whole name u h =
-      open_again_by asked rest given whole name u h.begins (from_places (λ c. c == 59) asked h.whole)
-      (given_again law (encode_utf8_all asked) given (utf8 asked u) h.are_specifiers) (marker_ends rest h.before_marker)
+  open_again asked rest given whole name h =
+      open_again_by asked rest given whole name h.begins (from_places (λ c. c == 59) asked h.whole)
+      (given_again law asked given h.are_specifiers) (marker_ends rest h.before_marker)
 
 -- ---- a URL
 
@@ -251,31 +239,31 @@ url_source_again asked rest url whole name h =
 
 -- ---- what follows a name
 
-module _ (law : SpecifierLaw) where
-  source_by : (whole name : List ℕ) (c : ℕ) (cs : List ℕ) (found : Source × List ℕ) (url inside list none : Bool) → AreScalars (c ∷ cs)
+module _ (law : TextLaw) where
+  source_by : (whole name : List ℕ) (c : ℕ) (cs : List ℕ) (found : Source × List ℕ) (url inside list none : Bool)
       → (c == 64) ≡ url → (c == 40) ≡ inside → begins_operator c ≡ list → (c == 59) ≡ none
       → (if url then if_url (url_split false 0 (skip_leading_whitespace cs))
       else (if inside then if_there (cut_around 41 cs) >>= enclosed
       else (if list then listed (cut_before (λ d. d == 59) (c ∷ cs))
       else (if none then alone name (c ∷ cs) else Err (Nameless (run_of whole)))))) ≡ Ok found
       → SourceFound name (c ∷ cs) found.0 found.1
-  source_by whole name c cs found true inside list none u e1 e2 e3 e4 h =
+  source_by whole name c cs found true inside list none e1 e2 e3 e4 h =
       subst (λ x. SourceFound name (x ∷ cs) found.0 found.1) (sym (the_same c 64 e1))
       (url_by name cs found (length (url_split false 0 (skip_leading_whitespace cs)).0 == 0) refl h)
-  source_by whole name c cs found false true list none u e1 e2 e3 e4 h =
+  source_by whole name c cs found false true list none e1 e2 e3 e4 h =
       subst (λ x. SourceFound name (x ∷ cs) found.0 found.1) (sym (the_same c 40 e2))
-      (enclosed_found law name cs found (scalars_parts (c ∷ []) cs u).1 h)
-  source_by whole name c cs found false false true none u e1 e2 e3 e4 h = open_found law name c cs found u e3 h
-  source_by whole name c cs found false false false true u e1 e2 e3 e4 h =
+      (enclosed_found law name cs found h)
+  source_by whole name c cs found false false true none e1 e2 e3 e4 h = open_found law name c cs found e3 h
+  source_by whole name c cs found false false false true e1 e2 e3 e4 h =
       alone_by name (c ∷ cs) found (is_archive name) (inr e4) refl h
-  source_by whole name c cs found false false false false u e1 e2 e3 e4 h = absurd (cc)
+  source_by whole name c cs found false false false false e1 e2 e3 e4 h = absurd (cc)
 
-  pub source_found : (whole name cs : List ℕ) (found : Source × List ℕ) → AreScalars cs
+  pub source_found : (whole name cs : List ℕ) (found : Source × List ℕ)
       → source_at whole name cs ≡ Ok found
       → SourceFound name cs found.0 found.1
-  source_found whole name [] found u h = alone_by name [] found (is_archive name) (inl refl) refl h
-  source_found whole name (c ∷ cs) found u h =
-      source_by whole name c cs found (c == 64) (c == 40) (begins_operator c) (c == 59) u refl refl refl refl h
+  source_found whole name [] found h = alone_by name [] found (is_archive name) (inl refl) refl h
+  source_found whole name (c ∷ cs) found h =
+      source_by whole name c cs found (c == 64) (c == 40) (begins_operator c) (c == 59) refl refl refl refl h
 
   alone_at : (whole name rest : List ℕ) → IsBeforeMarker rest → source_at whole name rest ≡ alone name rest
   alone_at whole name [] b = refl
@@ -283,14 +271,14 @@ module _ (law : SpecifierLaw) where
   alone_at whole name (c ∷ cs) (inr b) =
       subst (λ x. source_at whole name (x ∷ cs) ≡ alone name (x ∷ cs)) (sym (the_same c 59 b)) refl
 
-  pub source_again : (whole name asked rest : List ℕ) (source : Source) → AreScalars asked
+  pub source_again : (whole name asked rest : List ℕ) (source : Source)
       → IsSourceText name asked rest source → source_at whole name (asked ++ rest) ≡ Ok (source, rest)
-  source_again whole name asked rest Any u h =
+  source_again whole name asked rest Any h =
       ap (λ ds. source_at whole name (ds ++ rest)) h.0 ∙ alone_at whole name rest h.1
       ∙ ap (λ t. if t then Err Archive else Ok (Any, rest)) h.2
-  source_again whole name asked rest (Specifiers given) u (inl h) = enclosed_again law asked rest given whole name u h
-  source_again whole name asked rest (Specifiers given) u (inr h) = open_again law asked rest given whole name u h
-  source_again whole name asked rest (Url url) u h = url_source_again asked rest url whole name h
+  source_again whole name asked rest (Specifiers given) (inl h) = enclosed_again law asked rest given whole name h
+  source_again whole name asked rest (Specifiers given) (inr h) = open_again law asked rest given whole name h
+  source_again whole name asked rest (Url url) h = url_source_again asked rest url whole name h
 
 -- ---- where it begins
 

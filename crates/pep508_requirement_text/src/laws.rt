@@ -2,7 +2,6 @@
 
 ghost use Rattle.std.specs.Prelude.{◌≡◌, ◌≢◌, ◌↔◌, ℕ, Bool, false, List, [], ◌++◌, Ok, Err};
 ghost use Rattle.std.specs.Char.{is_whitespace};
-ghost use Rattle.std.specs.Str.{IsUtf8};
 ghost use Rattle.pep508_requirement_text.specs.UrlEnds.{begins_with, url_split, IsUrlBefore};
 ghost use Rattle.pep508_requirement_text.specs.FrontReading.{Front, Refused, front_reading};
 ghost use Rattle.pep508_requirement_text.specs.FrontText.{IsFrontText, IsRequirementText};
@@ -11,7 +10,7 @@ use pep440_specifier::laws::specifier_text_is_read;
 
 /// What is read at the front of a text stands there as the grammar has it (PEP 508, "Grammar").
 pub fn a_read_front_is_written()
-    ensures { (text : List ℕ) (front : Front) (rest : List ℕ) → IsUtf8 text
+    ensures { (text : List ℕ) (front : Front) (rest : List ℕ)
         → front_reading text ≡ Ok (front, rest) → IsFrontText text front rest }
 {
     specifier_text_is_read();
@@ -19,7 +18,7 @@ pub fn a_read_front_is_written()
 
 /// What stands at the front of a text as the grammar has it is read (PEP 508, "Grammar").
 pub fn a_written_front_is_read()
-    ensures { (text : List ℕ) (front : Front) (rest : List ℕ) → IsUtf8 text
+    ensures { (text : List ℕ) (front : Front) (rest : List ℕ)
         → IsFrontText text front rest → front_reading text ≡ Ok (front, rest) }
 {
     specifier_text_is_read();
@@ -27,7 +26,7 @@ pub fn a_written_front_is_read()
 
 /// A text is that of at most one requirement without a marker.
 pub fn a_text_has_one_requirement()
-    ensures { (text : List ℕ) (front other : Front) → IsUtf8 text
+    ensures { (text : List ℕ) (front other : Front)
         → IsRequirementText text front → IsRequirementText text other → front ≡ other }
 {
     a_written_front_is_read();
@@ -35,7 +34,7 @@ pub fn a_text_has_one_requirement()
 
 /// A text whose front is refused is that of no requirement.
 pub fn a_refused_text_is_none()
-    ensures { (text : List ℕ) (refused : Refused) → IsUtf8 text → front_reading text ≡ Err refused
+    ensures { (text : List ℕ) (refused : Refused) → front_reading text ≡ Err refused
         → (front : Front) → IsRequirementText text front → ⊥ }
 {
     a_written_front_is_read();
