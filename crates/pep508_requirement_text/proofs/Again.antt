@@ -105,12 +105,16 @@ abbrev pub FrontLaw : Type 0
 FrontLaw = (text : List ℕ) (front : Front) (rest : List ℕ) → IsFrontText text front rest
     → front_reading text ≡ Ok (front, rest)
 
-pub one_requirement : FrontLaw → (text : List ℕ) (front other : Front)
-    → IsRequirementText text front
+pub one_front : FrontLaw → (text : List ℕ) (front other : Front) (rest left : List ℕ) → IsFrontText text front rest
+    → IsFrontText text other left → (front ≡ other) × (rest ≡ left)
+one_front law text front other rest left h k =
+    let read : answer (front, rest) ≡ Ok (other, left) = sym (law text front rest h) ∙ law text other left k in
+    let same = ok_same (front, rest) (other, left) read in
+    (ap (λ (p : Front × List ℕ). p.0) same, ap (λ (p : Front × List ℕ). p.1) same)
+
+pub one_requirement : FrontLaw → (text : List ℕ) (front other : Front) → IsRequirementText text front
     → IsRequirementText text other → front ≡ other
-one_requirement law text front other h k =
-    let first : answer (front, h.0) ≡ Ok (other, k.0) = sym (law text front h.0 h.1) ∙ law text other k.0 k.1 in
-    ap (λ (p : Front × List ℕ). p.0) (ok_same (front, h.0) (other, k.0) first)
+one_requirement law text front other h k = (one_front law text front other h.0 k.0 h.1 k.1).0
 
 pub no_requirement : FrontLaw → (text : List ℕ) (refused : Refused)
     → front_reading text ≡ Err refused

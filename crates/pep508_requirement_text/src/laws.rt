@@ -24,6 +24,14 @@ pub fn a_written_front_is_read()
     specifier_text_is_read();
 }
 
+/// At the front of a text stands at most one front of a requirement, and one rest follows it.
+pub fn a_text_has_one_front()
+    ensures { (text : List ℕ) (front other : Front) (rest left : List ℕ)
+        → IsFrontText text front rest → IsFrontText text other left → (front ≡ other) × (rest ≡ left) }
+{
+    a_written_front_is_read();
+}
+
 /// A text is that of at most one requirement without a marker.
 pub fn a_text_has_one_requirement()
     ensures { (text : List ℕ) (front other : Front)
