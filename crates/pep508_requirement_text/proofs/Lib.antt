@@ -1,0 +1,11 @@
+pub mod Tests
+pub mod Decoded
+pub mod Cuts
+pub mod UrlLaws
+pub mod Pieces
+pub mod Names
+pub mod Extras
+pub mod Lists
+pub mod Sources
+pub mod Found
+pub mod Again

@@ -1,0 +1,5 @@
+pub mod Archives
+pub mod Unnamed
+pub mod UrlEnds
+pub mod FrontReading
+pub mod FrontText
