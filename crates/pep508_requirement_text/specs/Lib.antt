@@ -3,3 +3,4 @@ pub mod Unnamed
 pub mod UrlEnds
 pub mod FrontReading
 pub mod FrontText
+pub mod UrlTurns

@@ -1,2 +1,11 @@
 //! The front of a requirement's text (PEP 508, "Grammar"): a name, extras, and specifiers or the text of a URL.
 #![tactic(auto)]
+
+mod archive;
+mod cuts;
+mod look;
+mod url_end;
+
+pub use archive::is_archive;
+pub use look::looks_unnamed;
+pub use url_end::split_url;

@@ -1,0 +1,137 @@
+//! Where a URL ends in a requirement's text.
+
+ghost use Rattle.std.specs.Prelude.{◌≡◌, ◌+◌, ◌^◌, ◌<◌, ◌++◌, [], true, length, MatchOption};
+ghost use Rattle.std.specs.Char.{is_whitespace};
+ghost use Rattle.std.specs.Str.{chars};
+ghost use Rattle.pep508_requirement_text.specs.UrlEnds.{url_split, depth_behind, is_line_break, is_mark, is_over, begins_with};
+ghost use Rattle.pep508_requirement_text.specs.UrlTurns.{BeginsWith, EndsAt, IsTurn};
+
+/// What reading one character, or a run of white space, of a URL leads to.
+pub(crate) enum Turn<'a> {
+    /// The URL ends before this text.
+    Ends(&'a str),
+    /// It goes on with this text, at this depth in brackets.
+    GoesOn(&'a str, usize),
+}
+
+/// The URL at the front of a text, and what follows it; `brackets` where a URL has no name and so ends outside brackets,
+/// line breaks excepted.
+///
+/// One pass over the text, which looks behind each run of white space once. Takes no memory.
+pub fn split_url(text: &str, brackets: bool) -> (&str, &str)
+    ensures parts { (chars result.0.now, chars result.1.now) ≡ url_split brackets 0 (chars text.now) }
+    ensures whole { text.now ≡ result.0.now ++ result.1.now }
+{
+    let mut rest = text;
+    let mut depth = 0;
+    loop {
+        match turn(rest, brackets, depth) {
+            Turn::Ends(behind) => return split_to(text, brackets, behind),
+            Turn::GoesOn(behind, later) => {
+                rest = behind;
+                depth = later;
+            }
+        }
+    }
+}
+
+/// The text before the one at which its URL ends, and that one.
+fn split_to<'a>(text: &'a str, brackets: bool, behind: &str) -> (&'a str, &'a str)
+    requires { EndsAt brackets 0 text.now behind.now }
+    ensures parts { (chars result.0.now, chars result.1.now) ≡ url_split brackets 0 (chars text.now) }
+    ensures whole { text.now ≡ result.0.now ++ result.1.now }
+{
+    text.split_at(text.len() - behind.len())
+}
+
+/// Reads one character, or a run of white space.
+fn turn(text: &str, brackets: bool, depth: usize) -> Turn<'_>
+    requires kept { depth_behind brackets depth 32 ≡ depth }
+    requires bound { depth + length text.now < 2 ^ 64 }
+    ensures { IsTurn brackets depth text.now result }
+{
+    let Some((c, rest)) = first(text) else {
+        return Turn::Ends(text);
+    };
+    if c.is_whitespace() {
+        return blanks(text, brackets, depth);
+    }
+    let later = depth_behind(brackets, depth, c);
+    if later == 0 && is_mark(c) && begins_with_blank(rest) {
+        Turn::Ends(rest)
+    } else {
+        Turn::GoesOn(rest, later)
+    }
+}
+
+/// Reads a run of white space.
+fn blanks(text: &str, brackets: bool, depth: usize) -> Turn<'_>
+    requires kept { depth_behind brackets depth 32 ≡ depth }
+    requires blank { begins_with is_whitespace (chars text.now) ≡ true }
+    ensures { IsTurn brackets depth text.now result }
+{
+    let behind = text.trim_start();
+    if depth == 0 && is_over(behind) {
+        return Turn::Ends(text);
+    }
+    let (run, _) = text.split_at(text.len() - behind.len());
+    match run.find(|c: char| is_line_break(c)) {
+        Some(place) => Turn::Ends(&text[place..]),
+        None => Turn::GoesOn(behind, depth),
+    }
+}
+
+/// How deep in brackets a character leaves the text.
+fn depth_behind(brackets: bool, depth: usize, c: char) -> usize
+    requires { depth + 1 < 2 ^ 64 }
+    ensures { result ≡ depth_behind brackets depth c }
+{
+    if !brackets {
+        return 0;
+    }
+    match c {
+        '[' => depth + 1,
+        ']' => depth.saturating_sub(1),
+        _ => depth,
+    }
+}
+
+/// The first character, and what follows it.
+fn first(text: &str) -> Option<(char, &str)>
+    ensures { MatchOption result (text.now ≡ []) (λ x. BeginsWith text.now x.0 x.1.now) }
+{
+    let mut chars = text.chars();
+    let c = chars.next()?;
+    Some((c, chars.as_str()))
+}
+
+fn begins_with_blank(text: &str) -> bool
+    ensures { result ≡ begins_with is_whitespace (chars text.now) }
+{
+    match first(text) {
+        Some((c, _)) => c.is_whitespace(),
+        None => false,
+    }
+}
+
+/// Whether nothing is left, or a `;` or a `#` follows.
+fn is_over(text: &str) -> bool
+    ensures { result ≡ is_over (chars text.now) }
+{
+    match first(text) {
+        Some((c, _)) => is_mark(c),
+        None => true,
+    }
+}
+
+fn is_line_break(c: char) -> bool
+    ensures { result ≡ is_line_break c }
+{
+    c == '\n' || c == '\r'
+}
+
+fn is_mark(c: char) -> bool
+    ensures { result ≡ is_mark c }
+{
+    c == ';' || c == '#'
+}
