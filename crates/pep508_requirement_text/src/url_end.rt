@@ -25,7 +25,7 @@ pub fn split_url(text: &str, brackets: bool) -> (&str, &str)
     let mut rest = text;
     let mut depth = 0;
     loop {
-        match turn(rest, brackets, depth) {
+        match read_on(rest, brackets, depth) {
             Turn::Ends(behind) => return split_to(text, brackets, behind),
             Turn::GoesOn(behind, later) => {
                 rest = behind;
@@ -45,7 +45,7 @@ fn split_to<'a>(text: &'a str, brackets: bool, behind: &str) -> (&'a str, &'a st
 }
 
 /// Reads one character, or a run of white space.
-fn turn(text: &str, brackets: bool, depth: usize) -> Turn<'_>
+fn read_on(text: &str, brackets: bool, depth: usize) -> Turn<'_>
     requires kept { depth_behind brackets depth 32 ≡ depth }
     requires bound { depth + length text.now < 2 ^ 64 }
     ensures { IsTurn brackets depth text.now result }
