@@ -1,6 +1,7 @@
 -- How far the reading of a URL has come.
 use Rattle.std.specs.Prelude.{◌≡◌, ℕ, ◌+◌, ◌<◌, ◌≤◌, Bool, List, ◌∷◌, ◌++◌, length, encode_utf8}
-use Rattle.std.specs.Str.{chars, IsUtf8}
+use Rattle.std.specs.Char.{is_not_whitespace}
+use Rattle.std.specs.Str.{chars, skip_leading_whitespace, IsUtf8, NonePass}
 use Rattle.pep508_requirement_text.specs.UrlEnds.{url_split, depth_behind}
 use Rattle.pep508_requirement_text.specs.declared.url_end.Turn.{Turn}
 use Rattle.pep508_requirement_text.specs.declared.url_end.Turn.TheVariants.{Ends, GoesOn}
@@ -15,6 +16,12 @@ pub record IsCut (text front rest : List ℕ) : Type 0 where
 pub record BeginsWith (text : List ℕ) (c : ℕ) (rest : List ℕ) : Type 0 where
   pub cut : IsCut text (encode_utf8 c) rest
   pub characters : chars text ≡ c ∷ chars rest
+
+-- the text begins with this white space, and behind it is none
+pub record AreBlanks (text run rest : List ℕ) : Type 0 where
+  pub cut : IsCut text run rest
+  pub blank : NonePass is_not_whitespace (chars run)
+  pub skipped : chars rest ≡ skip_leading_whitespace (chars text)
 
 -- more characters of a URL
 abbrev pub onto : List ℕ → List ℕ × List ℕ → List ℕ × List ℕ

@@ -1,9 +1,10 @@
 //! Cuts of a text before the first character of a kind.
 
 ghost use Rattle.std.specs.Prelude.{◌≡◌, ◌==◌, ◌++◌, not};
+ghost use Rattle.std.specs.Char.{is_whitespace};
 ghost use Rattle.std.specs.Str.{chars};
 ghost use Rattle.pep508_name.specs.Name.{is_name_byte};
-ghost use Rattle.pep508_requirement_text.specs.FrontReading.{cut_before, run_of};
+ghost use Rattle.pep508_requirement_text.specs.FrontReading.{cut_before};
 
 /// The text before the first of a character, and the text from it on.
 pub(crate) fn split_before(text: &str, at: char) -> (&str, &str)
@@ -17,7 +18,7 @@ pub(crate) fn split_before(text: &str, at: char) -> (&str, &str)
 }
 
 /// Whether a character may stand in a name.
-fn is_of_name(c: char) -> bool
+pub(crate) fn is_of_name(c: char) -> bool
     ensures { result ≡ is_name_byte c }
 {
     c.is_ascii_alphanumeric() || c == '-' || c == '_' || c == '.'
@@ -34,12 +35,13 @@ pub(crate) fn split_name(text: &str) -> (&str, &str)
     }
 }
 
-/// The characters at the front that are no white space.
-pub(crate) fn run(text: &str) -> &str
-    ensures { result.now ≡ run_of (chars text.now) }
+/// The characters at the front that are no white space, and what follows them.
+pub(crate) fn split_run(text: &str) -> (&str, &str)
+    ensures parts { (result.0.now, chars result.1.now) ≡ cut_before is_whitespace (chars text.now) }
+    ensures whole { text.now ≡ result.0.now ++ result.1.now }
 {
     match text.find(|c: char| c.is_whitespace()) {
-        Some(end) => text.split_at(end).0,
-        None => text,
+        Some(end) => text.split_at(end),
+        None => (text, ""),
     }
 }

@@ -1,10 +1,10 @@
 //! Where a URL ends in a requirement's text.
 
-ghost use Rattle.std.specs.Prelude.{◌≡◌, ◌+◌, ◌^◌, ◌<◌, ◌++◌, [], true, length, MatchOption};
+ghost use Rattle.std.specs.Prelude.{◌≡◌, ◌+◌, ◌^◌, ◌<◌, ◌==◌, ◌&&◌, ◌++◌, [], true, false, length, MatchOption};
 ghost use Rattle.std.specs.Char.{is_whitespace};
 ghost use Rattle.std.specs.Str.{chars};
-ghost use Rattle.pep508_requirement_text.specs.UrlEnds.{url_split, depth_behind, is_line_break, is_mark, is_over, begins_with};
-ghost use Rattle.pep508_requirement_text.specs.UrlTurns.{BeginsWith, EndsAt, IsTurn};
+ghost use Rattle.pep508_requirement_text.specs.UrlEnds.{url_split, depth_behind, is_line_break, is_mark, is_over, begins_with, ends_behind};
+ghost use Rattle.pep508_requirement_text.specs.UrlTurns.{BeginsWith, AreBlanks, EndsAt, IsTurn};
 
 /// What reading one character, or a run of white space, of a URL leads to.
 pub(crate) enum Turn<'a> {
@@ -50,35 +50,76 @@ fn read_on(text: &str, brackets: bool, depth: usize) -> Turn<'_>
     requires bound { depth + length text.now < 2 ^ 64 }
     ensures { IsTurn brackets depth text.now result }
 {
-    let Some((c, rest)) = first(text) else {
-        return Turn::Ends(text);
-    };
-    if c.is_whitespace() {
-        return blanks(text, brackets, depth);
+    match first(text) {
+        None => Turn::Ends(text),
+        Some((c, rest)) => {
+            if c.is_whitespace() {
+                read_blanks(text, brackets, depth)
+            } else {
+                read_char(text, c, rest, brackets, depth)
+            }
+        }
     }
+}
+
+/// Reads the first character of a text, which is no white space.
+fn read_char<'a>(
+    text: &'a str,
+    c: char,
+    rest: &'a str,
+    brackets: bool,
+    depth: usize,
+) -> Turn<'a>
+    requires begins { BeginsWith text.now c rest.now }
+    requires plain { is_whitespace c ≡ false }
+    requires bound { depth + length text.now < 2 ^ 64 }
+    ensures { IsTurn brackets depth text.now result }
+{
     let later = depth_behind(brackets, depth, c);
-    if later == 0 && is_mark(c) && begins_with_blank(rest) {
+    if ends_behind(later, c, rest) {
         Turn::Ends(rest)
     } else {
         Turn::GoesOn(rest, later)
     }
 }
 
+/// Whether a URL ends behind this character, before this text.
+fn ends_behind(depth: usize, c: char, text: &str) -> bool
+    ensures { result ≡ ends_behind depth c (chars text.now) }
+{
+    depth == 0 && is_mark(c) && begins_with_blank(text)
+}
+
 /// Reads a run of white space.
-fn blanks(text: &str, brackets: bool, depth: usize) -> Turn<'_>
+fn read_blanks(text: &str, brackets: bool, depth: usize) -> Turn<'_>
     requires kept { depth_behind brackets depth 32 ≡ depth }
     requires blank { begins_with is_whitespace (chars text.now) ≡ true }
     ensures { IsTurn brackets depth text.now result }
 {
-    let behind = text.trim_start();
-    if depth == 0 && is_over(behind) {
+    let (run, behind) = split_blanks(text);
+    if is_end(depth, behind) {
         return Turn::Ends(text);
     }
-    let (run, _) = text.split_at(text.len() - behind.len());
     match run.find(|c: char| is_line_break(c)) {
         Some(place) => Turn::Ends(&text[place..]),
         None => Turn::GoesOn(behind, depth),
     }
+}
+
+/// Whether a URL ends before white space at this depth, behind which this text stands.
+fn is_end(depth: usize, text: &str) -> bool
+    ensures { result ≡ (depth == 0 && is_over (chars text.now)) }
+{
+    depth == 0 && is_over(text)
+}
+
+/// The white space at the front, and what follows it.
+fn split_blanks(text: &str) -> (&str, &str)
+    ensures { AreBlanks text.now result.0.now result.1.now }
+{
+    let behind = text.trim_start();
+    let (run, _) = text.split_at(text.len() - behind.len());
+    (run, behind)
 }
 
 /// How deep in brackets a character leaves the text.
@@ -98,7 +139,7 @@ fn depth_behind(brackets: bool, depth: usize, c: char) -> usize
 
 /// The first character, and what follows it.
 fn first(text: &str) -> Option<(char, &str)>
-    ensures { MatchOption result (text.now ≡ []) (λ x. BeginsWith text.now x.0 x.1.now) }
+    ensures { MatchOption result (chars text.now ≡ []) (λ x. BeginsWith text.now x.0 x.1.now) }
 {
     let mut chars = text.chars();
     let c = chars.next()?;
