@@ -13,10 +13,11 @@ pub struct Cursor<'a> {
 }
 
 impl<'a> Cursor<'a> {
-    ghost use Rattle.std.specs.Prelude.{◌≡◌, ◌∷◌, [], length, drop, chars, IfSome, MatchOption};
+    ghost use Rattle.std.specs.Prelude.{◌≡◌, ◌∷◌, [], length, drop, chars, IfNone, IfSome, MatchOption};
     ghost use Rattle.std.specs.Str.{skip_leading_whitespace, IsCharBoundary};
     ghost use Rattle.std.specs.Char.{len_utf8};
     ghost use Rattle.pep508_error.specs.Cursors.{rest_of, first_len, IsBehind};
+    ghost use Rattle.pep508_error.specs.Spans.{IsSpan};
     ghost use Rattle.pep508_error.specs.Refusals.{Refuses};
 
     /// The beginning of a text.
@@ -77,6 +78,7 @@ impl<'a> Cursor<'a> {
         ensures cases { MatchOption result (chars (rest_of self.entry) ≡ [])
             (λ c. chars (rest_of self.entry) ≡ c ∷ chars (drop (len_utf8 c) (rest_of self.entry))) }
         ensures boundary { IfSome result (λ c. IsCharBoundary (rest_of self.entry) (len_utf8 c)) }
+        ensures end { IfNone result (rest_of self.entry ≡ []) }
     {
         self.rest().chars().next()
     }
@@ -108,15 +110,22 @@ impl<'a> Cursor<'a> {
     pub fn refuse_char(self, kind: RefusalKind) -> Refusal<'a>
         ensures { Refuses result kind self.entry.input.now self.entry.position (first_len (rest_of self.entry)) }
     {
-        let len = match self.peek() {
-            Some(first) => first.len_utf8(),
-            None => 1,
-        };
         Refusal {
             kind,
             input: self.input,
             start: self.position,
-            len,
+            len: self.first_len(),
+        }
+    }
+
+    /// How many bytes the character that follows has; 1 where there is none.
+    fn first_len(self) -> usize
+        ensures len { result ≡ first_len (rest_of self.entry) }
+        ensures span { IsSpan self.entry.input.now self.entry.position result }
+    {
+        match self.peek() {
+            Some(first) => first.len_utf8(),
+            None => 1,
         }
     }
 

@@ -4,6 +4,8 @@ use crate::excerpt::Excerpt;
 use crate::{Cursor, Refusal, RefusalKind};
 use pep508_url::Pep508Url;
 use std::alloc::Global;
+use std::error::Error;
+use std::fmt;
 
 /// What is wrong with a text.
 #[derive(Debug, Drop)]
@@ -28,7 +30,7 @@ pub struct Pep508Error<T: Pep508Url> {
 }
 
 impl<T: Pep508Url> Pep508Error<T> {
-    ghost use Rattle.std.specs.Prelude.{◌≡◌, false, IfSome};
+    ghost use Rattle.std.specs.Prelude.{◌≡◌, true, IfSome, Some};
     ghost use Rattle.std.specs.Str.{IsCharBoundary};
     ghost use Rattle.std.specs.String.{string_bytes};
     ghost use Rattle.pep508_error.specs.Spans.{IsSpan};
@@ -76,4 +78,91 @@ impl<T: Pep508Url> Pep508Error<T> {
             Err(_) => Pep508Error::memory(alloc),
         }
     }
+
+    /// The error that tells why the text of a URL is not taken for one: so many bytes that follow a place. Want of memory
+    /// is `Memory`, here and for the copy of the text that it takes.
+    pub fn of_url(alloc: Global, error: T::Err, place: Cursor<'_>, len: usize) -> Self
+        requires { IsCharBoundary (rest_of place) len }
+        ensures lacks { T.lacks_memory error ≡ true → result.message ≡ Memory }
+        ensures tells { IfSome (told_error result) (λ fault.
+            fault_at (UrlError error) place.entry.input.now place.entry.position len ≡ Some fault) }
+    {
+        if T::is_memory(&error) {
+            return Pep508Error::memory(alloc);
+        }
+        match String::from_str(alloc, place.input()) {
+            Ok(input) => Pep508Error {
+                message: Pep508ErrorSource::UrlError(error),
+                excerpt: Excerpt {
+                    input,
+                    start: place.position(),
+                    len,
+                },
+            },
+            Err(_) => Pep508Error::memory(alloc),
+        }
+    }
+
+    /// What is wrong.
+    pub fn message(&self) -> &Pep508ErrorSource<T>
+        ensures { result.now ≡ self.now.message }
+    {
+        &self.message
+    }
+
+    /// The whole text; empty for want of memory.
+    pub fn input(&self) -> &str
+        ensures { result.now ≡ string_bytes self.now.excerpt.input }
+    {
+        self.excerpt.input.as_str()
+    }
+
+    /// Where the part at fault begins, in bytes.
+    pub fn start(&self) -> usize
+        ensures start { result ≡ self.now.excerpt.start }
+        ensures placed { IsSpan (string_bytes self.now.excerpt.input) self.now.excerpt.start self.now.excerpt.len }
+    {
+        self.excerpt.start
+    }
+
+    /// How many bytes it has.
+    pub fn len(&self) -> usize
+        ensures { result ≡ self.now.excerpt.len }
+    {
+        self.excerpt.len
+    }
 }
+
+impl<T: Pep508Url> fmt::Display for Pep508ErrorSource<T> {
+    ghost use Rattle.pep508_error.specs.Errors.{source_text};
+
+    ghost output = { source_text T.Err.output };
+
+    fn fmt<W: fmt::Write>(&self, f: &mut fmt::Formatter<W>) -> fmt::Result {
+        match self {
+            Pep508ErrorSource::String(message) => write!(f, "{message}"),
+            Pep508ErrorSource::UrlError(error) => write!(f, "{error}"),
+            Pep508ErrorSource::UnsupportedRequirement(message) => write!(f, "{message}"),
+            Pep508ErrorSource::NumberAtEnd => {
+                write!(f, "A version number of the marker can't be raised")
+            }
+            Pep508ErrorSource::Memory => write!(f, "out of memory"),
+        }
+    }
+}
+
+impl<T: Pep508Url> Error for Pep508ErrorSource<T> {}
+
+impl<T: Pep508Url> fmt::Display for Pep508Error<T> {
+    ghost use Rattle.pep508_error.specs.Errors.{error_text};
+
+    ghost output = { error_text T.Err.output };
+
+    fn fmt<W: fmt::Write>(&self, f: &mut fmt::Formatter<W>) -> fmt::Result {
+        let message = &self.message;
+        let picture = self.excerpt.underlined();
+        write!(f, "{message}\n{picture}")
+    }
+}
+
+impl<T: Pep508Url> Error for Pep508Error<T> {}

@@ -13,8 +13,10 @@ use std::fmt;
 
 mod environment;
 mod floats;
+mod warnings;
 
 pub use environment::MarkerEnvironment;
+pub use warnings::{MarkerWarningKind, Reporter, Silent};
 
 /// A member of an environment (PEP 508, "Environment Markers"). Prints as the name under which it stands.
 #[derive(Clone, Copy, Debug, PartialEq, Eq, PartialOrd, Ord, Hash)]

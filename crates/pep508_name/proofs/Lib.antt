@@ -2,3 +2,4 @@ pub mod Walk
 pub mod Parts
 pub mod Steps
 pub mod Again
+pub mod Escaped

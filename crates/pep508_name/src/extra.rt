@@ -1,12 +1,17 @@
 //! Names of extras.
 
-ghost use Rattle.std.specs.Prelude.{◌≡◌, ◌<◌, IfOk, Some, Err, codes, length};
+ghost use Rattle.std.specs.Prelude.{◌≡◌, ◌<◌, IfOk, IsTrue, Some, Err, codes, length};
 ghost use Rattle.std.specs.Fmt.{◌++?◌, debug_str};
-ghost use Rattle.read_outcome.specs.Outcome.{Answers};
-ghost use Rattle.pep508_name.specs.Name.{name_of, name_reading, told_name};
+ghost use Rattle.std.specs.String.{string_bytes};
+ghost use Rattle.read_outcome.specs.Outcome.{Answers, ReadsText};
+ghost use Rattle.serde_json.specs.View.{view};
+ghost use Rattle.serde_json.specs.Find as find;
+ghost use Rattle.pep508_name.specs.Name.{is_name, name_of, name_reading, told_name};
 
 use crate::InvalidNameError;
 use crate::normal::NormalName;
+use read_outcome::FromValueError;
+use serde_json::Value;
 use std::alloc::{AllocError, Global};
 use std::fmt;
 use std::marker::Model;
@@ -39,6 +44,15 @@ impl ExtraName {
         Ok(ExtraName(NormalName::from_str(alloc, text)?))
     }
 
+    /// The name that a text stands for, as `from_str` reads it. A text that is no name is refused and given back in the
+    /// error, so only a name wants memory.
+    pub fn new(alloc: Global, text: String) -> Result<Self, InvalidNameError>
+        ensures answered { Answers (λ name. name) told_name result (name_reading (string_bytes text)) }
+        ensures grown { result ≡ Err InvalidNameError.Memory → IsTrue (is_name (string_bytes text)) }
+    {
+        Ok(ExtraName(NormalName::new(alloc, text)?))
+    }
+
     /// The normal form.
     pub fn as_str(&self) -> &str
         ensures text { result.now ≡ self.now }
@@ -52,6 +66,32 @@ impl ExtraName {
         ensures { IfOk result (λ copy. copy ≡ self.now) }
     {
         Ok(ExtraName(self.0.try_clone(alloc)?))
+    }
+
+    /// The name as a JSON text.
+    pub fn to_value(&self, alloc: Global) -> Result<Value, AllocError>
+        ensures { IfOk result (λ value. find.as_str (view value) ≡ Some self.now) }
+    {
+        Ok(Value::String(String::from_str(alloc, self.as_str())?))
+    }
+
+    /// Reads a JSON text as `from_str` does; another value is refused as `Shape`.
+    pub fn from_value(
+        alloc: Global,
+        value: &Value,
+    ) -> Result<Self, FromValueError<InvalidNameError>>
+        ensures { ReadsText
+            (λ text read. Answers (λ name. name) told_name read (name_reading text)
+            × (read ≡ Err InvalidNameError.Memory → 0 < length text))
+            (find.as_str (view value.now)) result }
+    {
+        let Some(text) = value.as_str() else {
+            return Err(FromValueError::Shape);
+        };
+        match ExtraName::from_str(alloc, text) {
+            Ok(name) => Ok(name),
+            Err(error) => Err(FromValueError::Text(error)),
+        }
     }
 }
 

@@ -21,7 +21,7 @@ pub use normal::is_name;
 pub use package::PackageName;
 
 /// Why a text is not taken for a name.
-#[derive(Debug, Drop)]
+#[derive(Debug, PartialEq, Eq, Drop)]
 pub enum InvalidNameError {
     /// Memory ran out while reading.
     Memory,

@@ -1,6 +1,6 @@
 //! Names in normal form: what the names of packages and of extras have in common.
 
-ghost use Rattle.std.specs.Prelude.{◌≡◌, ◌<◌, IsTrue, IfOk, IfSome, Some, Err, option_copied, false, length, refl};
+ghost use Rattle.std.specs.Prelude.{◌≡◌, ◌<◌, IsTrue, IfOk, IfSome, Some, Err, option_copied, false, length, map, encode_utf8_all, refl};
 ghost use Rattle.std.specs.Option.{option_map_or};
 ghost use Rattle.std.specs.Cmp.{partial_equiv_from_equiv};
 ghost use Rattle.std.specs.Cmp.Lexicographic.{nat_list_eq_equiv, nat_list_cmp_total, texts_ties, texts_po};
@@ -8,8 +8,9 @@ ghost use Rattle.std.specs.Ordering.{as_partial_cmp};
 ghost use Rattle.std.specs.Fmt.{debug_str};
 ghost use Rattle.std.specs.List.{list_all};
 ghost use Rattle.std.specs.String.{string_bytes};
+ghost use Rattle.std.specs.Str.{chars};
 ghost use Rattle.read_outcome.specs.Outcome.{Answers};
-ghost use Rattle.pep508_name.specs.Name.{is_name, is_name_byte, is_alphanumeric, is_separator, normal_name, name_of, name_reading, told_name, name_eq, name_cmp, fed_name};
+ghost use Rattle.pep508_name.specs.Name.{is_name, is_name_byte, is_alphanumeric, is_separator, normal_name, name_of, name_reading, told_name, dist_info_byte, name_eq, name_cmp, fed_name};
 ghost use Rattle.pep508_name.specs.Hashing.{alike_names};
 
 use crate::InvalidNameError;
@@ -49,6 +50,20 @@ impl NormalName {
         }
         Ok(NormalName {
             text: normalized(alloc, text)?,
+        })
+    }
+
+    /// The name that a text stands for; the error takes the text.
+    #[tactic(auto, using(crate::proofs::Again::normal_form_again), unfolding(crate::specs::Name::name_of))]
+    pub(crate) fn new(alloc: Global, text: String) -> Result<Self, InvalidNameError>
+        ensures answered { Answers (λ name. name) told_name result (name_reading (string_bytes text)) }
+        ensures grown { result ≡ Err InvalidNameError.Memory → IsTrue (is_name (string_bytes text)) }
+    {
+        if !is_name(text.as_str()) {
+            return Err(InvalidNameError::InvalidName(text));
+        }
+        Ok(NormalName {
+            text: normalized(alloc, text.as_str())?,
         })
     }
 
@@ -204,4 +219,13 @@ fn normalized(alloc: Global, text: &str) -> Result<String, AllocError>
         }
     }
     Ok(name)
+}
+
+/// A text with `_` for each `-`.
+pub(crate) fn escaped(alloc: Global, text: &str) -> Result<String, AllocError>
+    ensures { IfOk result (λ name. string_bytes name ≡ encode_utf8_all (map dist_info_byte (chars text.now))) }
+{
+    text.chars()
+        .map(|letter| if letter == '-' { '_' } else { letter })
+        .collect(alloc)
 }

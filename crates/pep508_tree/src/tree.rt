@@ -1,0 +1,72 @@
+//! What names a marker tree.
+
+ghost use Rattle.std.specs.Prelude.{◌≡◌, ◌↔◌, IsTrue};
+ghost use Rattle.pep508_tree.specs.Tree.{Tree, always, never, negation};
+
+use std::marker::Model;
+
+/// A marker tree of an interner: for which environments and extras a requirement is meant (PEP 508, "Environment
+/// Markers").
+///
+/// Two trees of one interner are equal exactly where they are named alike.
+#[derive(Clone, Copy, Debug, PartialEq, Eq, Hash)]
+pub struct MarkerTree {
+    place: usize,
+    negated: bool,
+}
+
+impl Model for MarkerTree {
+    ghost use Rattle.pep508_tree.specs.Tree.{Tree};
+
+    ghost Value = { Tree };
+
+    ghost view = { λ t. record { place = t.place; negated = t.negated } };
+
+    ghost inverse = { λ t. record { place = t.place; negated = t.negated } };
+}
+
+impl MarkerTree {
+    /// The tree that always holds.
+    pub const TRUE: MarkerTree = MarkerTree {
+        place: 0,
+        negated: false,
+    };
+
+    /// The tree that never holds.
+    pub const FALSE: MarkerTree = MarkerTree {
+        place: 0,
+        negated: true,
+    };
+
+    /// The tree that holds exactly where this one does not. Takes no memory and no interner.
+    pub fn negate(self) -> MarkerTree
+        ensures { result ≡ negation self }
+    {
+        MarkerTree {
+            place: self.place,
+            negated: !self.negated,
+        }
+    }
+
+    /// Whether this is the tree that always holds.
+    pub fn is_true(self) -> bool
+        ensures { IsTrue result ↔ (self ≡ always) }
+    {
+        self.place == 0 && !self.negated
+    }
+
+    /// Whether this is the tree that never holds.
+    pub fn is_false(self) -> bool
+        ensures { IsTrue result ↔ (self ≡ never) }
+    {
+        self.place == 0 && self.negated
+    }
+}
+
+impl Default for MarkerTree {
+    ghost is_default = { λ tree. tree ≡ always };
+
+    fn default() -> MarkerTree {
+        MarkerTree::TRUE
+    }
+}
