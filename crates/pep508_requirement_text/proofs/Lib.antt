@@ -1,3 +1,4 @@
 pub mod Fronts
 pub mod Looks
 pub mod UrlLoops
+pub mod Outcomes

@@ -51,6 +51,12 @@ Reads vars view (Err refusal) reading = Tells vars refusal.kind reading
 abbrev pub behind : Cursor → List ℕ
 behind cursor = chars (rest_of cursor)
 
+-- this text stands at the place
+pub record IsAt (cursor : Cursor) (text : List ℕ) : Type 0 where
+  pub rest : List ℕ
+  pub whole : rest_of cursor ≡ text ++ rest
+  pub rest_utf8 : IsUtf8 rest
+
 -- the same of specifiers, which stand by version
 abbrev pub ReadsSpecifiers : Result (List SpecifierRecord) Refusal → Result (List SpecifierRecord) Refused → Type 0
 ReadsSpecifiers (Ok list) reading = (given : List SpecifierRecord) × (reading ≡ Ok given) × IsInOrder given list

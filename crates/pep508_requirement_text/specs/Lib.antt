@@ -4,3 +4,4 @@ pub mod UrlEnds
 pub mod FrontReading
 pub mod FrontText
 pub mod UrlTurns
+pub mod FrontOutcome

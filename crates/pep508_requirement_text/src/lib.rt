@@ -4,6 +4,9 @@
 mod archive;
 mod cuts;
 mod look;
+mod message;
+mod name;
+mod place;
 mod url_end;
 
 pub use archive::is_archive;
