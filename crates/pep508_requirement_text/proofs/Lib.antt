@@ -2,3 +2,5 @@ pub mod Fronts
 pub mod Looks
 pub mod UrlLoops
 pub mod Outcomes
+pub mod ExtrasReading
+pub mod ListPlaces

@@ -3,6 +3,7 @@
 
 mod archive;
 mod cuts;
+mod extras;
 mod look;
 mod message;
 mod name;
@@ -10,5 +11,6 @@ mod place;
 mod url_end;
 
 pub use archive::is_archive;
+pub use extras::read_extras;
 pub use look::looks_unnamed;
 pub use url_end::split_url;

@@ -1,6 +1,6 @@
 //! Reading the name at the front of a requirement.
 
-ghost use Rattle.std.specs.Prelude.{◌≡◌, IsTrue, MatchResult};
+ghost use Rattle.std.specs.Prelude.{◌≡◌, IsTrue, IfOk, MatchResult};
 ghost use Rattle.pep508_name.specs.Name.{is_name, is_alphanumeric_at, normal_name};
 ghost use Rattle.pep508_error.specs.declared.refusal.RefusalKind.TheVariants.{Memory};
 ghost use Rattle.pep508_requirement_text.specs.FrontReading.{name_at, run_of};
@@ -26,6 +26,7 @@ pub(crate) fn read_name<'a>(
 ) -> Result<(&'a str, Cursor<'a>), Refusal<'a>>
     ensures read { Reads vars.now (λ found. (found.0.now, behind found.1)) result (name_at (behind start.entry)) }
     ensures stays { StaysIn start.entry (λ found. found.1) result }
+    ensures named { IfOk result (λ found. IsTrue (is_name found.0.now)) }
 {
     let (name, later) = cut_name(start);
     if is_name(name) {
@@ -71,5 +72,16 @@ fn refuse_nameless<'a>(alloc: Global, start: Cursor<'a>, vars: &Vars) -> Refusal
             alloc,
             "Empty field is not allowed for PEP508",
         ))),
+    }
+}
+
+/// The name of a package, in normal form.
+pub(crate) fn package_name<'a>(alloc: Global, name: &str) -> Result<PackageName, Refusal<'a>>
+    requires { IsTrue (is_name name.now) }
+    ensures { MatchResult result (λ normal. normal ≡ normal_name name.now) (λ refusal. refusal.kind ≡ Memory) }
+{
+    match PackageName::from_str(alloc, name) {
+        Ok(name) => Ok(name),
+        Err(_) => Err(Refusal::memory()),
     }
 }
