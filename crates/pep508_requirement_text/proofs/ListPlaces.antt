@@ -2,7 +2,7 @@
 use Rattle.std.proofs.Common.{◌≡◌, ◌==◌, ℕ, ◌+◌, ◌-◌, ◌<◌, ◌≤◌, Bool, true, false, if◌then◌else◌, List, [], ◌∷◌, ◌++◌, length, take, drop, get_or, Option, Some, None, Result, Ok, Err, refl, sym, ap, subst, ◌∙◌, arith, length-append, ⊎_elim}
 use Rattle.std.proofs.lemmas.Bool.{cases_lt}
 use Rattle.std.proofs.lemmas.Bool.Decides.{nat_tests}
-use Rattle.std.proofs.lemmas.List.{length-drop, get_or-drop, get_or-append_left, append_cancel_left}
+use Rattle.std.proofs.lemmas.List.{length-drop, get_or-drop, get_or_append_left, append_cancel_left}
 use Rattle.std.proofs.lemmas.Str.{IsCharBoundary-at_seam, encodes-chars}
 use Rattle.std.specs.Option.{option_map}
 use Rattle.std.specs.Str.{chars, trim_start, skip_leading_whitespace, encode_utf8_all, IsUtf8, IsCharBoundary}
@@ -91,7 +91,7 @@ module _ (line rest : List ℕ) where
       (omega (arith, l, within), λ less big.
         ⊎_elim
         (λ (inside : i < length line).
-            let same = get_or-append_left line rest i 0 inside in
+            let same = get_or_append_left line rest i 0 inside in
             let b = h.1 inside (omega (arith, same, big)) in
             omega (arith, same, b))
         (λ (past : length line ≤ i).

@@ -4,6 +4,7 @@
 mod archive;
 mod cuts;
 mod extras;
+mod list;
 mod look;
 mod message;
 mod name;

@@ -76,6 +76,7 @@ fn refuse_nameless<'a>(alloc: Global, start: Cursor<'a>, vars: &Vars) -> Refusal
 }
 
 /// The name of a package, in normal form.
+#[tactic(auto, unfolding(pep508_name::specs::Name::name_of))]
 pub(crate) fn package_name<'a>(alloc: Global, name: &str) -> Result<PackageName, Refusal<'a>>
     requires { IsTrue (is_name name.now) }
     ensures { MatchResult result (λ normal. normal ≡ normal_name name.now) (λ refusal. refusal.kind ≡ Memory) }

@@ -82,3 +82,11 @@ pub(crate) fn refuse_between<'a>(start: Cursor<'a>, end: Cursor<'a>, kind: Refus
 {
     start.refuse(end.position() - start.position(), kind)
 }
+
+/// The refusal of nothing, at a place.
+pub(crate) fn refuse_none<'a>(place: Cursor<'a>, kind: RefusalKind) -> Refusal<'a>
+    ensures kind { result.kind ≡ kind }
+    ensures of { IsOf place.entry result }
+{
+    refuse_between(place, place, kind)
+}

@@ -114,7 +114,7 @@ fn is_end(depth: usize, text: &str) -> bool
 }
 
 /// The white space at the front, and what follows it.
-fn split_blanks(text: &str) -> (&str, &str)
+pub(crate) fn split_blanks(text: &str) -> (&str, &str)
     ensures { AreBlanks text.now result.0.now result.1.now }
 {
     let behind = text.trim_start();
