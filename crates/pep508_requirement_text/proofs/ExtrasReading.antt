@@ -4,7 +4,7 @@ use Rattle.std.specs.Prelude.{option_map, option_and_then}
 use Rattle.std.specs.Option.{ok_or}
 use Rattle.std.specs.List.{slice_split}
 use Rattle.std.specs.Str.{trim}
-use Rattle.std.proofs.lemmas.List.{take-append-drop, take_more, drop_more}
+use Rattle.std.proofs.lemmas.List.{take-append-drop, take_more, take_all, drop_more}
 use Rattle.pep508_name.specs.Name.{name_of, name_reading}
 use Rattle.pep508_requirement_text.specs.UrlEnds.{begins_with}
 use Rattle.pep508_requirement_text.specs.FrontReading.{Refused, names_of, with_name, extras_at, extras_of, cut_around, bracketed, if_there, ◌>>=◌}
@@ -92,6 +92,11 @@ pub read_none : (inside : List ℕ) (count : ℕ) (piece : List ℕ) → IsPiece
 read_none inside count piece at e =
     ap names_of (split_next (pieces_of inside) count piece at.0 at.1)
     ∙ names_none (take count (pieces_of inside)) (drop (count + 1) (pieces_of inside)) piece e
+
+pub all_read : (inside : List ℕ) (count : ℕ) (names : List (List ℕ)) → AreRead inside count names
+    → count ≡ length (pieces_of inside) → Some names ≡ names_of (pieces_of inside)
+all_read inside count names h e =
+    sym h.read ∙ ap names_of (take_all count (pieces_of inside) (omega (arith, e)))
 
 -- ---- one name
 

@@ -4,3 +4,4 @@ pub mod UrlLoops
 pub mod Outcomes
 pub mod ExtrasReading
 pub mod ListPlaces
+pub mod FrontParts

@@ -91,7 +91,7 @@ module _ (line rest : List ℕ) where
       (omega (arith, l, within), λ less big.
         ⊎_elim
         (λ (inside : i < length line).
-            let same = get_or_append_left line rest i 0 inside in
+            let same = get_or_append_left line rest 0 i inside in
             let b = h.1 inside (omega (arith, same, big)) in
             omega (arith, same, b))
         (λ (past : length line ≤ i).

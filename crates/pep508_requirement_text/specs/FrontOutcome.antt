@@ -9,8 +9,7 @@ use Rattle.pep508_error.specs.declared.refusal.Refusal.{Refusal}
 use Rattle.pep508_error.specs.declared.refusal.RefusalKind.{RefusalKind}
 use Rattle.pep508_error.specs.declared.refusal.RefusalKind.TheVariants.{Memory, String, UnsupportedRequirement, NumberAtEnd}
 use Rattle.pep508_error.specs.Cursors.{rest_of, IsBehind}
-use Rattle.pep508_requirement_text.specs.FrontReading.{Refused, Source}
-use Rattle.pep508_requirement_text.specs.FrontReading.Source.{Specifiers}
+use Rattle.pep508_requirement_text.specs.FrontReading.{Refused}
 use Rattle.pep508_requirement_text.specs.FrontReading.Refused.{Malformed, Nameless, Archive}
 use Rattle.pep508_requirement_text.specs.Unnamed.{LooksUnnamed}
 
@@ -62,12 +61,6 @@ pub record IsAt (cursor : Cursor) (text : List ℕ) : Type 0 where
 abbrev pub ReadsSpecifiers : Result (List SpecifierRecord) Refusal → Result (List SpecifierRecord) Refused → Type 0
 ReadsSpecifiers (Ok list) reading = (given : List SpecifierRecord) × (reading ≡ Ok given) × IsInOrder given list
 ReadsSpecifiers (Err refusal) reading = (vars : Variables) → Tells vars refusal.kind reading
-
--- the same of specifiers and the place behind them
-abbrev pub ReadsList : Result (List SpecifierRecord × Cursor) Refusal → Result (Source × List ℕ) Refused → Type 0
-ReadsList (Ok found) reading =
-    (given : List SpecifierRecord) × (reading ≡ Ok (Specifiers given, behind found.1)) × IsInOrder given found.0
-ReadsList (Err refusal) reading = (vars : Variables) → Tells vars refusal.kind reading
 
 -- a refusal is of the text of the place, unless it is want of memory
 abbrev pub IsOf : Cursor → Refusal → Type 0

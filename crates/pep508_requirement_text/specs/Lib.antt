@@ -5,3 +5,4 @@ pub mod FrontReading
 pub mod FrontText
 pub mod UrlTurns
 pub mod FrontOutcome
+pub mod FrontFound

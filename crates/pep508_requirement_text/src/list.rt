@@ -1,14 +1,17 @@
 //! Reading specifiers.
 
-ghost use Rattle.std.specs.Prelude.{◌≡◌, ◌==◌, IfErr};
+ghost use Rattle.std.specs.Prelude.{◌≡◌, ◌==◌, IfOk, IfErr};
 ghost use Rattle.std.specs.Str.{trim_start};
 ghost use Rattle.std.specs.String.{string_bytes};
 ghost use Rattle.pep508_error.specs.Cursors.{IsBehind};
-ghost use Rattle.pep508_requirement_text.specs.FrontReading.{◌>>=◌, specifiers_of_text, cut_before, cut_around, enclosed, if_there, listed};
-ghost use Rattle.pep508_requirement_text.specs.FrontOutcome.{behind, IsAt, ReadsSpecifiers, ReadsList, StaysIn, IsPlain, IsOf};
+ghost use Rattle.pep508_requirement_text.specs.FrontReading.{specifiers_of_text, cut_before, listed};
+ghost use Rattle.pep508_url.specs.Vars.{Variables};
+ghost use Rattle.pep508_requirement_text.specs.FrontFound.{ReadsAs, IsSource, IsUrlIn, enclosed_at};
+ghost use Rattle.pep508_requirement_text.specs.FrontOutcome.{behind, IsAt, ReadsSpecifiers, StaysIn, IsPlain, IsOf};
 
 use crate::message::plain;
 use crate::place::{cut_around, cut_before, pass, refuse_none};
+use crate::source::Source;
 use crate::url_end::split_blanks;
 use pep440_specifier::VersionSpecifierParseError;
 use pep440_specifier_list::{RefusedPiece, VersionSpecifiers, VersionSpecifiersParseError};
@@ -19,12 +22,15 @@ use std::alloc::Global;
 pub(crate) fn read_open<'a>(
     alloc: Global,
     start: Cursor<'a>,
-) -> Result<(VersionSpecifiers, Cursor<'a>), Refusal<'a>>
-    ensures read { ReadsList result (listed (cut_before (λ c. c == 59) (behind start.entry))) }
+) -> Result<(Source<'a>, Cursor<'a>), Refusal<'a>>
+    ensures read { (vars : Variables) → ReadsAs vars IsSource result
+        (listed (cut_before (λ c. c == 59) (behind start.entry))) }
     ensures stays { StaysIn start.entry (λ found. found.1) result }
+    ensures url { IfOk result (λ found. IsUrlIn start.entry found.0) }
 {
     let (text, later) = cut_before(start, ';');
-    Ok((read_specifiers(alloc, start, text)?, later))
+    let list = read_specifiers(alloc, start, text)?;
+    Ok((Source::Specifiers(list), later))
 }
 
 /// The list in brackets behind the opening one, and the place behind the closing one.
@@ -32,13 +38,17 @@ pub(crate) fn read_enclosed<'a>(
     alloc: Global,
     opening: Cursor<'a>,
     inner: Cursor<'a>,
-) -> Result<(VersionSpecifiers, Cursor<'a>), Refusal<'a>>
+) -> Result<(Source<'a>, Cursor<'a>), Refusal<'a>>
     requires { IsBehind opening inner }
-    ensures read { ReadsList result (if_there (cut_around 41 (behind inner.entry)) >>= enclosed) }
+    ensures read { (vars : Variables) → ReadsAs vars IsSource result (enclosed_at (behind inner.entry)) }
     ensures stays { StaysIn opening.entry (λ found. found.1) result }
+    ensures url { IfOk result (λ found. IsUrlIn opening.entry found.0) }
 {
     match cut_around(inner, ')') {
-        Some((text, later)) => Ok((read_trimmed(alloc, inner, text)?, later)),
+        Some((text, later)) => {
+            let list = read_trimmed(alloc, inner, text)?;
+            Ok((Source::Specifiers(list), later))
+        }
         None => Err(refuse_unclosed(alloc, opening, inner)),
     }
 }
