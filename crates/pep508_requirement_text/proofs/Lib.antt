@@ -5,3 +5,4 @@ pub mod Outcomes
 pub mod ExtrasReading
 pub mod ListPlaces
 pub mod FrontParts
+pub mod SourceCases

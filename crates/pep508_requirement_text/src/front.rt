@@ -1,6 +1,6 @@
 //! Reading the front of a requirement.
 
-ghost use Rattle.std.specs.Prelude.{false, IfOk};
+ghost use Rattle.std.specs.Prelude.{◌≡◌, false, IfOk};
 ghost use Rattle.pep508_url.specs.Vars.{Variables};
 ghost use Rattle.pep508_error.specs.Cursors.{rest_of, IsBehind};
 ghost use Rattle.std.specs.Str.{skip_leading_whitespace};

@@ -1,7 +1,7 @@
 //! Cutting the text of a URL off.
 
 ghost use Rattle.std.specs.Prelude.{◌≡◌};
-ghost use Rattle.std.specs.Str.{chars};
+ghost use Rattle.std.specs.Str.{chars, IsUtf8};
 ghost use Rattle.pep508_error.specs.Cursors.{IsBehind};
 ghost use Rattle.pep508_requirement_text.specs.UrlEnds.{url_split};
 ghost use Rattle.pep508_requirement_text.specs.FrontOutcome.{behind};
@@ -14,6 +14,7 @@ use pep508_error::Cursor;
 /// The URL at a place, and the place behind it.
 pub(crate) fn cut_url<'a>(start: Cursor<'a>, brackets: bool) -> (UrlPiece<'a>, Cursor<'a>)
     ensures parts { (chars result.0.text.now, behind result.1) ≡ url_split brackets 0 (behind start.entry) }
+    ensures utf8 { IsUtf8 result.0.text.now }
     ensures start { result.0.start.input.now ≡ start.entry.input.now }
     ensures later { IsBehind start.entry result.1 }
 {
