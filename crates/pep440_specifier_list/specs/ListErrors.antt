@@ -1,7 +1,9 @@
 -- The text of which an error speaks, and what it prints.
-use Rattle.std.specs.Prelude.{ℕ, List, [], ◌++◌, codes}
+use Rattle.std.specs.Prelude.{ℕ, ◌-◌, List, [], ◌∷◌, ◌++◌, take, drop, codes}
 use Rattle.std.specs.String.{string_bytes}
+use Rattle.underline.specs.Underline.{columns, underlined}
 use Rattle.pep440_specifier.specs.SpecifierErrorPrints.{specifier_error_text}
+use Rattle.pep440_specifier_list.specs.declared.refused_piece.RefusedPiece.{RefusedPiece}
 use Rattle.pep440_specifier_list.specs.declared.parse_error.VersionSpecifiersParseError.{VersionSpecifiersParseError}
 use Rattle.pep440_specifier_list.specs.declared.parse_error.VersionSpecifiersParseError.TheVariants.{Memory}
 use Rattle.pep440_specifier_list.specs.declared.parse_error.VersionSpecifiersParseError.TheVariants.{Specifier}
@@ -11,7 +13,18 @@ abbrev pub line_of : VersionSpecifiersParseError → List ℕ
 line_of Memory = []
 line_of (Specifier piece) = string_bytes piece.line
 
--- the print of why a text is no list: that of its first piece that is no specifier
+-- the columns of a piece of a line
+abbrev pub piece_columns : List ℕ → ℕ → ℕ → ℕ
+piece_columns line start end = columns (take (end - start) (drop start line))
+
+-- the line, and under the piece a mark for each of its columns
+abbrev pub piece_picture : RefusedPiece → List ℕ
+piece_picture piece =
+    underlined (string_bytes piece.line) (columns (take piece.start (string_bytes piece.line)))
+    (piece_columns (string_bytes piece.line) piece.start piece.end)
+
+-- the print of why a text is no list: that of its first piece that is no specifier, and that piece underlined
 abbrev pub error_text : VersionSpecifiersParseError → List ℕ
 error_text Memory = codes "out of memory"
-error_text (Specifier piece) = codes "Failed to parse version: " ++ specifier_error_text piece.error
+error_text (Specifier piece) =
+    codes "Failed to parse version: " ++ (specifier_error_text piece.error ++ (codes ":\n" ++ piece_picture piece))

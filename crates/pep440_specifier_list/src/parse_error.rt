@@ -59,7 +59,8 @@ impl fmt::Display for VersionSpecifiersParseError {
             VersionSpecifiersParseError::Memory => write!(f, "out of memory"),
             VersionSpecifiersParseError::Specifier(piece) => {
                 let error = piece.error();
-                write!(f, "Failed to parse version: {error}")
+                let picture = piece.underlined();
+                write!(f, "Failed to parse version: {error}:\n{picture}")
             }
         }
     }

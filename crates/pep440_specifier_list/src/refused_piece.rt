@@ -1,10 +1,10 @@
 //! The piece of a text for which the text is no list.
 
-ghost use Rattle.std.specs.Prelude.{◌≡◌, ◌-◌, take, drop};
 ghost use Rattle.std.specs.String.{string_bytes};
 ghost use Rattle.pep440_specifier_list.specs.Places.{IsPlaced};
 
 use pep440_specifier::VersionSpecifierParseError;
+use underline::{Underlined, columns};
 
 /// The first piece between commas of a text that is no specifier: what is wrong with it, and where it stands
 /// in the text.
@@ -18,6 +18,12 @@ pub struct RefusedPiece {
 }
 
 impl RefusedPiece {
+    ghost use Rattle.std.specs.Prelude.{◌≡◌, ◌-◌, take, drop};
+    ghost use Rattle.std.specs.String.{string_bytes};
+    ghost use Rattle.underline.specs.Underline.{columns};
+    ghost use Rattle.pep440_specifier_list.specs.Places.{IsPlaced};
+    ghost use Rattle.pep440_specifier_list.specs.ListErrors.{piece_columns};
+
     /// What is wrong with the piece; never want of memory.
     pub fn error(&self) -> &VersionSpecifierParseError
         ensures { result.now ≡ self.now.error }
@@ -54,5 +60,18 @@ impl RefusedPiece {
             ≡ take (self.now.end - self.now.start) (drop self.now.start (string_bytes self.now.line)) }
     {
         &self.line.as_str()[self.start..self.end]
+    }
+
+    /// The whole text with the piece underlined. Takes no memory.
+    pub fn underlined(&self) -> Underlined<'_>
+        ensures text { result.text.now ≡ string_bytes self.now.line }
+        ensures blanks { result.blanks ≡ columns (take self.now.start (string_bytes self.now.line)) }
+        ensures marks { result.marks ≡ piece_columns (string_bytes self.now.line) self.now.start self.now.end }
+    {
+        Underlined {
+            text: self.line(),
+            blanks: columns(&self.line()[..self.start]),
+            marks: columns(self.piece()),
+        }
     }
 }

@@ -9,3 +9,11 @@ pub mod Lists
 pub mod Sources
 pub mod Found
 pub mod Again
+pub mod Fronts
+pub mod Looks
+pub mod UrlLoops
+pub mod Outcomes
+pub mod ExtrasReading
+pub mod ListPlaces
+pub mod FrontParts
+pub mod SourceCases

@@ -1,0 +1,19 @@
+-- Places in a text.
+use Rattle.std.specs.Prelude.{◌≡◌, ℕ, ◌≤◌, List, drop, chars}
+use Rattle.std.specs.Char.{len_utf8}
+use Rattle.std.specs.List.{slice_get}
+use Rattle.std.specs.Option.{option_map_or}
+use Rattle.pep508_error.specs.declared.cursor.Cursor.{Cursor}
+
+-- what follows the place
+abbrev pub rest_of : Cursor → List ℕ
+rest_of cursor = drop cursor.position cursor.input.now
+
+-- how many bytes the first character of a text has; 1 for the place at its end
+abbrev pub first_len : List ℕ → ℕ
+first_len text = option_map_or len_utf8 (slice_get (chars text) 0) 1
+
+-- the place is in the same text, at the other or behind it
+pub record IsBehind (earlier later : Cursor) : Type 0 where
+  pub input : later.input.now ≡ earlier.input.now
+  pub ordered : earlier.position ≤ later.position

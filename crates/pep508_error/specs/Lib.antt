@@ -1,0 +1,4 @@
+pub mod Spans
+pub mod Cursors
+pub mod Refusals
+pub mod Errors

@@ -1,0 +1,12 @@
+//! What the readers of requirements share (PEP 508): a place in a text, why a reader stops there, and the error that
+//! shows it.
+#![tactic(auto)]
+
+mod cursor;
+mod error;
+mod excerpt;
+mod refusal;
+
+pub use cursor::Cursor;
+pub use error::{Pep508Error, Pep508ErrorSource};
+pub use refusal::{Refusal, RefusalKind};
