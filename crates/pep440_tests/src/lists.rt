@@ -160,28 +160,28 @@ fn names_the_first_fault(rt: HostRuntime) -> Result<(), Fail> {
             "",
             4,
             4,
-            "Failed to parse version: Unexpected end of version specifier, expected operator",
+            "Failed to parse version: Unexpected end of version specifier, expected operator:\n>=1,\n    ",
         ),
         (
             ">=1, == ,1",
             " == ",
             4,
             8,
-            "Failed to parse version: Unexpected end of version specifier, expected version",
+            "Failed to parse version: Unexpected end of version specifier, expected version:\n>=1, == ,1\n    ^^^^",
         ),
         (
             "é,>=1",
             "é",
             0,
             2,
-            "Failed to parse version: Unexpected end of version specifier, expected operator",
+            "Failed to parse version: Unexpected end of version specifier, expected operator:\né,>=1\n^",
         ),
         (
             ">=1,<2.x",
             "<2.x",
             4,
             8,
-            "Failed to parse version: after parsing `2`, found `.x`, which is not part of a valid version",
+            "Failed to parse version: after parsing `2`, found `.x`, which is not part of a valid version:\n>=1,<2.x\n    ^^^^",
         ),
     ] {
         match VersionSpecifiers::from_str(alloc, text) {

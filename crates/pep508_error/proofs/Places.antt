@@ -16,12 +16,12 @@ end_begins : (n : ℕ) (text : List ℕ) → drop (length text - length (drop n 
 end_begins n text =
     ⊎_elim
     (λ (over : length text < n).
-        let none : drop n text ≡ [] = drop_of_length-le text (omega (arith, over)) in
-        let all : length text - length (drop n text) ≡ length text = omega (arith, ap length none) in
-        ap (λ k. drop k text) all ∙ drop-length text ∙ sym none)
+    let none : drop n text ≡ [] = drop_of_length-le text (omega (arith, over)) in
+    let all : length text - length (drop n text) ≡ length text = omega (arith, ap length none) in
+    ap (λ k. drop k text) all ∙ drop-length text ∙ sym none)
     (λ (within : n ≤ length text).
-        let at : length text - length (drop n text) ≡ n = omega (arith, within, length-drop n text) in
-        ap (λ k. drop k text) at)
+    let at : length text - length (drop n text) ≡ n = omega (arith, within, length-drop n text) in
+    ap (λ k. drop k text) at)
     (cases_lt (length text) n)
 
 skipped_scalars : (cs : List ℕ) → all_scalars cs ≡ true → all_scalars (skip_leading_whitespace cs) ≡ true
