@@ -1,3 +1,4 @@
 pub mod Asked
+pub mod Origins
 pub mod Requirements
 pub mod UnnamedUrls

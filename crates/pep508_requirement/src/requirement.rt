@@ -1,8 +1,9 @@
 //! Requirements.
 
-ghost use Rattle.std.specs.Prelude.{◌≡◌, Some};
-ghost use Rattle.pep508_requirement.specs.Requirements.{without_url};
+ghost use Rattle.std.specs.Prelude.{◌≡◌, Some, IfOk};
+ghost use Rattle.pep508_requirement.specs.Requirements.{without_url, IsCopy};
 
+use crate::extras::copy_names;
 use crate::{RequirementOrigin, VersionOrUrl};
 use pep508_name::{ExtraName, PackageName};
 use pep508_tree::MarkerTree;
@@ -42,5 +43,28 @@ impl<T: Pep508Url> Requirement<T> {
             origin: Some(origin),
             ..self
         }
+    }
+}
+
+impl Requirement<VerbatimUrl> {
+    /// A copy, in memory of its own.
+    pub fn try_clone(&self, alloc: Global) -> Result<Self, AllocError>
+        ensures { IfOk result (λ copy. IsCopy copy self.now) }
+    {
+        let version_or_url = match &self.version_or_url {
+            None => None,
+            Some(wanted) => Some(wanted.try_clone(alloc)?),
+        };
+        let origin = match &self.origin {
+            None => None,
+            Some(origin) => Some(origin.try_clone(alloc)?),
+        };
+        Ok(Requirement {
+            name: self.name.try_clone(alloc)?,
+            extras: copy_names(alloc, &self.extras)?,
+            version_or_url,
+            marker: self.marker,
+            origin,
+        })
     }
 }

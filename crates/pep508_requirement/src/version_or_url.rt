@@ -2,7 +2,7 @@
 
 use pep440_rs::VersionSpecifiers;
 use pep508_url::{Pep508Url, VerbatimUrl};
-use std::alloc::AllocError;
+use std::alloc::{AllocError, Global};
 use std::fmt;
 
 /// The specifiers that a requirement's version has to meet, or the URL that it is to be had from.
@@ -10,6 +10,20 @@ use std::fmt;
 pub enum VersionOrUrl<T: Pep508Url = VerbatimUrl> {
     VersionSpecifier(VersionSpecifiers),
     Url(T),
+}
+
+impl VersionOrUrl<VerbatimUrl> {
+    ghost use Rattle.std.specs.Prelude.{◌≡◌, IfOk};
+
+    /// A copy, in memory of its own.
+    pub fn try_clone(&self, alloc: Global) -> Result<Self, AllocError>
+        ensures { IfOk result (λ copy. copy ≡ self.now) }
+    {
+        match self {
+            VersionOrUrl::VersionSpecifier(list) => Ok(VersionOrUrl::VersionSpecifier(list.try_clone(alloc)?)),
+            VersionOrUrl::Url(url) => Ok(VersionOrUrl::Url(url.try_clone(alloc)?)),
+        }
+    }
 }
 
 /// The same, lent.
