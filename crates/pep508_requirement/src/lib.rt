@@ -4,6 +4,7 @@
 
 mod extras;
 mod origin;
+mod reading;
 mod requirement;
 mod unnamed;
 mod unnamed_url;
