@@ -209,19 +209,19 @@ fn prints_faults(rt: HostRuntime) -> Result<(), Fail> {
     for (text, print) in [
         (
             ">=1,",
-            "Failed to parse version: Unexpected end of version specifier, expected operator",
+            "Failed to parse version: Unexpected end of version specifier, expected operator:\n>=1,\n    ",
         ),
         (
             ">=1, == ,1",
-            "Failed to parse version: Unexpected end of version specifier, expected version",
+            "Failed to parse version: Unexpected end of version specifier, expected version:\n>=1, == ,1\n    ^^^^",
         ),
         (
             "é,>=1",
-            "Failed to parse version: Unexpected end of version specifier, expected operator",
+            "Failed to parse version: Unexpected end of version specifier, expected operator:\né,>=1\n^",
         ),
         (
             ">=1,<2.x",
-            "Failed to parse version: after parsing `2`, found `.x`, which is not part of a valid version",
+            "Failed to parse version: after parsing `2`, found `.x`, which is not part of a valid version:\n>=1,<2.x\n    ^^^^",
         ),
     ] {
         assert_eq!(rt; fault_print(rt.alloc(), text)?.as_str(), print);

@@ -1,12 +1,12 @@
 -- Where the characters of a text begin.
-use Rattle.std.proofs.Common.{◌≡◌, ℕ, ◌+◌, ◌-◌, ◌<◌, ◌≤◌, ◌&&◌, Bool, true, false, cond, List, [], ◌∷◌, ◌++◌, length, drop, refl, sym, ap, subst, ◌∙◌, arith, chars, Option, Some, None, MatchOption, IfSome, IfNone, zero-add, ⊎_elim}
+use Rattle.std.proofs.Common.{◌≡◌, ℕ, ◌+◌, ◌-◌, ◌<◌, ◌≤◌, true, false, cond, List, [], ◌∷◌, ◌++◌, length, take, drop, append_assoc, length-append, refl, sym, ap, subst, ◌∙◌, arith, chars, Option, Some, None, MatchOption, IfSome, IfNone, zero-add, ⊎_elim}
 use Rattle.std.proofs.lemmas.Bool.{cases_lt, and_parts}
-use Rattle.std.proofs.lemmas.List.{drop-drop, length-drop}
-use Rattle.std.proofs.Math.Seq.{drop-length}
+use Rattle.std.proofs.lemmas.List.{drop-drop, length-drop, length-take-le, take-append-drop}
+use Rattle.std.proofs.Math.Seq.{drop-length, drop-append_seam}
 use Rattle.std.proofs.Math.ListN.{drop_of_length-le}
-use Rattle.std.proofs.lemmas.Str.{encodes-chars, scalars-chars, chars-encodes, chars-nil, IsCharBoundary-from_drop, IsCharBoundary-past_char, chars_past_char, drop_past_char}
-use Rattle.std.specs.Char.{is_whitespace, encode_utf8, len_utf8}
-use Rattle.std.specs.Str.{IsUtf8, IsCharBoundary, IsTrimStart, trim_start, all_scalars, skip_leading_whitespace, encode_utf8_all}
+use Rattle.std.proofs.lemmas.Str.{scalars-chars, chars-encodes, chars-nil, IsCharBoundary-from_drop, IsCharBoundary-past_char, chars_past_char, drop_past_char, length-encode, IsUtf8-append, IsUtf8-encode, IsUtf8-drop, IsCharBoundary-at_seam}
+use Rattle.std.specs.Char.{is_whitespace, encode_utf8, len_utf8, IsScalar}
+use Rattle.std.specs.Str.{IsUtf8, IsCharBoundary, IsTrimStart, trim_start, all_scalars, skip_leading_whitespace}
 use Rattle.pep508_error.specs.Spans.{IsSpan}
 
 -- ---- behind white space
@@ -16,12 +16,12 @@ end_begins : (n : ℕ) (text : List ℕ) → drop (length text - length (drop n 
 end_begins n text =
     ⊎_elim
     (λ (over : length text < n).
-        let none : drop n text ≡ [] = drop_of_length-le text (omega (arith, over)) in
-        let all : length text - length (drop n text) ≡ length text = omega (arith, ap length none) in
-        ap (λ k. drop k text) all ∙ drop-length text ∙ sym none)
+    let none : drop n text ≡ [] = drop_of_length-le text (omega (arith, over)) in
+    let all : length text - length (drop n text) ≡ length text = omega (arith, ap length none) in
+    ap (λ k. drop k text) all ∙ drop-length text ∙ sym none)
     (λ (within : n ≤ length text).
-        let at : length text - length (drop n text) ≡ n = omega (arith, within, length-drop n text) in
-        ap (λ k. drop k text) at)
+    let at : length text - length (drop n text) ≡ n = omega (arith, within, length-drop n text) in
+    ap (λ k. drop k text) at)
     (cases_lt (length text) n)
 
 skipped_scalars : (cs : List ℕ) → all_scalars cs ≡ true → all_scalars (skip_leading_whitespace cs) ≡ true
@@ -100,3 +100,36 @@ end_span input position between none =
       ends = λ h. absurd (omega (arith, left, h));
       behind = λ e. omega arith;
     }
+
+-- ---- the last character before a place
+
+module _ (input front earlier : List ℕ) (position c : ℕ) where
+  -- the text from that character on
+  from_last : front ≡ take position input → front ≡ earlier ++ encode_utf8 c
+      → input ≡ earlier ++ (encode_utf8 c ++ drop position input)
+  from_last cut last =
+      sym (take-append-drop position input) ∙ ap (λ text. text ++ drop position input) (sym cut ∙ last)
+      ∙ append_assoc earlier (encode_utf8 c) (drop position input)
+
+  earlier_len : front ≡ take position input → front ≡ earlier ++ encode_utf8 c → position ≤ length input
+      → position - len_utf8 c ≡ length earlier
+  earlier_len cut last within =
+      let whole : length earlier + len_utf8 c ≡ position =
+      (let parts = length-append earlier (encode_utf8 c) in
+      omega (arith, parts, length-encode c, ap length last, ap length cut, length-take-le position input within)) in
+      omega (arith, whole)
+
+  pub before_boundary : front ≡ take position input → front ≡ earlier ++ encode_utf8 c → IsUtf8 input
+      → IsCharBoundary input position → IsScalar c → IsCharBoundary input (position - len_utf8 c)
+  before_boundary cut last u between scalar =
+      subst (IsCharBoundary input) (sym (earlier_len cut last between.0))
+      (IsCharBoundary-at_seam input earlier (encode_utf8 c ++ drop position input) (from_last cut last)
+      (IsUtf8-append (encode_utf8 c) (drop position input) (IsUtf8-encode c scalar)
+      (IsUtf8-drop input position u between)))
+
+  pub before_rest : front ≡ take position input → front ≡ earlier ++ encode_utf8 c → position ≤ length input
+      → drop (position - len_utf8 c) input ≡ encode_utf8 c ++ drop position input
+  before_rest cut last within =
+      ap (λ n. drop n input) (earlier_len cut last within)
+      ∙ ap (drop (length earlier)) (from_last cut last)
+      ∙ drop-append_seam earlier (encode_utf8 c ++ drop position input)

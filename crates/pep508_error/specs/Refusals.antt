@@ -1,8 +1,7 @@
 -- Why a reader stops.
-use Rattle.std.specs.Prelude.{◌≡◌, ℕ, List, Option, Some, None}
+use Rattle.std.specs.Prelude.{◌≡◌, ℕ, List}
 use Rattle.pep508_error.specs.declared.refusal.Refusal.{Refusal}
 use Rattle.pep508_error.specs.declared.refusal.RefusalKind.{RefusalKind}
-use Rattle.pep508_error.specs.declared.refusal.RefusalKind.TheVariants.{Memory, String, UnsupportedRequirement, NumberAtEnd}
 
 -- this is said of so many bytes of a text, from a place on
 pub record Refuses (refusal : Refusal) (kind : RefusalKind) (input : List ℕ) (start len : ℕ) : Type 0 where

@@ -13,7 +13,7 @@ pub struct Cursor<'a> {
 }
 
 impl<'a> Cursor<'a> {
-    ghost use Rattle.std.specs.Prelude.{◌≡◌, ◌∷◌, [], length, drop, chars, IfNone, IfSome, MatchOption};
+    ghost use Rattle.std.specs.Prelude.{◌≡◌, ℕ, ◌∷◌, ◌++◌, [], length, drop, chars, encode_utf8, IfNone, IfSome, MatchOption};
     ghost use Rattle.std.specs.Str.{skip_leading_whitespace, IsCharBoundary};
     ghost use Rattle.std.specs.Char.{len_utf8};
     ghost use Rattle.pep508_error.specs.Cursors.{rest_of, first_len, IsBehind};
@@ -91,6 +91,20 @@ impl<'a> Cursor<'a> {
     {
         let first = self.peek()?;
         Some((first, self.after(first.len_utf8())))
+    }
+
+    /// The place before the character that stands before this one, unless this is the text's beginning.
+    pub fn before(self) -> Option<Cursor<'a>>
+        ensures cases { MatchOption result (self.entry.position ≡ 0)
+            (λ earlier. (c : ℕ) × (rest_of earlier ≡ encode_utf8 c ++ rest_of self.entry)) }
+        ensures behind { IfSome result (λ earlier. IsBehind earlier self.entry) }
+    {
+        let input = self.input();
+        let last = input[..self.position].chars().next_back()?;
+        Some(Cursor {
+            input,
+            position: self.position - last.len_utf8(),
+        })
     }
 
     /// The refusal of so many bytes that follow, which end between characters.

@@ -36,10 +36,10 @@ pub counted_more : (text rest later : List ℕ) (total c : ℕ) → IsCounted te
 counted_more text rest later total c counted at = record {
   utf8 = IsUtf8-past_char rest later c counted.utf8 at;
   counts =
-    ap (fold (λ n d. n + char_columns d) total) (sym (chars_past_char rest later c counted.utf8 at)) ∙ counted.counts;
+      ap (fold (λ n d. n + char_columns d) total) (sym (chars_past_char rest later c counted.utf8 at)) ∙ counted.counts;
   fits =
-    (let before = counted.fits in
-    omega (arith, before, char_fits c, ap length at, length-append (encode_utf8 c) later, length-encode c));
+      (let before = counted.fits in
+      omega (arith, before, char_fits c, ap length at, length-append (encode_utf8 c) later, length-encode c));
 }
 
 pub counted_all : (text rest : List ℕ) (total : ℕ) → IsCounted text rest total → length rest ≡ 0 → total ≡ columns text

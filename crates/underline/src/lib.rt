@@ -37,7 +37,18 @@ impl fmt::Display for Underlined<'_> {
 
     fn fmt<W: fmt::Write>(&self, f: &mut fmt::Formatter<W>) -> fmt::Result {
         let text = self.text;
-        write!(f, "{text}\n{}{}", Repeated { mark: ' ', count: self.blanks }, Repeated { mark: '^', count: self.marks })
+        write!(
+            f,
+            "{text}\n{}{}",
+            Repeated {
+                mark: ' ',
+                count: self.blanks
+            },
+            Repeated {
+                mark: '^',
+                count: self.marks
+            }
+        )
     }
 }
 

@@ -1,0 +1,17 @@
+//! Requirements of Python packages (PEP 508): a name, extras, and specifiers or a URL; and requirements that a URL alone
+//! names.
+#![tactic(auto)]
+
+mod extras;
+mod origin;
+mod reading;
+mod requirement;
+mod unnamed;
+mod unnamed_url;
+mod version_or_url;
+
+pub use extras::Extras;
+pub use origin::RequirementOrigin;
+pub use requirement::Requirement;
+pub use unnamed::UnnamedRequirement;
+pub use version_or_url::{VersionOrUrl, VersionOrUrlRef};

@@ -1,0 +1,70 @@
+//! Requirements.
+
+ghost use Rattle.std.specs.Prelude.{◌≡◌, Some, IfOk};
+ghost use Rattle.pep508_requirement.specs.Requirements.{without_url, IsCopy};
+
+use crate::extras::copy_names;
+use crate::{RequirementOrigin, VersionOrUrl};
+use pep508_name::{ExtraName, PackageName};
+use pep508_tree::MarkerTree;
+use pep508_url::{Pep508Url, VerbatimUrl};
+use std::alloc::{AllocError, Global};
+
+/// A package that is wanted: its name and extras, the versions or the URL that will do, and for which environments
+/// (PEP 508).
+#[derive(Debug, PartialEq, Eq, Hash, Drop)]
+pub struct Requirement<T: Pep508Url = VerbatimUrl> {
+    pub name: PackageName,
+    /// In the order given.
+    pub extras: Vec<ExtraName>,
+    /// Nothing where any version will do.
+    pub version_or_url: Option<VersionOrUrl<T>>,
+    /// In the interner that the requirement was read with.
+    pub marker: MarkerTree,
+    /// The file or project that the requirement stands in, where that was told.
+    pub origin: Option<RequirementOrigin>,
+}
+
+impl<T: Pep508Url> Requirement<T> {
+    /// Takes the URL away, so that any version will do; specifiers stay. Takes no memory.
+    pub fn clear_url(&mut self)
+        ensures { self.new ≡ record self.old { version_or_url = without_url self.old.version_or_url } }
+    {
+        if let Some(VersionOrUrl::Url(_)) = &self.version_or_url {
+            self.version_or_url = None;
+        }
+    }
+
+    /// The requirement, with this origin in place of its own. Takes no memory.
+    pub fn with_origin(self, origin: RequirementOrigin) -> Self
+        ensures { result ≡ record self { origin = Some origin } }
+    {
+        Requirement {
+            origin: Some(origin),
+            ..self
+        }
+    }
+}
+
+impl Requirement<VerbatimUrl> {
+    /// A copy, in memory of its own.
+    pub fn try_clone(&self, alloc: Global) -> Result<Self, AllocError>
+        ensures { IfOk result (λ copy. IsCopy copy self.now) }
+    {
+        let version_or_url = match &self.version_or_url {
+            None => None,
+            Some(wanted) => Some(wanted.try_clone(alloc)?),
+        };
+        let origin = match &self.origin {
+            None => None,
+            Some(origin) => Some(origin.try_clone(alloc)?),
+        };
+        Ok(Requirement {
+            name: self.name.try_clone(alloc)?,
+            extras: copy_names(alloc, &self.extras)?,
+            version_or_url,
+            marker: self.marker,
+            origin,
+        })
+    }
+}

@@ -1,0 +1,32 @@
+//! Requirements without a name.
+
+ghost use Rattle.std.specs.Prelude.{◌≡◌, Some};
+
+use crate::RequirementOrigin;
+use pep508_name::ExtraName;
+use pep508_tree::MarkerTree;
+use pep508_url::{UnnamedRequirementUrl, VerbatimUrl};
+
+/// A package that is wanted, which a URL or a path alone names, as `pip` takes it beside PEP 508's requirements.
+#[derive(Debug, PartialEq, Eq, Hash, Drop)]
+pub struct UnnamedRequirement<Url: UnnamedRequirementUrl = VerbatimUrl> {
+    pub url: Url,
+    /// In the order given.
+    pub extras: Vec<ExtraName>,
+    /// In the interner that the requirement was read with.
+    pub marker: MarkerTree,
+    /// The file or project that the requirement stands in, where that was told.
+    pub origin: Option<RequirementOrigin>,
+}
+
+impl<Url: UnnamedRequirementUrl> UnnamedRequirement<Url> {
+    /// The requirement, with this origin in place of its own. Takes no memory.
+    pub fn with_origin(self, origin: RequirementOrigin) -> Self
+        ensures { result ≡ record self { origin = Some origin } }
+    {
+        UnnamedRequirement {
+            origin: Some(origin),
+            ..self
+        }
+    }
+}
