@@ -1,11 +1,10 @@
 -- Lists of specifiers: what refuses one, and where.
 use Rattle.std.proofs.Common.{◌≡◌, ◌==◌, ℕ, ◌+◌, ◌-◌, ◌<◌, ◌≤◌, Bool, true, false, if◌then◌else◌, List, [], ◌∷◌, ◌++◌, length, take, drop, get_or, Option, Some, None, Result, Ok, Err, refl, sym, ap, subst, ◌∙◌, arith, length-append, append_assoc, lit<, ⊎_elim}
 use Rattle.std.proofs.lemmas.Bool.{cases_lt}
-use Rattle.std.proofs.lemmas.Bool.Decides.{nat_tests}
 use Rattle.std.proofs.lemmas.List.{length-drop, get_or-drop, get_or_append_left, append_cancel_left, take-append-drop}
 use Rattle.std.proofs.lemmas.Str.{IsCharBoundary-at_seam, IsCharBoundary-before_ascii, IsUtf8-append, IsUtf8-drop, encodes-chars}
 use Rattle.std.specs.Option.{option_map}
-use Rattle.std.specs.Str.{chars, trim_start, skip_leading_whitespace, encode_utf8_all, IsUtf8, IsCharBoundary}
+use Rattle.std.specs.Str.{trim_start, encode_utf8_all, IsUtf8, IsCharBoundary}
 use Rattle.std.specs.String.{string_bytes}
 use Rattle.read_outcome.specs.Outcome.{Tells as TellsFault}
 use Rattle.pep440_specifier.specs.Matching.{SpecifierRecord}
@@ -20,7 +19,7 @@ use Rattle.pep508_url.specs.Vars.{Variables}
 use Rattle.pep508_error.specs.declared.cursor.Cursor.{Cursor}
 use Rattle.pep508_error.specs.declared.refusal.RefusalKind.{RefusalKind}
 use Rattle.pep508_error.specs.Cursors.{rest_of}
-use Rattle.pep508_requirement_text.specs.FrontReading.{Refused, Source, ◌>>=◌, if_list, specifiers_of_text, listed, enclosed, if_there, cut_around}
+use Rattle.pep508_requirement_text.specs.FrontReading.{Refused, ◌>>=◌, if_list, specifiers_of_text, listed, enclosed, if_there, cut_around}
 use Rattle.pep508_requirement_text.specs.FrontReading.Refused.{Malformed}
 use Rattle.pep508_requirement_text.specs.FrontReading.Source.{Specifiers}
 use Rattle.pep508_requirement_text.specs.FrontOutcome.{IsAt, Tells}
@@ -63,14 +62,23 @@ told_by : (piece : RefusedPiece) (text : List ℕ) (said : Option SpecifierFault
     → (option_map (fault_at (string_bytes piece.line) piece.start piece.end) said ≡ None → Specifier piece ≡ Memory)
     → Told piece text
 told_by piece text None h plain = absurd (let same : Specifier piece ≡ Memory = plain refl in cc)
-told_by piece text (Some f) h plain =
-    (fault_at (string_bytes piece.line) piece.start piece.end f, h,
-    fault_line text (fault_at (string_bytes piece.line) piece.start piece.end f) h)
+told_by piece text (Some f) h plain = (
+  fault_at (string_bytes piece.line) piece.start piece.end f,
+  h,
+  fault_line text (fault_at (string_bytes piece.line) piece.start piece.end f) h,
+)
 
 -- a refused piece is one of the text
-pub piece_told : (piece : RefusedPiece) (text : List ℕ) → TellsFault (told_list (Specifier piece)) (list_reading text)
+piece_told : (piece : RefusedPiece) (text : List ℕ) → TellsFault (told_list (Specifier piece)) (list_reading text)
     → TellsOrMemory (Specifier piece) → Told piece text
 piece_told piece text h plain = told_by piece text (told_specifier piece.error) h plain
+
+pub error_told : (error : VersionSpecifiersParseError) (piece : RefusedPiece) (text : List ℕ) → error ≡ Specifier piece
+    → TellsFault (told_list error) (list_reading text) → TellsOrMemory error → Told piece text
+error_told error piece text e h plain =
+    piece_told piece text
+    (subst (λ (x : VersionSpecifiersParseError). TellsFault (told_list x) (list_reading text)) e h)
+    (subst (λ (x : VersionSpecifiersParseError). TellsOrMemory x) e plain)
 
 -- ---- lists
 
@@ -96,19 +104,21 @@ module _ (line rest : List ℕ) where
   pub longer_boundary : (i : ℕ) → IsUtf8 rest → IsCharBoundary line i → IsCharBoundary (line ++ rest) i
   longer_boundary i u h =
       let l = length-append line rest in
-      let within = h.0 in
-      (omega (arith, l, within), λ less big.
-        ⊎_elim
-        (λ (inside : i < length line).
+      let within = h.0 in (
+        omega (arith, l, within),
+        λ less big.
+            ⊎_elim
+            (λ (inside : i < length line).
             let same = get_or_append_left line rest 0 i inside in
             let b = h.1 inside (omega (arith, same, big)) in
             omega (arith, same, b))
-        (λ (past : length line ≤ i).
+            (λ (past : length line ≤ i).
             let at : length line ≡ i = omega (arith, within, past) in
             let seam = IsCharBoundary-at_seam (line ++ rest) line rest refl u in
             let there : IsCharBoundary (line ++ rest) i = subst (IsCharBoundary (line ++ rest)) at seam in
             there.1 less big)
-        (cases_lt i (length line)))
+            (cases_lt i (length line)),
+      )
 
 pub boundary_behind : (text : List ℕ) (start end : ℕ) → start ≤ end → IsCharBoundary text end
     → IsCharBoundary (drop start text) (end - start)
@@ -117,9 +127,11 @@ boundary_behind text start end h at =
     let within = at.0 in
     let same = get_or-drop start text (end - start) 0 in
     let there : start + (end - start) ≡ end = omega (arith, h) in
-    let byte : get_or (drop start text) (end - start) 0 ≡ get_or text end 0 = same ∙ ap (λ n. get_or text n 0) there in
-    (omega (arith, l, within), λ less big.
-      let b = at.1 (omega (arith, l, less)) (omega (arith, byte, big)) in omega (arith, byte, b))
+    let byte : get_or (drop start text) (end - start) 0 ≡ get_or text end 0 = same ∙ ap (λ n. get_or text n 0) there in (
+      omega (arith, l, within),
+      λ less big.
+          let b = at.1 (omega (arith, l, less)) (omega (arith, byte, big)) in omega (arith, byte, b),
+    )
 
 -- ---- white space at the front
 

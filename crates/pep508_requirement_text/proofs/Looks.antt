@@ -1,5 +1,5 @@
 -- A text has one URL before the extras at its end.
-use Rattle.std.proofs.Common.{◌≡◌, ℕ, ◌+◌, ◌<◌, ◌↔◌, Bool, true, false, List, [], ◌∷◌, ◌++◌, length, get_or, ◌⊎◌, inl, inr, refl, ap, sym, subst, ◌∙◌, arith, append_assoc, length-append, IsTrue}
+use Rattle.std.proofs.Common.{◌≡◌, ℕ, Bool, false, List, [], ◌∷◌, ◌++◌, length, get_or, inl, inr, refl, ap, sym, subst, ◌∙◌, arith, append_assoc, length-append, IsTrue}
 use Rattle.std.proofs.Math.Seq.{get_or-append_seam}
 use Rattle.std.proofs.lemmas.List.{append_cancel_right}
 use Rattle.std.specs.Prelude.{All}
@@ -51,12 +51,14 @@ one_before text a b (inr s) (inr t) = s.0 ∙ sym t.0
 pub looks_are : (vars : Variables) (text full url : List ℕ) (answer : Bool) → full ≡ expanded vars text
     → IsBeforeExtras full url → answer ≡ looks_like_url url
     → (IsTrue answer → LooksUnnamed vars text) × (LooksUnnamed vars text → IsTrue answer)
-looks_are vars text full url answer e before is =
-    (λ h. record {
-      url = url;
-      before_extras = subst (λ (t : List ℕ). IsBeforeExtras t url) e before;
-      looks = subst IsTrue is h;
-    }, λ h.
+looks_are vars text full url answer e before is = (
+  λ h. record {
+    url = url;
+    before_extras = subst (λ (t : List ℕ). IsBeforeExtras t url) e before;
+    looks = subst IsTrue is h;
+  },
+  λ h.
       let same : h.url ≡ url =
       one_before (expanded vars text) h.url url h.before_extras (subst (λ (t : List ℕ). IsBeforeExtras t url) e before) in
-      subst IsTrue (ap looks_like_url same ∙ sym is) h.looks)
+      subst IsTrue (ap looks_like_url same ∙ sym is) h.looks,
+)

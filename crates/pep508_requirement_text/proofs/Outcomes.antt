@@ -1,5 +1,5 @@
 -- What refusals tell.
-use Rattle.std.proofs.Common.{◌≡◌, ℕ, Bool, true, false, List, [], ◌∷◌, ◌++◌, Option, Some, None, Result, Ok, Err, refl, sym, ap, subst, ◌∙◌}
+use Rattle.std.proofs.Common.{◌≡◌, ℕ, List, Result, Ok, Err, sym, ap, subst, ◌∙◌}
 use Rattle.pep508_url.specs.Vars.{Variables}
 use Rattle.pep508_error.specs.declared.cursor.Cursor.{Cursor}
 use Rattle.pep508_error.specs.declared.refusal.Refusal.{Refusal}

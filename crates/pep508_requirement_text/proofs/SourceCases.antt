@@ -1,9 +1,9 @@
 -- What follows a name, by its first character.
-use Rattle.std.proofs.Common.{◌≡◌, ◌≢◌, ◌==◌, ℕ, Bool, true, false, if◌then◌else◌, eqb, List, [], ◌∷◌, Result, Ok, Err, refl, sym, ap, subst, ◌∙◌, arith}
+use Rattle.std.proofs.Common.{◌≡◌, ◌≢◌, ℕ, Bool, true, false, if◌then◌else◌, eqb, List, ◌∷◌, Err, refl, sym, ap, ◌∙◌, arith}
 use Rattle.std.proofs.lemmas.Bool.Decides.{nat_tests}
 use Rattle.std.specs.Str.{skip_leading_whitespace}
 use Rattle.pep508_requirement_text.specs.UrlEnds.{url_split}
-use Rattle.pep508_requirement_text.specs.FrontReading.{Refused, Source, Reading, source_at, if_url, listed, alone, cut_before, begins_operator, run_of}
+use Rattle.pep508_requirement_text.specs.FrontReading.{Source, Reading, source_at, if_url, listed, alone, cut_before, begins_operator, run_of}
 use Rattle.pep508_requirement_text.specs.FrontReading.Refused.{Nameless}
 use Rattle.pep508_requirement_text.specs.FrontFound.{enclosed_at}
 

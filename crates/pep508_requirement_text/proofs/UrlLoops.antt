@@ -1,5 +1,5 @@
 -- How the reading of a URL goes on, ends, and has begun.
-use Rattle.std.proofs.Common.{◌≡◌, ℕ, suc, ◌+◌, ◌-◌, ◌<◌, ◌≤◌, ◌&&◌, ◌||◌, not, Bool, true, false, cond, if◌then◌else◌, eqb, nat_lt, List, [], ◌∷◌, ◌++◌, length, take, drop, refl, sym, ap, subst, ◌∙◌, arith, append_assoc, length-append, ⊎_elim, None}
+use Rattle.std.proofs.Common.{◌≡◌, ℕ, ◌+◌, ◌-◌, ◌<◌, ◌≤◌, ◌&&◌, ◌||◌, Bool, true, false, cond, if◌then◌else◌, eqb, List, [], ◌∷◌, ◌++◌, length, take, drop, refl, sym, ap, subst, ◌∙◌, arith, append_assoc, length-append, ⊎_elim, None}
 use Rattle.std.proofs.Math.Seq.{drop-append_seam, take-append_seam, drop-length}
 use Rattle.std.proofs.Math.ListN.{drop_of_length-le}
 use Rattle.std.proofs.lemmas.Bool.{cases_lt}
@@ -7,7 +7,7 @@ use Rattle.std.proofs.lemmas.Bool.Decides.{nat_tests}
 use Rattle.std.proofs.lemmas.List.{take-append-drop, append-nil, append_cancel_right, length-take-le, length-drop}
 use Rattle.std.proofs.lemmas.Str.{IsUtf8-nil, IsUtf8-append, IsUtf8-take, IsUtf8-drop, IsUtf8-past_char, IsCharBoundary-from_drop, chars-append, chars-nil, chars_past_char, chars_from_encodes, length-encode, len_utf8_bounds, IsCharBoundary-at_seam}
 use Rattle.std.specs.Char.{is_whitespace, is_not_whitespace, encode_utf8}
-use Rattle.std.specs.Str.{chars, skip_leading_whitespace, IsUtf8, NonePass, IsCharBoundary, IsTrimStart, trim_start, encode_utf8_all}
+use Rattle.std.specs.Str.{chars, skip_leading_whitespace, IsUtf8, NonePass, IsCharBoundary, IsTrimStart, trim_start}
 use Rattle.std.specs.Str.Pattern.{FindsBy, MatchBeginsAt}
 use Rattle.pep508_requirement_text.specs.UrlEnds.{url_split, depth_behind, with_char, begins_with, is_over, is_line_break, is_mark, ends_before, ends_behind}
 use Rattle.pep508_requirement_text.specs.UrlTurns.{IsCut, BeginsWith, AreBlanks, onto, EndsAt, GoesOnAt}
@@ -191,17 +191,19 @@ pub goes_next : (b : Bool) (depth c : ℕ) (text rest : List ℕ) → BeginsWith
     → GoesOnAt b depth text (depth_behind b depth c) rest × (length rest < length text)
 goes_next b depth c text rest h w e =
     let short = shorter c text rest h in
-    let deep = deeper b depth c in
-    (record {
-      front = encode_utf8 c;
-      cut = h.cut;
-      split =
-          ap (url_split b depth) h.characters
-          ∙ split_step b depth c (chars rest) false false (plain_before depth c (chars rest) w) e
-          ∙ ap (λ (xs : List ℕ). onto xs (url_split b (depth_behind b depth c) (chars rest))) (sym (one_char c rest text h));
-      kept = kept_again b depth c;
-      bound = omega (arith, short, deep);
-    }, omega (arith, short))
+    let deep = deeper b depth c in (
+      record {
+        front = encode_utf8 c;
+        cut = h.cut;
+        split =
+            ap (url_split b depth) h.characters
+            ∙ split_step b depth c (chars rest) false false (plain_before depth c (chars rest) w) e
+            ∙ ap (λ (xs : List ℕ). onto xs (url_split b (depth_behind b depth c) (chars rest))) (sym (one_char c rest text h));
+        kept = kept_again b depth c;
+        bound = omega (arith, short, deep);
+      },
+      omega (arith, short),
+    )
 
 -- a URL ends before white space that an end follows
 pub ends_blank : (b : Bool) (depth : ℕ) (text run rest : List ℕ) → IsUtf8 text → AreBlanks text run rest
@@ -213,7 +215,6 @@ ends_blank b depth text run rest u blanks w h =
     ends_at_once b depth text u
     (or_true (begins_with is_line_break (chars text)) (eqb depth 0 && (begins_with is_whitespace (chars text) && is_over (skip_leading_whitespace (chars text))))
     (all_true (eqb depth 0) (begins_with is_whitespace (chars text)) (is_over (skip_leading_whitespace (chars text))) both.0 w over))
-
 
 -- ---- a run of white space
 
@@ -266,17 +267,19 @@ module _ (b : Bool) (depth : ℕ) (text run rest : List ℕ) (blanks : AreBlanks
   goes_over w going kept none =
       let less = longer run rest text blanks.cut.whole blanks.skipped w in
       let cs : List ℕ = none.0 in
-      let same : cs ≡ chars run = chars_from_encodes cs run blanks.cut.front_utf8 none.1 in
-      (record {
-        front = run;
-        cut = blanks.cut;
-        split =
-            over_by (chars run) (chars rest)
-            (ap chars blanks.cut.whole ∙ chars-append run rest blanks.cut.front_utf8) blanks.blank
-            (subst (NonePass is_line_break) same none.2) going kept;
-        kept = kept;
-        bound = omega (arith, less);
-      }, less)
+      let same : cs ≡ chars run = chars_from_encodes cs run blanks.cut.front_utf8 none.1 in (
+        record {
+          front = run;
+          cut = blanks.cut;
+          split =
+              over_by (chars run) (chars rest)
+              (ap chars blanks.cut.whole ∙ chars-append run rest blanks.cut.front_utf8) blanks.blank
+              (subst (NonePass is_line_break) same none.2) going kept;
+          kept = kept;
+          bound = omega (arith, less);
+        },
+        less,
+      )
 
   module _ (place : ℕ) (found : MatchBeginsAt (FindsBy is_line_break) run place) where
     abbrev pub front : List ℕ
@@ -416,10 +419,11 @@ pub url_parts : (b : Bool) (text last one two : List ℕ) (h : EndsAt b 0 text l
     → ((chars one, chars two) ≡ url_split b 0 (chars text)) × (text ≡ one ++ two)
 url_parts b text last one two h e f =
     let same_one : one ≡ h.front = e ∙ cut_front text h.front last h.cut.whole in
-    let same_two : two ≡ last = f ∙ cut_rest text h.front last h.cut.whole in
-    (ap (λ (xs : List ℕ). (chars xs, chars two)) same_one ∙ ap (λ (xs : List ℕ). (chars h.front, chars xs)) same_two
-    ∙ sym h.split,
-    h.cut.whole ∙ ap (λ (xs : List ℕ). xs ++ last) (sym same_one) ∙ ap (λ (xs : List ℕ). one ++ xs) (sym same_two))
+    let same_two : two ≡ last = f ∙ cut_rest text h.front last h.cut.whole in (
+      ap (λ (xs : List ℕ). (chars xs, chars two)) same_one ∙ ap (λ (xs : List ℕ). (chars h.front, chars xs)) same_two
+          ∙ sym h.split,
+      h.cut.whole ∙ ap (λ (xs : List ℕ). xs ++ last) (sym same_one) ∙ ap (λ (xs : List ℕ). one ++ xs) (sym same_two),
+    )
 
 -- ---- the first character, and the white space at the front
 
@@ -443,12 +447,12 @@ end_begins : (n : ℕ) (text : List ℕ) → drop (length text - length (drop n 
 end_begins n text =
     ⊎_elim
     (λ (over : length text < n).
-        let none : drop n text ≡ [] = drop_of_length-le text (omega (arith, over)) in
-        let all : length text - length (drop n text) ≡ length text = omega (arith, ap length none) in
-        ap (λ k. drop k text) all ∙ drop-length text ∙ sym none)
+    let none : drop n text ≡ [] = drop_of_length-le text (omega (arith, over)) in
+    let all : length text - length (drop n text) ≡ length text = omega (arith, ap length none) in
+    ap (λ k. drop k text) all ∙ drop-length text ∙ sym none)
     (λ (within : n ≤ length text).
-        let at : length text - length (drop n text) ≡ n = omega (arith, within, length-drop n text) in
-        ap (λ k. drop k text) at)
+    let at : length text - length (drop n text) ≡ n = omega (arith, within, length-drop n text) in
+    ap (λ k. drop k text) at)
     (cases_lt (length text) n)
 
 module _ (text trimmed : List ℕ) (u : IsUtf8 text) (v : IsUtf8 trimmed) (cut : IsTrimStart text trimmed) where

@@ -6,8 +6,18 @@ ghost use Rattle.pep508_requirement_text.specs.Archives.{is_archive, has_ending}
 
 /// How the names of archives end.
 pub(crate) const ENDINGS: [&str; 12] = [
-    ".whl", ".tbz", ".txz", ".tlz", ".zip", ".tgz", ".tar", ".tar.bz2", ".tar.xz", ".tar.lz",
-    ".tar.lzma", ".tar.gz",
+    ".whl",
+    ".tbz",
+    ".txz",
+    ".tlz",
+    ".zip",
+    ".tgz",
+    ".tar",
+    ".tar.bz2",
+    ".tar.xz",
+    ".tar.lz",
+    ".tar.lzma",
+    ".tar.gz",
 ];
 
 /// Whether a text is the file name of an archive that pip installs from: something, and then `.whl`, `.tar.gz` or another

@@ -122,8 +122,7 @@ fn skip_extra<'a>(
     let (name, later) = cut_name(begin);
     match later.peek() {
         Some(c) if c != ',' && c != ']' && !c.is_whitespace() => {
-            return Err(later.refuse_char(plain(format!(
-                in alloc;
+            return Err(later.refuse_char(plain(format!(in alloc;
                 "Invalid character in extras name, expected an alphanumeric character, `-`, `_`, `.`, `,` or `]`, found `{c}`"
             ))));
         }
@@ -136,8 +135,7 @@ fn skip_extra<'a>(
     match end.peek() {
         Some(',') => Ok(Some(end)),
         Some(']') | None => Ok(None),
-        Some(c) => Err(end.refuse_char(plain(format!(
-            in alloc;
+        Some(c) => Err(end.refuse_char(plain(format!(in alloc;
             "Expected either `,` (separating extras) or `]` (ending the extras section), found `{c}`"
         )))),
     }
@@ -154,8 +152,7 @@ fn refuse_first<'a>(alloc: Global, place: Cursor<'a>, c: char, is_first: bool) -
             "Expected either alphanumerical character (starting the extra name) or `]` (ending the extras section), found `,`",
         )));
     }
-    place.refuse_char(plain(format!(
-        in alloc;
+    place.refuse_char(plain(format!(in alloc;
         "Expected an alphanumeric character starting the extra name, found `{c}`"
     )))
 }

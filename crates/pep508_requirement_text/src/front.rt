@@ -32,7 +32,8 @@ pub struct Front<'a> {
     pub source: Source<'a>,
 }
 
-const PRECEDED_BY_URL: &str = "URL requirement must be preceded by a package name. Add the name of the package before the URL (e.g., `package_name @ https://...`).";
+const PRECEDED_BY_URL: &str =
+    "URL requirement must be preceded by a package name. Add the name of the package before the URL (e.g., `package_name @ https://...`).";
 
 /// The front of a requirement at a place, and the place behind it: a name, extras, and specifiers or the text of a URL
 /// (PEP 508, "Grammar").
@@ -112,19 +113,13 @@ fn read_alone<'a>(
     ensures url { IfOk result (λ found. IsUrlIn whole.entry found.0) }
 {
     if is_archive(name) {
-        return Err(refuse_none(
-            whole,
-            unsupported(String::from_str(alloc, PRECEDED_BY_URL)),
-        ));
+        return Err(refuse_none(whole, unsupported(String::from_str(alloc, PRECEDED_BY_URL))));
     }
     Ok((Source::Any, start))
 }
 
 /// The text of a URL behind `@`.
-fn read_url<'a>(
-    alloc: Global,
-    start: Cursor<'a>,
-) -> Result<(Source<'a>, Cursor<'a>), Refusal<'a>>
+fn read_url<'a>(alloc: Global, start: Cursor<'a>) -> Result<(Source<'a>, Cursor<'a>), Refusal<'a>>
     ensures read { (vars : Variables) → ReadsAs vars IsSource result
         (if_url (url_split false 0 (skip_leading_whitespace (behind start.entry)))) }
     ensures stays { StaysIn start.entry (λ found. found.1) result }
@@ -133,10 +128,7 @@ fn read_url<'a>(
     let place = start.after_whitespace();
     let (piece, later) = cut_url(place, false);
     if piece.text.is_empty() {
-        return Err(refuse_none(
-            place,
-            plain(String::from_str(alloc, "Expected URL")),
-        ));
+        return Err(refuse_none(place, plain(String::from_str(alloc, "Expected URL"))));
     }
     Ok((Source::Url(piece), later))
 }
@@ -159,8 +151,7 @@ fn refuse_other<'a>(
             let kind = unsupported(String::from_str(alloc, PRECEDED_BY_URL));
             refuse_between(whole, end, kind)
         }
-        Ok(false) => place.refuse_char(plain(format!(
-            in alloc;
+        Ok(false) => place.refuse_char(plain(format!(in alloc;
             "Expected one of `@`, `(`, `<`, `=`, `>`, `~`, `!`, `;`, found `{c}`"
         ))),
         Err(_) => Refusal::memory(),

@@ -103,7 +103,9 @@ fn read_specifiers<'a>(
     match VersionSpecifiers::from_str(alloc, text) {
         Ok(list) => Ok(list),
         Err(VersionSpecifiersParseError::Memory) => Err(Refusal::memory()),
-        Err(VersionSpecifiersParseError::Specifier(piece)) => Err(refuse_piece(alloc, start, &piece)),
+        Err(VersionSpecifiersParseError::Specifier(piece)) => Err(refuse_piece(
+            alloc, start, &piece,
+        )),
     }
 }
 

@@ -28,8 +28,7 @@ pub(crate) fn refuse_last<'a>(alloc: Global, start: Cursor<'a>, what: &str) -> R
 {
     let last = last_of_name(start);
     let c = last.peek().unwrap_or('-');
-    last.refuse_char(plain(format!(
-        in alloc;
+    last.refuse_char(plain(format!(in alloc;
         "{what} name must end with an alphanumeric character, not '{c}'"
     )))
 }

@@ -15,7 +15,8 @@ use pep508_name::{PackageName, is_name};
 use pep508_url::Vars;
 use std::alloc::Global;
 
-const PRECEDED_BY_PATH: &str = "URL requirement must be preceded by a package name. Add the name of the package before the URL (e.g., `package_name @ /path/to/file`).";
+const PRECEDED_BY_PATH: &str =
+    "URL requirement must be preceded by a package name. Add the name of the package before the URL (e.g., `package_name @ /path/to/file`).";
 
 /// The name at a place as it is written, and the place behind it.
 #[tactic(auto, unfolding(crate::specs::FrontReading::name_at))]
@@ -64,8 +65,7 @@ fn refuse_nameless<'a>(alloc: Global, start: Cursor<'a>, vars: &Vars) -> Refusal
         return refuse_between(start, end, kind);
     }
     match start.peek() {
-        Some(c) => start.refuse_char(plain(format!(
-            in alloc;
+        Some(c) => start.refuse_char(plain(format!(in alloc;
             "Expected package name starting with an alphanumeric character, found `{c}`"
         ))),
         None => Cursor::new(start.input()).refuse_char(plain(String::from_str(

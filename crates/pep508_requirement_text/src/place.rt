@@ -75,7 +75,11 @@ pub(crate) fn cut_around<'a>(cursor: Cursor<'a>, at: char) -> Option<(&'a str, C
 }
 
 /// The refusal of what stands between two places.
-pub(crate) fn refuse_between<'a>(start: Cursor<'a>, end: Cursor<'a>, kind: RefusalKind) -> Refusal<'a>
+pub(crate) fn refuse_between<'a>(
+    start: Cursor<'a>,
+    end: Cursor<'a>,
+    kind: RefusalKind,
+) -> Refusal<'a>
     requires { IsBehind start end }
     ensures kind { result.kind ≡ kind }
     ensures of { IsOf start.entry result }

@@ -63,13 +63,7 @@ fn read_on(text: &str, brackets: bool, depth: usize) -> Turn<'_>
 }
 
 /// Reads the first character of a text, which is no white space.
-fn read_char<'a>(
-    text: &'a str,
-    c: char,
-    rest: &'a str,
-    brackets: bool,
-    depth: usize,
-) -> Turn<'a>
+fn read_char<'a>(text: &'a str, c: char, rest: &'a str, brackets: bool, depth: usize) -> Turn<'a>
     requires begins { BeginsWith text.now c rest.now }
     requires plain { is_whitespace c ≡ false }
     requires bound { depth + length text.now < 2 ^ 64 }

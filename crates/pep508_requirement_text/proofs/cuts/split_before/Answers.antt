@@ -1,4 +1,4 @@
-use Rattle.std.proofs.Common.{◌≡◌, ℕ, true, eqb, refl, arith}
+use Rattle.std.proofs.Common.{◌≡◌, ℕ, true, eqb, arith}
 use Rattle.std.proofs.lemmas.Bool.Decides.{nat_tests}
 use Rattle.pep508_requirement_text.proofs.Fronts.{cut_some, cut_none}
 use Rattle.pep508_requirement_text.proofs.cuts.split_before.Goals as goal

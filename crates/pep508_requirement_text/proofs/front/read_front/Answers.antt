@@ -29,15 +29,17 @@ returns-in_err-source-clause-read c =
 
 pub returns-clause-read : goal.returns-clause-read
 returns-clause-read c =
-    let read = c.in_ok-source.ensures.read in
-    (record {
-      name = normal_name c.in_ok-name.name.now;
-      extras = c.in_ok-extras.extras.items;
-      source = read.0;
-    }, front_is c.args.vars.now Memory (rest_of c.args.start) (behind c.after_whitespace.result)
-    c.after_whitespace.ensures.rest c.in_ok-name.name.now (behind c.in_ok-name.named)
-    (behind c.after_whitespace-2.result) c.in_ok-name.ensures.read c.after_whitespace-2.ensures.rest
-    c.in_ok-extras.extras.items (behind c.in_ok-extras.asked) (behind c.after_whitespace-3.result)
-    (c.in_ok-extras.ensures.read c.args.vars.now) c.after_whitespace-3.ensures.rest
-    read.0 (behind c.in_ok-source.later) read.1,
-    record { name = ?; extras = refl; source = read.2 })
+    let read = c.in_ok-source.ensures.read in (
+      record {
+        name = normal_name c.in_ok-name.name.now;
+        extras = c.in_ok-extras.extras.items;
+        source = read.0;
+      },
+      front_is c.args.vars.now Memory (rest_of c.args.start) (behind c.after_whitespace.result)
+          c.after_whitespace.ensures.rest c.in_ok-name.name.now (behind c.in_ok-name.named)
+          (behind c.after_whitespace-2.result) c.in_ok-name.ensures.read c.after_whitespace-2.ensures.rest
+          c.in_ok-extras.extras.items (behind c.in_ok-extras.asked) (behind c.after_whitespace-3.result)
+          (c.in_ok-extras.ensures.read c.args.vars.now) c.after_whitespace-3.ensures.rest
+          read.0 (behind c.in_ok-source.later) read.1,
+      record { name = c.in_ok-name-2.ensures; extras = refl; source = read.2 },
+    )

@@ -21,10 +21,11 @@ returns-then-is_empty-clause-read c =
 
 pub returns-clause-read : goal.returns-clause-read
 returns-clause-read c =
-    λ vars.
-    (Url c.cut_url.result.0.text.now,
-    url_read c.cut_url.result.0.text.now (behind c.cut_url.result.1)
-    (url_split false 0 (skip_leading_whitespace (behind c.args.start))) c.cut_url.ensures.utf8
-    (c.cut_url.ensures.parts ∙ ap (url_split false 0) c.after_whitespace-place.ensures.rest)
-    (sym c.is_empty.ensures ∙ c.if-is_empty.false),
-    refl)
+    λ vars. (
+      Url c.cut_url.result.0.text.now,
+      url_read c.cut_url.result.0.text.now (behind c.cut_url.result.1)
+          (url_split false 0 (skip_leading_whitespace (behind c.args.start))) c.cut_url.ensures.utf8
+          (c.cut_url.ensures.parts ∙ ap (url_split false 0) c.after_whitespace-place.ensures.rest)
+          (sym c.is_empty.ensures ∙ c.if-is_empty.false),
+      refl,
+    )

@@ -15,6 +15,9 @@ returns-in_err-list-in-Some-clause-read c =
 pub returns-in_ok-list-in-Some-clause-read : goal.returns-in_ok-list-in-Some-clause-read
 returns-in_ok-list-in-Some-clause-read c =
     λ vars.
-    let read = c.in_ok-list-in-Some.ensures.read in
-    (Specifiers read.0, enclosed_is (behind c.args.inner) c.in-Some.text.now (behind c.in-Some.later) read.0
-    c.in-Some.ensures.parts read.1, read.2)
+    let read = c.in_ok-list-in-Some.ensures.read in (
+      Specifiers read.0,
+      enclosed_is (behind c.args.inner) c.in-Some.text.now (behind c.in-Some.later) read.0
+          c.in-Some.ensures.parts read.1,
+      read.2,
+    )

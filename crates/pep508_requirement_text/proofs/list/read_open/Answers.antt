@@ -17,6 +17,9 @@ returns-in_err-list-clause-read c =
 pub returns-clause-read : goal.returns-clause-read
 returns-clause-read c =
     λ vars.
-    let read = c.in_ok-list.ensures.read in
-    (Specifiers read.0, list_is c.cut_before.result.0.now (behind c.cut_before.result.1)
-    (cut_before (λ d. eqb d 59) (behind c.args.start)) read.0 c.cut_before.ensures.parts read.1, read.2)
+    let read = c.in_ok-list.ensures.read in (
+      Specifiers read.0,
+      list_is c.cut_before.result.0.now (behind c.cut_before.result.1)
+          (cut_before (λ d. eqb d 59) (behind c.args.start)) read.0 c.cut_before.ensures.parts read.1,
+      read.2,
+    )

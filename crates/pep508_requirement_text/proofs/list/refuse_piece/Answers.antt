@@ -1,4 +1,3 @@
-use Rattle.std.proofs.Common.{sym, ◌∙◌}
 use Rattle.std.specs.String.{string_bytes}
 use Rattle.pep508_error.specs.Cursors.{rest_of}
 use Rattle.pep508_requirement_text.proofs.ListPlaces.{start_boundary, span_boundary}

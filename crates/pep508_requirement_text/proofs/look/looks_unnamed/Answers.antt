@@ -1,5 +1,4 @@
-use Rattle.std.proofs.Common.{ap, sym, subst, ◌∙◌, List, ℕ, IsTrue}
-use Rattle.pep508_requirement_text.specs.Unnamed.{IsBeforeExtras, LooksUnnamed, looks_like_url}
+use Rattle.std.proofs.Common.{◌∙◌}
 use Rattle.pep508_requirement_text.proofs.Looks.{looks_are}
 use Rattle.pep508_requirement_text.proofs.look.looks_unnamed.Goals as goal
 

@@ -1,6 +1,6 @@
 use Rattle.std.proofs.Common.{sym, ap, ◌∙◌, arith}
 use Rattle.std.specs.Str.{chars}
-use Rattle.pep508_requirement_text.specs.UrlEnds.{ends_behind, depth_behind}
+use Rattle.pep508_requirement_text.specs.UrlEnds.{ends_behind}
 use Rattle.pep508_requirement_text.proofs.UrlLoops.{shorter, ends_next, goes_next}
 use Rattle.pep508_requirement_text.proofs.url_end.read_char.Goals as goal
 
