@@ -229,7 +229,8 @@ fn normalized(alloc: Global, text: &str) -> Result<String, AllocError>
 
 /// A text with `_` for each `-`.
 pub(crate) fn escaped(alloc: Global, text: &str) -> Result<String, AllocError>
-    ensures { IfOk result (λ name. string_bytes name ≡ encode_utf8_all (map dist_info_byte (chars text.now))) }
+    ensures { IfOk result (λ name.
+        string_bytes name ≡ encode_utf8_all (map dist_info_byte (chars text.now))) }
 {
     text.chars()
         .map(|letter| if letter == '-' { '_' } else { letter })

@@ -76,7 +76,8 @@ impl PackageName {
     #[tactic(auto, using(crate::proofs::Escaped::escaped_name, crate::proofs::Escaped::nothing_escaped))]
     pub fn as_dist_info_name(&self, alloc: Global) -> Result<CowStr<'_>, AllocError>
         ensures text { IfOk result (λ name. cow_str_bytes name ≡ dist_info_name self.now) }
-        ensures lent { list_any (λ byte. byte == 45) self.now ≡ false → IsOkAnd result (λ name. IsBorrowedStr name) }
+        ensures lent { list_any (λ byte. byte == 45) self.now ≡ false
+            → IsOkAnd result (λ name. IsBorrowedStr name) }
     {
         let name = self.as_str();
         if !name.as_bytes().contains(&b'-') {
