@@ -10,8 +10,8 @@ use Rattle.pep508_name.proofs.Steps.{opened}
 abbrev pub is_small : ℕ → Bool
 is_small byte = is_ascii_lowercase byte || is_ascii_digit byte
 
--- small letters and digits, with one `-` at most between two, and none at the end; nor at the front, where the
--- text may not end there
+-- small letters and digits with single `-` between some, behind what may end a name (a letter or digit) or may
+-- not (a `-`, or nothing)
 abbrev pub stays : Bool → List ℕ → Bool
 stays may_end [] = may_end
 stays may_end (byte ∷ bytes) =

@@ -189,7 +189,7 @@ fn is_name_byte(byte: u8) -> bool
 fn is_separator(byte: u8) -> bool
     ensures { result ≡ is_separator byte }
 {
-    byte == b'-' || byte == b'_' || byte == b'.'
+    matches!(byte, b'-' | b'_' | b'.')
 }
 
 /// The error for a text that is no name.
