@@ -298,6 +298,9 @@ class Trial:
                 print(f"FAILED: {label}: {words}")
             elif "only because a proof file names" in words:
                 print(f"note: {label}: {words}")
+            elif words == "refused, as it must be":
+                # (so rt says where no goal is open: the code itself may be what it can't check)
+                print(f"note: {label}: refused, and no goal is named: see why")
         seconds = time.monotonic() - self.began
         print(f"wrong: {group.crate.name}: {refused} of {len(outcomes)} edits refused"
               f" ({self.done} of {len(self.groups)} groups, {seconds:.0f} s)", flush=True)
