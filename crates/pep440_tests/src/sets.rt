@@ -245,8 +245,8 @@ fn prepared(alloc: Global) -> Result<(Texts, Texts, Texts, Texts), AllocError> {
     ))
 }
 
-/// Want of memory leaves both sets as they were: `rt try --test --fail-alloc N` refuses the Nth allocation.
-/// The test fails only where a set changed or an answer is wrong, not where memory is refused.
+/// Want of memory leaves both sets as they were: `rt try --test --fail-alloc N` refuses the Nth allocation. The test
+/// fails only where a set changed or an answer is wrong, not where memory is refused.
 #[test]
 fn refused_memory_changes_no_set(rt: HostRuntime) {
     let alloc = rt.alloc();
