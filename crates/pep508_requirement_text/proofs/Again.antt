@@ -11,9 +11,9 @@ use Rattle.pep508_requirement_text.specs.FrontReading.{Refused, Front, ◌>>=◌
 use Rattle.pep508_requirement_text.specs.FrontReading.{source_at, with_source, behind_extras, behind_name}
 use Rattle.pep508_requirement_text.specs.FrontReading.{front_reading}
 use Rattle.pep508_requirement_text.specs.FrontText.{IsExtrasText, IsFrontText, IsRequirementText}
-use Rattle.pep508_requirement_text.proofs.Cuts.{Unspaced, Ends, unspaced_same, spaces_again, skipped_front}
+use Rattle.pep508_requirement_text.proofs.CharacterCuts.{Unspaced, Ends, unspaced_same, spaces_again, skipped_front}
 use Rattle.pep508_requirement_text.proofs.Names.{named, name_unspaced, behind_spaces}
-use Rattle.pep508_requirement_text.proofs.Extras.{answer, ok_same, name_again, no_extras_again, extras_again}
+use Rattle.pep508_requirement_text.proofs.ExtrasTexts.{answer, ok_same, name_again, no_extras_again, extras_again}
 use Rattle.pep508_requirement_text.proofs.Sources.{source_again, source_apart, space_apart, bracket_apart}
 use Rattle.pep508_requirement_text.proofs.Sources.{name_apart}
 

@@ -16,8 +16,8 @@ use Rattle.pep508_requirement_text.specs.FrontReading.{with_name}
 use Rattle.pep508_requirement_text.specs.FrontReading.{names_of, extras_of}
 use Rattle.pep508_requirement_text.specs.FrontText.{IsSpacedName, AreNames}
 use Rattle.pep508_requirement_text.proofs.Tests.{another, and_parts}
-use Rattle.pep508_requirement_text.proofs.Cuts.{behind_front, some_same, Unspaced, NonePasses, none_joined}
-use Rattle.pep508_requirement_text.proofs.Cuts.{spaces_found, spaces_again, only_spaces}
+use Rattle.pep508_requirement_text.proofs.CharacterCuts.{behind_front, some_same, Unspaced, NonePasses, none_joined}
+use Rattle.pep508_requirement_text.proofs.CharacterCuts.{spaces_found, spaces_again, only_spaces}
 use Rattle.pep508_requirement_text.proofs.Pieces.{is_comma, split_encoded, split_joined}
 use Rattle.pep508_requirement_text.proofs.Pieces.{trailing_found, trailing_again, bare}
 use Rattle.pep508_requirement_text.proofs.Pieces.{trimmed}

@@ -11,7 +11,7 @@ use Rattle.std.specs.Str.{drop_trailing_whitespace}
 use Rattle.pep440_specifier.specs.SpecifierText.{AreSpaces}
 use Rattle.pep508_requirement_text.proofs.Decoded.{decoded}
 use Rattle.pep508_requirement_text.proofs.Tests.{the_same, and_parts}
-use Rattle.pep508_requirement_text.proofs.Cuts.{NonePasses, none_joined}
+use Rattle.pep508_requirement_text.proofs.CharacterCuts.{NonePasses, none_joined}
 
 -- ---- cutting at commas
 

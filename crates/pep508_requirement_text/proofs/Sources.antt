@@ -21,12 +21,12 @@ use Rattle.pep508_requirement_text.specs.FrontReading.{alone, source_at}
 use Rattle.pep508_requirement_text.specs.FrontText.{IsBeforeMarker, IsEnclosed, IsOpenList, IsUrlText}
 use Rattle.pep508_requirement_text.specs.FrontText.{IsSourceText}
 use Rattle.pep508_requirement_text.proofs.Tests.{the_same, or_cases, another}
-use Rattle.pep508_requirement_text.proofs.Cuts.{behind_front, NonePasses, Ends, none_joined, spaces_found}
-use Rattle.pep508_requirement_text.proofs.Cuts.{spaces_again, skipped_front}
-use Rattle.pep508_requirement_text.proofs.Cuts.{cut_again, cut_found, cut_is, around_again, around_found}
+use Rattle.pep508_requirement_text.proofs.CharacterCuts.{behind_front, NonePasses, Ends, none_joined, spaces_found}
+use Rattle.pep508_requirement_text.proofs.CharacterCuts.{spaces_again, skipped_front}
+use Rattle.pep508_requirement_text.proofs.CharacterCuts.{cut_again, cut_found, cut_is, around_again, around_found}
 use Rattle.pep508_requirement_text.proofs.Pieces.{by_places, trimmed_start}
 use Rattle.pep508_requirement_text.proofs.Names.{none_in_spaces}
-use Rattle.pep508_requirement_text.proofs.Extras.{answer, ok_same, in_steps, there}
+use Rattle.pep508_requirement_text.proofs.ExtrasTexts.{answer, ok_same, in_steps, there}
 use Rattle.pep508_requirement_text.proofs.Lists.{TextLaw, list_by_pieces, pieces_by_list, skipped_list, given_found}
 use Rattle.pep508_requirement_text.proofs.Lists.{TextLaw, given_again}
 use Rattle.pep508_requirement_text.proofs.UrlLaws.{url_found, url_joined, url_again, unspaced_whole}

@@ -12,8 +12,8 @@ use Rattle.pep508_requirement_text.specs.FrontReading.{if_there}
 use Rattle.pep508_requirement_text.specs.FrontReading.{bracketed, extras_at}
 use Rattle.pep508_requirement_text.specs.FrontText.{IsExtrasText}
 use Rattle.pep508_requirement_text.proofs.Tests.{the_same}
-use Rattle.pep508_requirement_text.proofs.Cuts.{Ends, cut_again, cut_found, cut_is, around_again}
-use Rattle.pep508_requirement_text.proofs.Cuts.{around_found}
+use Rattle.pep508_requirement_text.proofs.CharacterCuts.{Ends, cut_again, cut_found, cut_is, around_again}
+use Rattle.pep508_requirement_text.proofs.CharacterCuts.{around_found}
 use Rattle.pep508_requirement_text.proofs.Names.{AreNameBytes, IsInside, named, mapped, name_encoded}
 use Rattle.pep508_requirement_text.proofs.Names.{inside_found, inside_again, unbracketed}
 
