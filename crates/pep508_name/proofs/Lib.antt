@@ -3,3 +3,4 @@ pub mod Parts
 pub mod Steps
 pub mod Again
 pub mod Escaped
+pub mod Forms

@@ -1,2 +1,3 @@
 pub mod Name
 pub mod Hashing
+pub mod Origin

@@ -14,10 +14,12 @@ use std::fmt;
 mod extra;
 pub mod laws;
 mod normal;
+mod origin;
 mod package;
 
 pub use extra::ExtraName;
 pub use normal::is_name;
+pub use origin::RequirementOrigin;
 pub use package::PackageName;
 
 /// Why a text is not taken for a name.

@@ -1,4 +1,6 @@
 use pep508_name::{ExtraName, InvalidNameError, PackageName, is_name};
+use read_outcome::FromValueError;
+use serde_json::Value;
 use std::hash::{DefaultHasher, Hash, Hasher};
 use std::test::Fail;
 
@@ -9,6 +11,8 @@ const NAMES: [(&str, &str); 5] = [
     ("A", "a"),
     ("a_.-b.C--d", "a-b-c-d"),
 ];
+
+const OTHERS: [&str; 6] = [" a", "-a", "a-", "a!", "alpha-α", ""];
 
 #[test]
 fn reads_names_of_packages(rt: HostRuntime) -> Result<(), Fail> {
@@ -35,7 +39,7 @@ fn reads_names_of_extras(rt: HostRuntime) -> Result<(), Fail> {
 
 #[test]
 fn refuses_other_texts(rt: HostRuntime) -> Result<(), Fail> {
-    for text in [" a", "-a", "a-", "a!", "alpha-α", ""] {
+    for text in OTHERS {
         match PackageName::from_str(rt.alloc(), text) {
             Ok(_) => assert!(rt; false, "taken: {text}"),
             Err(error) => assert_eq!(rt; error.as_str(), text),
@@ -85,5 +89,58 @@ fn compares_names(rt: HostRuntime) -> Result<(), Fail> {
     let first = ExtraName::from_str(alloc, "a-b")?;
     let second = ExtraName::from_str(alloc, "A.c")?;
     assert!(rt; in_order(&first, &second));
+    Ok(())
+}
+
+#[test]
+fn reads_owned_texts(rt: HostRuntime) -> Result<(), Fail> {
+    let alloc = rt.alloc();
+    for (text, want) in NAMES {
+        let package = PackageName::new(alloc, String::from_str(alloc, text)?)?;
+        assert_eq!(rt; package.as_str(), want);
+        let extra = ExtraName::new(alloc, String::from_str(alloc, text)?)?;
+        assert_eq!(rt; extra.as_str(), want);
+    }
+    for text in OTHERS {
+        match PackageName::new(alloc, String::from_str(alloc, text)?) {
+            Ok(_) => assert!(rt; false, "taken: {text}"),
+            Err(error) => assert_eq!(rt; error.as_str(), text),
+        }
+        assert!(rt; ExtraName::new(alloc, String::from_str(alloc, text)?).is_err());
+    }
+    Ok(())
+}
+
+#[test]
+fn names_folders(rt: HostRuntime) -> Result<(), Fail> {
+    let alloc = rt.alloc();
+    for (text, want) in [
+        ("Friendly.bard", "friendly_bard"),
+        ("a--b-c", "a_b_c"),
+        ("1okay", "1okay"),
+    ] {
+        let name = PackageName::from_str(alloc, text)?;
+        assert_eq!(rt; name.as_dist_info_name(alloc)?.as_str(), want);
+    }
+    Ok(())
+}
+
+#[test]
+fn reads_and_writes_values(rt: HostRuntime) -> Result<(), Fail> {
+    let alloc = rt.alloc();
+    let value = PackageName::from_str(alloc, "A.b")?.to_value(alloc)?;
+    assert_eq!(rt; value.to_string(alloc)?.as_str(), "\"a-b\"");
+    assert!(rt; PackageName::from_value(alloc, &value).is_ok());
+    let value = ExtraName::from_str(alloc, "A.b")?.to_value(alloc)?;
+    assert_eq!(rt; value.to_string(alloc)?.as_str(), "\"a-b\"");
+    assert!(rt; ExtraName::from_value(alloc, &value).is_ok());
+    let shape = PackageName::from_value(alloc, &Value::Null);
+    assert!(rt; matches!(&shape, Err(FromValueError::Shape)));
+    let bad = Value::String(String::from_str(alloc, "a-")?);
+    let want = FromValueError::Text(InvalidNameError::InvalidName(String::from_str(alloc, "a-")?));
+    match ExtraName::from_value(alloc, &bad) {
+        Ok(_) => assert!(rt; false, "taken"),
+        Err(error) => assert!(rt; error == want),
+    }
     Ok(())
 }
