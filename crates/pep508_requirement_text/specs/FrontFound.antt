@@ -1,0 +1,50 @@
+-- What a read front is, by what there is to read.
+use Rattle.std.specs.Prelude.{◌≡◌, ℕ, List, Result, Ok, Err}
+use Rattle.pep508_url.specs.Vars.{Variables}
+use Rattle.pep440_specifier_list.specs.Lists.{IsInOrder}
+use Rattle.pep508_error.specs.declared.cursor.Cursor.{Cursor}
+use Rattle.pep508_error.specs.declared.refusal.Refusal.{Refusal}
+use Rattle.pep508_requirement_text.specs.FrontReading as said
+use Rattle.pep508_requirement_text.specs.FrontReading.{Refused, Reading, ◌>>=◌, if_there, cut_around, enclosed}
+use Rattle.pep508_requirement_text.specs.FrontReading.Source.{Any, Specifiers, Url}
+use Rattle.pep508_requirement_text.specs.FrontOutcome.{Tells, behind}
+use Rattle.pep508_requirement_text.specs.declared.source.Source.{Source}
+use Rattle.pep508_requirement_text.specs.declared.source.Source.TheVariants as found
+use Rattle.pep508_requirement_text.specs.declared.front.Front.{Front}
+
+-- the same: specifiers, which stand by version, or the text of a URL
+abbrev pub IsSource : Source → said.Source → Type 0
+IsSource found.Any Any = Unit {0}
+IsSource (found.Specifiers list) (Specifiers given) = IsInOrder given list
+IsSource (found.Url piece) (Url url) = piece.text.now ≡ url
+IsSource found.Any (Specifiers given) = ⊥
+IsSource found.Any (Url url) = ⊥
+IsSource (found.Specifiers list) Any = ⊥
+IsSource (found.Specifiers list) (Url url) = ⊥
+IsSource (found.Url piece) Any = ⊥
+IsSource (found.Url piece) (Specifiers given) = ⊥
+
+-- this front was read
+pub record IsFront (read : Front) (front : said.Front) : Type 0 where
+  pub name : read.name ≡ front.name
+  pub extras : read.extras.items ≡ front.extras
+  pub source : IsSource read.source front.source
+
+-- what was returned is the reading: what it says, and the place behind it, or a refusal for its reason
+abbrev pub ReadsAs : {X Y : Type 0} → Variables → (X → Y → Type 0) → Result (X × Cursor) Refusal → Reading Y → Type 0
+ReadsAs {X} {Y} vars IsSaid (Ok found) reading =
+    (y : Y) × (reading ≡ Ok (y, behind found.1)) × IsSaid found.0 y
+ReadsAs vars IsSaid (Err refusal) reading = Tells vars refusal.kind reading
+
+abbrev pub ReadsFront : Variables → Result (Front × Cursor) Refusal → Reading said.Front → Type 0
+ReadsFront vars result reading = ReadsAs vars IsFront result reading
+
+-- a URL stands in the text of the place
+abbrev pub IsUrlIn : Cursor → Source → Type 0
+IsUrlIn cursor found.Any = Unit {0}
+IsUrlIn cursor (found.Specifiers list) = Unit {0}
+IsUrlIn cursor (found.Url piece) = piece.start.input.now ≡ cursor.input.now
+
+-- the list in brackets behind the opening one
+abbrev pub enclosed_at : List ℕ → Reading said.Source
+enclosed_at cs = if_there (cut_around 41 cs) >>= enclosed

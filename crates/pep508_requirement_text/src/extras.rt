@@ -1,0 +1,158 @@
+//! Reading extras.
+
+ghost use Rattle.std.specs.Prelude.{◌≡◌, ◌==◌, IfOk, IfErr, IfSome, option_map};
+ghost use Rattle.std.specs.List.{slice_split};
+ghost use Rattle.std.specs.Str.{trim};
+ghost use Rattle.pep508_url.specs.Vars.{Variables};
+ghost use Rattle.pep508_name.specs.Name.{name_of};
+ghost use Rattle.pep508_error.specs.Cursors.{IsBehind};
+ghost use Rattle.pep508_requirement_text.specs.FrontReading.{extras_at, extras_of, names_of};
+ghost use Rattle.pep508_requirement_text.specs.FrontOutcome.{behind, Reads, StaysIn, IsPlain, IsOf};
+
+use crate::message::{plain, refuse_last};
+use crate::place::{cut_around, cut_name, strip};
+use pep508_error::{Cursor, Refusal};
+use pep508_name::{ExtraName, InvalidNameError, is_name};
+use std::alloc::{AllocError, Global};
+
+/// The extras at a place, as `[dev, test]`, in the order given, and the place behind them; none where no `[` follows (PEP
+/// 508, "Extras").
+///
+/// Linear in the text up to the `]`. Takes memory for the names, and none where no `[` follows. The refusal shows the
+/// first fault in the order in which the text is read.
+pub fn read_extras<'a>(
+    alloc: Global,
+    start: Cursor<'a>,
+) -> Result<(Vec<ExtraName>, Cursor<'a>), Refusal<'a>>
+    ensures read { (vars : Variables) → Reads vars (λ found. (found.0.items, behind found.1)) result
+        (extras_at (behind start.entry)) }
+    ensures stays { StaysIn start.entry (λ found. found.1) result }
+{
+    let Some(inner) = strip(start, '[') else {
+        return Ok((Vec::new(alloc), start));
+    };
+    let Some((inside, later)) = cut_around(inner, ']') else {
+        return Err(refuse_extras(alloc, start));
+    };
+    match read_inside(alloc, inside) {
+        Ok(Some(names)) => Ok((names, later)),
+        Ok(None) => Err(refuse_extras(alloc, start)),
+        Err(_) => Err(Refusal::memory()),
+    }
+}
+
+/// The names between brackets, if they are names.
+#[tactic(auto, unfolding(crate::specs::FrontReading::extras_of))]
+fn read_inside(alloc: Global, inside: &str) -> Result<Option<Vec<ExtraName>>, AllocError>
+    ensures { IfOk result (λ names. option_map (λ v. v.items) names ≡ extras_of inside.now) }
+{
+    if inside.trim().is_empty() {
+        return Ok(Some(Vec::new(alloc)));
+    }
+    read_names(alloc, inside)
+}
+
+/// The names with commas between them, if they are names.
+fn read_names(alloc: Global, inside: &str) -> Result<Option<Vec<ExtraName>>, AllocError>
+    ensures { IfOk result (λ names. option_map (λ v. v.items) names
+        ≡ names_of (slice_split (λ b. b == 44) inside.now)) }
+{
+    let mut names = Vec::new(alloc);
+    for piece in inside.split(',') {
+        match read_extra(alloc, piece)? {
+            Some(name) => names.push(name)?,
+            None => return Ok(None),
+        }
+    }
+    Ok(Some(names))
+}
+
+/// The name that a piece is, white space around it left out.
+fn read_extra(alloc: Global, piece: &str) -> Result<Option<ExtraName>, AllocError>
+    ensures { IfOk result (λ name. name ≡ name_of (trim piece.now)) }
+{
+    match ExtraName::from_str(alloc, piece.trim()) {
+        Ok(name) => Ok(Some(name)),
+        Err(InvalidNameError::Memory) => Err(AllocError),
+        Err(InvalidNameError::InvalidName(_)) => Ok(None),
+    }
+}
+
+/// The refusal of extras: their first fault, or that no `]` follows.
+fn refuse_extras<'a>(alloc: Global, opening: Cursor<'a>) -> Refusal<'a>
+    ensures plain { IsPlain result.kind }
+    ensures of { IsOf opening.entry result }
+{
+    let mut place = opening;
+    let mut is_first = true;
+    for _ in 0..opening.rest().len() {
+        let Some((_, inner)) = place.split_first() else {
+            break;
+        };
+        match skip_extra(alloc, inner, is_first) {
+            Ok(Some(comma)) => place = comma,
+            Ok(None) => break,
+            Err(refusal) => return refusal,
+        }
+        is_first = false;
+    }
+    opening.refuse_char(plain(String::from_str(
+        alloc,
+        "Missing closing bracket (expected ']', found end of dependency specification)",
+    )))
+}
+
+/// The place of the comma behind an extra, if there is one.
+fn skip_extra<'a>(
+    alloc: Global,
+    start: Cursor<'a>,
+    is_first: bool,
+) -> Result<Option<Cursor<'a>>, Refusal<'a>>
+    ensures comma { IfOk result (λ found. IfSome found (IsBehind start.entry)) }
+    ensures plain { IfErr result (λ refusal. IsPlain refusal.kind) }
+    ensures of { IfErr result (IsOf start.entry) }
+{
+    let begin = start.after_whitespace();
+    let Some(c) = begin.peek() else {
+        return Ok(None);
+    };
+    if !c.is_ascii_alphanumeric() {
+        return Err(refuse_first(alloc, begin, c, is_first));
+    }
+    let (name, later) = cut_name(begin);
+    match later.peek() {
+        Some(c) if c != ',' && c != ']' && !c.is_whitespace() => {
+            return Err(later.refuse_char(plain(format!(in alloc;
+                "Invalid character in extras name, expected an alphanumeric character, `-`, `_`, `.`, `,` or `]`, found `{c}`"
+            ))));
+        }
+        _ => {}
+    }
+    if !is_name(name) {
+        return Err(refuse_last(alloc, begin, "Extra"));
+    }
+    let end = later.after_whitespace();
+    match end.peek() {
+        Some(',') => Ok(Some(end)),
+        Some(']') | None => Ok(None),
+        Some(c) => Err(end.refuse_char(plain(format!(in alloc;
+            "Expected either `,` (separating extras) or `]` (ending the extras section), found `{c}`"
+        )))),
+    }
+}
+
+/// The refusal of a character that begins no extra.
+fn refuse_first<'a>(alloc: Global, place: Cursor<'a>, c: char, is_first: bool) -> Refusal<'a>
+    ensures plain { IsPlain result.kind }
+    ensures of { IsOf place.entry result }
+{
+    if is_first && c == ',' {
+        return place.refuse_char(plain(String::from_str(
+            alloc,
+            "Expected either alphanumerical character (starting the extra name) or `]` (ending the extras section), found `,`",
+        )));
+    }
+    place.refuse_char(plain(format!(in alloc;
+        "Expected an alphanumeric character starting the extra name, found `{c}`"
+    )))
+}

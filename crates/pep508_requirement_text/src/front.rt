@@ -1,0 +1,159 @@
+//! Reading the front of a requirement.
+
+ghost use Rattle.std.specs.Prelude.{◌≡◌, false, IfOk};
+ghost use Rattle.pep508_url.specs.Vars.{Variables};
+ghost use Rattle.pep508_error.specs.Cursors.{rest_of, IsBehind};
+ghost use Rattle.std.specs.Str.{skip_leading_whitespace};
+ghost use Rattle.pep508_requirement_text.specs.UrlEnds.{url_split};
+ghost use Rattle.pep508_requirement_text.specs.FrontReading.{front_reading, source_at, alone, begins_operator, if_url, run_of};
+ghost use Rattle.pep508_requirement_text.specs.FrontReading.Refused.{Nameless};
+ghost use Rattle.pep508_requirement_text.specs.FrontOutcome.{behind, Fits, StaysIn, IsOf};
+ghost use Rattle.pep508_requirement_text.specs.FrontFound.{ReadsFront, ReadsAs, IsSource, IsUrlIn};
+
+use crate::archive::is_archive;
+use crate::extras::read_extras;
+use crate::list::{read_enclosed, read_open};
+use crate::look::looks_unnamed;
+use crate::message::{plain, unsupported};
+use crate::name::{package_name, read_name};
+use crate::place::{cut_run, refuse_between, refuse_none};
+use crate::source::Source;
+use crate::url_cut::cut_url;
+use pep508_error::{Cursor, Refusal};
+use pep508_name::{ExtraName, PackageName};
+use pep508_url::Vars;
+use std::alloc::Global;
+
+/// A requirement but for its marker.
+#[derive(Drop)]
+pub struct Front<'a> {
+    pub name: PackageName,
+    pub extras: Vec<ExtraName>,
+    pub source: Source<'a>,
+}
+
+const PRECEDED_BY_URL: &str =
+    "URL requirement must be preceded by a package name. Add the name of the package before the URL (e.g., `package_name @ https://...`).";
+
+/// The front of a requirement at a place, and the place behind it: a name, extras, and specifiers or the text of a URL
+/// (PEP 508, "Grammar").
+///
+/// Linear in the text, but for bringing specifiers in order; takes memory for the name, the extras and the specifiers. The
+/// refusal shows the part of the text at fault.
+#[tactic(auto, unfolding(crate::specs::FrontReading::front_reading))]
+pub fn read_front<'a>(
+    alloc: Global,
+    start: Cursor<'a>,
+    vars: &Vars,
+) -> Result<(Front<'a>, Cursor<'a>), Refusal<'a>>
+    ensures read { ReadsFront vars.now result (front_reading (rest_of start.entry)) }
+    ensures stays { StaysIn start.entry (λ found. found.1) result }
+    ensures url { IfOk result (λ found. IsUrlIn start.entry found.0.source) }
+{
+    let (name, named) = read_name(alloc, start.after_whitespace(), vars)?;
+    let (extras, asked) = read_extras(alloc, named.after_whitespace())?;
+    let (source, later) = read_source(alloc, start, name, asked.after_whitespace(), vars)?;
+    let name = package_name(alloc, name)?;
+    Ok((
+        Front {
+            name,
+            extras,
+            source,
+        },
+        later,
+    ))
+}
+
+/// What follows a name and its extras, and the place behind it; `whole` is where the requirement begins.
+fn read_source<'a>(
+    alloc: Global,
+    whole: Cursor<'a>,
+    name: &str,
+    start: Cursor<'a>,
+    vars: &Vars,
+) -> Result<(Source<'a>, Cursor<'a>), Refusal<'a>>
+    requires { IsBehind whole start }
+    ensures read { ReadsAs vars.now IsSource result (source_at (behind whole.entry) name.now (behind start.entry)) }
+    ensures stays { StaysIn whole.entry (λ found. found.1) result }
+    ensures url { IfOk result (λ found. IsUrlIn whole.entry found.0) }
+{
+    let Some((c, inner)) = start.split_first() else {
+        return read_alone(alloc, whole, name, start);
+    };
+    if c == '@' {
+        read_url(alloc, inner)
+    } else if c == '(' {
+        read_enclosed(alloc, start, inner)
+    } else if begins_operator(c) {
+        read_open(alloc, start)
+    } else if c == ';' {
+        read_alone(alloc, whole, name, start)
+    } else {
+        Err(refuse_other(alloc, whole, start, c, vars))
+    }
+}
+
+/// Whether an operator begins with a character.
+fn begins_operator(c: char) -> bool
+    ensures { result ≡ begins_operator c }
+{
+    c == '<' || c == '=' || c == '>' || c == '~' || c == '!'
+}
+
+/// A name that stands alone.
+fn read_alone<'a>(
+    alloc: Global,
+    whole: Cursor<'a>,
+    name: &str,
+    start: Cursor<'a>,
+) -> Result<(Source<'a>, Cursor<'a>), Refusal<'a>>
+    requires { IsBehind whole start }
+    ensures read { (vars : Variables) → ReadsAs vars IsSource result (alone name.now (behind start.entry)) }
+    ensures stays { StaysIn whole.entry (λ found. found.1) result }
+    ensures url { IfOk result (λ found. IsUrlIn whole.entry found.0) }
+{
+    if is_archive(name) {
+        return Err(refuse_none(whole, unsupported(String::from_str(alloc, PRECEDED_BY_URL))));
+    }
+    Ok((Source::Any, start))
+}
+
+/// The text of a URL behind `@`.
+fn read_url<'a>(alloc: Global, start: Cursor<'a>) -> Result<(Source<'a>, Cursor<'a>), Refusal<'a>>
+    ensures read { (vars : Variables) → ReadsAs vars IsSource result
+        (if_url (url_split false 0 (skip_leading_whitespace (behind start.entry)))) }
+    ensures stays { StaysIn start.entry (λ found. found.1) result }
+    ensures url { IfOk result (λ found. IsUrlIn start.entry found.0) }
+{
+    let place = start.after_whitespace();
+    let (piece, later) = cut_url(place, false);
+    if piece.text.is_empty() {
+        return Err(refuse_none(place, plain(String::from_str(alloc, "Expected URL"))));
+    }
+    Ok((Source::Url(piece), later))
+}
+
+/// The refusal of what may not follow a name.
+fn refuse_other<'a>(
+    alloc: Global,
+    whole: Cursor<'a>,
+    place: Cursor<'a>,
+    c: char,
+    vars: &Vars,
+) -> Refusal<'a>
+    requires { IsBehind whole place }
+    ensures fits { Fits vars.now result.kind (Nameless (run_of (behind whole.entry))) }
+    ensures of { IsOf whole.entry result }
+{
+    let (run, end) = cut_run(whole);
+    match looks_unnamed(alloc, run, vars) {
+        Ok(true) => {
+            let kind = unsupported(String::from_str(alloc, PRECEDED_BY_URL));
+            refuse_between(whole, end, kind)
+        }
+        Ok(false) => place.refuse_char(plain(format!(in alloc;
+            "Expected one of `@`, `(`, `<`, `=`, `>`, `~`, `!`, `;`, found `{c}`"
+        ))),
+        Err(_) => Refusal::memory(),
+    }
+}

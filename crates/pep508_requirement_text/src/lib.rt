@@ -1,0 +1,22 @@
+//! The front of a requirement's text (PEP 508, "Grammar"): a name, extras, and specifiers or the text of a URL.
+#![tactic(auto)]
+
+mod archive;
+mod cuts;
+mod extras;
+mod front;
+mod list;
+mod look;
+mod message;
+mod name;
+mod place;
+mod source;
+mod url_cut;
+mod url_end;
+
+pub use archive::is_archive;
+pub use extras::read_extras;
+pub use front::{Front, read_front};
+pub use look::looks_unnamed;
+pub use source::{Source, UrlPiece};
+pub use url_end::split_url;

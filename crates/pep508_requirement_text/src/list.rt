@@ -1,0 +1,132 @@
+//! Reading specifiers.
+
+ghost use Rattle.std.specs.Prelude.{◌≡◌, ◌==◌, IfOk, IfErr};
+ghost use Rattle.std.specs.Str.{trim_start};
+ghost use Rattle.std.specs.String.{string_bytes};
+ghost use Rattle.pep508_error.specs.Cursors.{IsBehind};
+ghost use Rattle.pep508_requirement_text.specs.FrontReading.{specifiers_of_text, cut_before, listed};
+ghost use Rattle.pep508_url.specs.Vars.{Variables};
+ghost use Rattle.pep508_requirement_text.specs.FrontFound.{ReadsAs, IsSource, IsUrlIn, enclosed_at};
+ghost use Rattle.pep508_requirement_text.specs.FrontOutcome.{behind, IsAt, ReadsSpecifiers, StaysIn, IsPlain, IsOf};
+
+use crate::message::plain;
+use crate::place::{cut_around, cut_before, pass, refuse_none};
+use crate::source::Source;
+use crate::url_end::split_blanks;
+use pep440_specifier::VersionSpecifierParseError;
+use pep440_specifier_list::{RefusedPiece, VersionSpecifiers, VersionSpecifiersParseError};
+use pep508_error::{Cursor, Refusal};
+use std::alloc::Global;
+
+/// The list up to a `;` or the end, and the place behind it.
+pub(crate) fn read_open<'a>(
+    alloc: Global,
+    start: Cursor<'a>,
+) -> Result<(Source<'a>, Cursor<'a>), Refusal<'a>>
+    ensures read { (vars : Variables) → ReadsAs vars IsSource result
+        (listed (cut_before (λ c. c == 59) (behind start.entry))) }
+    ensures stays { StaysIn start.entry (λ found. found.1) result }
+    ensures url { IfOk result (λ found. IsUrlIn start.entry found.0) }
+{
+    let (text, later) = cut_before(start, ';');
+    let list = read_specifiers(alloc, start, text)?;
+    Ok((Source::Specifiers(list), later))
+}
+
+/// The list in brackets behind the opening one, and the place behind the closing one.
+pub(crate) fn read_enclosed<'a>(
+    alloc: Global,
+    opening: Cursor<'a>,
+    inner: Cursor<'a>,
+) -> Result<(Source<'a>, Cursor<'a>), Refusal<'a>>
+    requires { IsBehind opening inner }
+    ensures read { (vars : Variables) → ReadsAs vars IsSource result (enclosed_at (behind inner.entry)) }
+    ensures stays { StaysIn opening.entry (λ found. found.1) result }
+    ensures url { IfOk result (λ found. IsUrlIn opening.entry found.0) }
+{
+    match cut_around(inner, ')') {
+        Some((text, later)) => {
+            let list = read_trimmed(alloc, inner, text)?;
+            Ok((Source::Specifiers(list), later))
+        }
+        None => Err(refuse_unclosed(alloc, opening, inner)),
+    }
+}
+
+/// The refusal of a list whose bracket is not closed: the first fault before its last comma, or that no `)` follows.
+fn refuse_unclosed<'a>(alloc: Global, opening: Cursor<'a>, inner: Cursor<'a>) -> Refusal<'a>
+    requires { IsBehind opening inner }
+    ensures plain { IsPlain result.kind }
+    ensures of { IsOf opening.entry result }
+{
+    if let Some((text, _)) = inner.rest().rsplit_once(',') {
+        if let Err(refusal) = read_trimmed(alloc, inner, text) {
+            return refusal;
+        }
+    }
+    opening.refuse_char(plain(String::from_str(
+        alloc,
+        "Missing closing parenthesis (expected ')', found end of dependency specification)",
+    )))
+}
+
+/// The list of a text at a place, white space at its front left out.
+fn read_trimmed<'a>(
+    alloc: Global,
+    start: Cursor<'a>,
+    text: &str,
+) -> Result<VersionSpecifiers, Refusal<'a>>
+    requires { IsAt start text.now }
+    ensures read { ReadsSpecifiers result (specifiers_of_text (trim_start text.now)) }
+    ensures plain { IfErr result (λ refusal. IsPlain refusal.kind) }
+    ensures of { IfErr result (IsOf start.entry) }
+{
+    let (blanks, list) = split_blanks(text);
+    read_specifiers(alloc, pass(start, blanks), list)
+}
+
+/// The list of a text at a place.
+#[tactic(auto, unfolding(crate::specs::FrontReading::specifiers_of_text))]
+fn read_specifiers<'a>(
+    alloc: Global,
+    start: Cursor<'a>,
+    text: &str,
+) -> Result<VersionSpecifiers, Refusal<'a>>
+    requires { IsAt start text.now }
+    ensures read { ReadsSpecifiers result (specifiers_of_text text.now) }
+    ensures plain { IfErr result (λ refusal. IsPlain refusal.kind) }
+    ensures of { IfErr result (IsOf start.entry) }
+{
+    if text.is_empty() {
+        return Err(refuse_empty(alloc, start));
+    }
+    match VersionSpecifiers::from_str(alloc, text) {
+        Ok(list) => Ok(list),
+        Err(VersionSpecifiersParseError::Memory) => Err(Refusal::memory()),
+        Err(VersionSpecifiersParseError::Specifier(piece)) => Err(refuse_piece(
+            alloc, start, &piece,
+        )),
+    }
+}
+
+/// The refusal of a list without specifiers.
+fn refuse_empty<'a>(alloc: Global, start: Cursor<'a>) -> Refusal<'a>
+    ensures plain { IsPlain result.kind }
+    ensures of { IsOf start.entry result }
+{
+    let error = VersionSpecifierParseError::MissingOperator;
+    refuse_none(start, plain(format!(in alloc; "{error}")))
+}
+
+/// The refusal of a piece of the text at a place.
+fn refuse_piece<'a>(alloc: Global, start: Cursor<'a>, piece: &RefusedPiece) -> Refusal<'a>
+    requires { IsAt start (string_bytes piece.now.line) }
+    ensures plain { IsPlain result.kind }
+    ensures of { IsOf start.entry result }
+{
+    let error = piece.error();
+    let kind = plain(format!(in alloc; "{error}"));
+    start
+        .after(piece.start())
+        .refuse(piece.end() - piece.start(), kind)
+}

@@ -1,0 +1,50 @@
+//! Refusals of a front, by their kind.
+
+ghost use Rattle.pep508_requirement_text.specs.FrontOutcome.{IsPlain, IsUnsupported, IsOf};
+ghost use Rattle.pep508_error.specs.Cursors.{IsBehind};
+
+use crate::cuts::is_of_name;
+use pep508_error::{Cursor, Refusal, RefusalKind};
+use std::alloc::{AllocError, Global};
+
+/// That a text is malformed.
+pub(crate) fn plain(message: Result<String, AllocError>) -> RefusalKind
+    ensures { IsPlain result }
+{
+    RefusalKind::string(message)
+}
+
+/// That a text can't be a requirement with a name.
+pub(crate) fn unsupported(message: Result<String, AllocError>) -> RefusalKind
+    ensures { IsUnsupported result }
+{
+    RefusalKind::unsupported(message)
+}
+
+/// The refusal of a name at a place, since its last character is no letter or digit; `what` it names.
+pub(crate) fn refuse_last<'a>(alloc: Global, start: Cursor<'a>, what: &str) -> Refusal<'a>
+    ensures plain { IsPlain result.kind }
+    ensures of { IsOf start.entry result }
+{
+    let last = last_of_name(start);
+    let c = last.peek().unwrap_or('-');
+    last.refuse_char(plain(format!(in alloc;
+        "{what} name must end with an alphanumeric character, not '{c}'"
+    )))
+}
+
+/// The place of the last of the characters of names that follow.
+fn last_of_name(start: Cursor<'_>) -> Cursor<'_>
+    ensures { IsBehind start.entry result }
+{
+    let mut last = start;
+    let mut next = start;
+    while let Some((c, later)) = next.split_first() {
+        if !is_of_name(c) {
+            return last;
+        }
+        last = next;
+        next = later;
+    }
+    last
+}
