@@ -15,9 +15,9 @@ use Rattle.pep508_requirement_text.specs.FrontReading.{Front, Refused, front_rea
 use Rattle.pep508_requirement_text.specs.FrontReading as reading
 use Rattle.pep508_requirement_text.specs.FrontOutcome.{Fits, Tells}
 use Rattle.pep508_requirement_text.specs.FrontFound.{IsSource, IsUrlIn}
-use Rattle.pep508_requirement_text.specs.declared.front.Source.{Source}
-use Rattle.pep508_requirement_text.specs.declared.front.Source.TheVariants as read
-use Rattle.pep508_requirement_text.specs.declared.front.UrlPiece.{UrlPiece}
+use Rattle.pep508_requirement_text.specs.declared.source.Source.{Source}
+use Rattle.pep508_requirement_text.specs.declared.source.Source.TheVariants as read
+use Rattle.pep508_requirement_text.specs.declared.source.UrlPiece.{UrlPiece}
 use Rattle.pep508_requirement.specs.declared.version_or_url.VersionOrUrl.{VersionOrUrl}
 use Rattle.pep508_requirement.specs.declared.version_or_url.VersionOrUrl.TheVariants as asked
 use Rattle.pep508_requirement.specs.Pieces.{UrlRefusedBy, ReadsAsked, LeftRefusedBy}
@@ -26,7 +26,7 @@ use Rattle.pep508_requirement.specs.RequirementReading.{AsksFor, IsReadUpTo, IsF
 -- ---- errors made of refusals
 
 -- the kind of refusal of which an error says this
-abbrev kind_of : {T E : Type 0} → Pep508ErrorSource T E → RefusalKind
+abbrev pub kind_of : {T E : Type 0} → Pep508ErrorSource T E → RefusalKind
 kind_of sources.Memory = kinds.Memory
 kind_of (sources.String message) = kinds.String message
 kind_of (sources.UnsupportedRequirement message) = kinds.UnsupportedRequirement message
@@ -34,7 +34,7 @@ kind_of sources.NumberAtEnd = kinds.NumberAtEnd
 kind_of (sources.UrlError error) = kinds.Memory
 
 -- an error says what the refusal does, or that memory ran out
-abbrev Says : {T E : Type 0} → Pep508ErrorSource T E → RefusalKind → Type 0
+abbrev pub Says : {T E : Type 0} → Pep508ErrorSource T E → RefusalKind → Type 0
 Says sources.Memory kind = Unit {0}
 Says (sources.UrlError error) kind = ⊥
 Says source kind = kind ≡ kind_of source
@@ -62,7 +62,7 @@ module _ (T E : Type 0) where
   no_url_said (kinds.UnsupportedRequirement message) input start len error h = cc
   no_url_said kinds.NumberAtEnd input start len error h = cc
 
-  says : (source : Pep508ErrorSource T E) (excerpt : Excerpt) (kind : RefusalKind) (input : List ℕ) (start len : ℕ)
+  pub says : (source : Pep508ErrorSource T E) (excerpt : Excerpt) (kind : RefusalKind) (input : List ℕ) (start len : ℕ)
       → IfSome (told_by source excerpt) (λ fault. said_by kind input start len ≡ Some fault) → Says source kind
   says sources.Memory excerpt kind input start len h = tt
   says (sources.String message) excerpt kind input start len h =
@@ -73,7 +73,7 @@ module _ (T E : Type 0) where
       sym (kind_said kind input start len) ∙ ap (λ told. kind_of (source_in told)) h
   says (sources.UrlError error) excerpt kind input start len h = no_url_said kind input start len error (ap source_in h)
 
-  said_input : (told : Option (Fault T E)) (kind : RefusalKind) (input text : List ℕ) (start len : ℕ)
+  pub said_input : (told : Option (Fault T E)) (kind : RefusalKind) (input text : List ℕ) (start len : ℕ)
       → ((kind ≡ kinds.Memory → ⊥) → input ≡ text)
       → IfSome told (λ fault. said_by kind input start len ≡ Some fault) → IfSome told (λ fault. fault.input ≡ text)
   said_input None kind input text start len of h = tt
