@@ -1,6 +1,6 @@
 -- Requirements as values.
 use Rattle.std.specs.Prelude.{◌≡◌, Option, Some, None, option_map}
-use Rattle.pep508_requirement.specs.Origins.{origin_of}
+use Rattle.pep508_name.specs.Origin.{origin_of}
 use Rattle.pep508_requirement.specs.declared.requirement.Requirement.{Requirement}
 use Rattle.pep508_requirement.specs.declared.version_or_url.VersionOrUrl.{VersionOrUrl}
 use Rattle.pep508_requirement.specs.declared.version_or_url.VersionOrUrl.TheVariants as asked

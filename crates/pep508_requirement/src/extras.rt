@@ -1,8 +1,12 @@
 //! Lists of extras.
 
 ghost use Rattle.std.specs.Prelude.{◌≡◌, IfOk};
+ghost use Rattle.pep508_requirement.specs.ExtrasReading.{ReadsExtras};
 
+use pep508_error::{Cursor, Pep508Error};
 use pep508_name::ExtraName;
+use pep508_requirement_text::read_extras;
+use pep508_url::Pep508Url;
 use std::alloc::{AllocError, Global};
 
 /// The extras that a requirement asks for, in the order given.
@@ -10,6 +14,19 @@ use std::alloc::{AllocError, Global};
 pub struct Extras(Vec<ExtraName>);
 
 impl Extras {
+    /// The extras at the front of a text, as `[security,tests]`; none where no bracket stands there. What follows them is not
+    /// looked at (PEP 508, "Grammar").
+    ///
+    /// Linear in the extras; takes memory for them and for an error.
+    pub fn parse<T: Pep508Url>(alloc: Global, text: &str) -> Result<Extras, Pep508Error<T>>
+        ensures { ReadsExtras text.now result }
+    {
+        match read_extras(alloc, Cursor::new(text)) {
+            Ok((names, _)) => Ok(Extras(names)),
+            Err(refusal) => Err(Pep508Error::of(alloc, refusal)),
+        }
+    }
+
     /// The names, in the order given.
     pub fn as_slice(&self) -> &[ExtraName]
         ensures { result.now ≡ self.now.0.items }

@@ -3,7 +3,6 @@
 #![tactic(auto)]
 
 mod extras;
-mod origin;
 mod reading;
 mod requirement;
 mod unnamed;
@@ -11,7 +10,7 @@ mod unnamed_url;
 mod version_or_url;
 
 pub use extras::Extras;
-pub use origin::RequirementOrigin;
+pub use pep508_name::RequirementOrigin;
 pub use requirement::Requirement;
 pub use unnamed::UnnamedRequirement;
 pub use version_or_url::{VersionOrUrl, VersionOrUrlRef};

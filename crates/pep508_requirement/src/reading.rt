@@ -1,6 +1,9 @@
 //! Reading requirements.
 
-ghost use Rattle.std.specs.Prelude.{◌≡◌, [], chars, MatchOption, IfSome, option_copied};
+ghost use Rattle.std.specs.Prelude.{◌≡◌, [], chars, MatchOption, IfSome, None, option_copied};
+ghost use Rattle.serde_json.specs.View.{view};
+ghost use Rattle.serde_json.specs.Find.{as_str};
+ghost use Rattle.read_outcome.specs.Outcome.{ReadsText};
 ghost use Rattle.std.specs.Str.{skip_leading_whitespace};
 ghost use Rattle.pep508_url.specs.Vars.{IsAbsolute};
 ghost use Rattle.pep508_error.specs.Cursors.{rest_of, IsBehind};
@@ -11,12 +14,93 @@ ghost use Rattle.pep508_requirement.specs.RequirementReading.{ReadsRequirement};
 use crate::{Requirement, VersionOrUrl};
 use pep508_error::{Cursor, Pep508Error, Refusal, RefusalKind};
 use pep508_requirement_text::{Front, Source, UrlPiece, read_front};
-use pep508_tree::MarkerTree;
+use pep508_marker::{Reporter, Silent};
+use pep508_tree::{Interner, MarkerTree};
 use pep508_url::{Pep508Url, Vars};
+use read_outcome::FromValueError;
+use serde_json::Value;
 use std::alloc::{AllocError, Global};
 
+impl<T: Pep508Url> Requirement<T> {
+    /// Reads a requirement, as `requests[security]>=2.8.1,<3` or `pip @ https://example.org/pip.whl` (PEP 508, "Grammar"). A
+    /// URL that is a relative path stands in the absolute directory, where there is one.
+    ///
+    /// A `;` that would begin a marker is refused as `UnsupportedRequirement`, since markers are not read yet, and so is a
+    /// URL, a path or an archive that stands where a name is wanted. A text that is no requirement otherwise is refused as
+    /// `String`, and one whose URL is none as `UrlError`.
+    ///
+    /// Linear in the text, but for bringing specifiers in order; takes memory for what is read and for an error.
+    pub fn parse(
+        alloc: Global,
+        interner: &mut Interner,
+        vars: &Vars,
+        text: &str,
+        working_dir: Option<&str>,
+    ) -> Result<Self, Pep508Error<T>>
+        requires { IfSome working_dir (λ directory. IsAbsolute directory.now) }
+        ensures answered { ReadsRequirement (λ url. T.reads vars.now url (option_copied working_dir.entry))
+            T.lacks_memory vars.now text.now result }
+        ensures nodes { interner.new ≡ interner.old }
+    {
+        Requirement::parse_reporter(alloc, interner, vars, text, working_dir, &mut Silent)
+    }
+
+    /// Reads a requirement as `parse` does, and reports the warnings of its marker. So far there are none.
+    pub fn parse_reporter<R: Reporter>(
+        alloc: Global,
+        interner: &mut Interner,
+        vars: &Vars,
+        text: &str,
+        working_dir: Option<&str>,
+        reporter: &mut R,
+    ) -> Result<Self, Pep508Error<T>>
+        requires directory { IfSome working_dir (λ directory. IsAbsolute directory.now) }
+        requires can_report { R.can_report reporter.old }
+        ensures answered { ReadsRequirement (λ url. T.reads vars.now url (option_copied working_dir.entry))
+            T.lacks_memory vars.now text.now result }
+        ensures nodes { interner.new ≡ interner.old }
+        ensures warnings { reporter.new ≡ reporter.old }
+    {
+        read_requirement(alloc, vars, text, working_dir)
+    }
+
+    /// Reads a requirement as `parse` does, with no directory, so that a relative path is refused.
+    pub fn from_str(
+        alloc: Global,
+        interner: &mut Interner,
+        vars: &Vars,
+        text: &str,
+    ) -> Result<Self, Pep508Error<T>>
+        ensures answered { ReadsRequirement (λ url. T.reads vars.now url None) T.lacks_memory vars.now text.now result }
+        ensures nodes { interner.new ≡ interner.old }
+    {
+        Requirement::parse(alloc, interner, vars, text, None)
+    }
+
+    /// Reads a JSON text as `from_str` does; another value is refused as `Shape`.
+    pub fn from_value(
+        alloc: Global,
+        interner: &mut Interner,
+        vars: &Vars,
+        value: &Value,
+    ) -> Result<Self, FromValueError<Pep508Error<T>>>
+        ensures answered { ReadsText
+            (λ text read. ReadsRequirement (λ url. T.reads vars.now url None) T.lacks_memory vars.now text read)
+            (as_str (view value.now)) result }
+        ensures nodes { interner.new ≡ interner.old }
+    {
+        let Some(text) = value.as_str() else {
+            return Err(FromValueError::Shape);
+        };
+        match Requirement::from_str(alloc, interner, vars, text) {
+            Ok(requirement) => Ok(requirement),
+            Err(error) => Err(FromValueError::Text(error)),
+        }
+    }
+}
+
 /// The requirement that a text is.
-pub(crate) fn read_requirement<T: Pep508Url>(
+fn read_requirement<T: Pep508Url>(
     alloc: Global,
     vars: &Vars,
     text: &str,

@@ -4,8 +4,8 @@ ghost use Rattle.std.specs.Prelude.{◌≡◌, Some, IfOk};
 ghost use Rattle.pep508_requirement.specs.Requirements.{without_url, IsCopy};
 
 use crate::extras::copy_names;
-use crate::{RequirementOrigin, VersionOrUrl};
-use pep508_name::{ExtraName, PackageName};
+use crate::VersionOrUrl;
+use pep508_name::{ExtraName, PackageName, RequirementOrigin};
 use pep508_tree::MarkerTree;
 use pep508_url::{Pep508Url, VerbatimUrl};
 use std::alloc::{AllocError, Global};

@@ -2,8 +2,7 @@
 
 ghost use Rattle.std.specs.Prelude.{◌≡◌, Some};
 
-use crate::RequirementOrigin;
-use pep508_name::ExtraName;
+use pep508_name::{ExtraName, RequirementOrigin};
 use pep508_tree::MarkerTree;
 use pep508_url::{UnnamedRequirementUrl, VerbatimUrl};
 

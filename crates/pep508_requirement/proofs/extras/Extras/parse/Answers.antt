@@ -1,0 +1,23 @@
+use Rattle.std.proofs.Common.{[], chars, sym, ap, subst, ◌∙◌}
+use Rattle.pep508_url.specs.Vars.{Variables}
+use Rattle.pep508_requirement_text.specs.FrontReading.{extras_at}
+use Rattle.pep508_requirement_text.specs.FrontOutcome.{Tells, behind}
+use Rattle.pep508_requirement.proofs.RefusedExtras.{extras_error}
+use Rattle.pep508_requirement.proofs.extras.Extras.parse.Goals as goal
+
+-- no variables: extras are read alike with any
+none : Variables
+none = record { pairs = []; project_root = [] }
+
+pub returns-in-Ok : goal.returns-in-Ok
+returns-in-Ok g c = (
+  _,
+  ap (λ text. extras_at (chars text)) (sym c.new.ensures.rest) ∙ c.in-Ok.ensures.read none,
+)
+
+pub returns-in-Err : goal.returns-in-Err
+returns-in-Err g c =
+    extras_error none c.args.text.now c.of.result c.in-Err.refusal c.of.ensures
+    (λ other. c.in-Err.ensures.stays other ∙ c.new.ensures.input)
+    (subst (λ text. Tells none c.in-Err.refusal.kind (extras_at (chars text))) c.new.ensures.rest
+      (c.in-Err.ensures.read none))
