@@ -1,5 +1,5 @@
 -- Extras are refused as malformed alone.
-use Rattle.std.proofs.Common.{◌≡◌, ℕ, ◌==◌, Bool, true, false, if◌then◌else◌, List, [], ◌∷◌, Option, Some, None, Result, Ok, Err, IfSome, refl, sym, ap, subst, ◌∙◌, option_map, chars}
+use Rattle.std.proofs.Common.{◌≡◌, ℕ, ◌==◌, true, false, if◌then◌else◌, List, [], ◌∷◌, Option, Some, None, Result, Ok, Err, IfSome, refl, ap, subst, ◌∙◌, option_map, chars}
 use Rattle.pep508_url.specs.Vars.{Variables}
 use Rattle.pep508_error.specs.declared.refusal.Refusal.{Refusal}
 use Rattle.pep508_error.specs.declared.refusal.RefusalKind.{RefusalKind}
@@ -29,7 +29,7 @@ extras_plain [] refused h = cc
 extras_plain (c ∷ cs) refused h =
     elim (c == 91) as
     (λ b. ◌≡◌ {A = Reading (List (List ℕ))} (if b then if_there (cut_around 93 cs) >>= bracketed else Ok ([], c ∷ cs)) (Err refused)
-      → refused ≡ Malformed)
+    → refused ≡ Malformed)
     [ true ↦ bracketed_plain (cut_around 93 cs) refused | false ↦ (λ e. cc) ] h
 
 module _ {T E : Type 0} (vars : Variables) (text : List ℕ) where
@@ -45,7 +45,7 @@ module _ {T E : Type 0} (vars : Variables) (text : List ℕ) where
   cause_by (sources.UnsupportedRequirement message) (Ok found) kind e said h = cc
   cause_by (sources.UnsupportedRequirement message) (Err refused) kind e said h =
       absurd (subst (Fits vars (kinds.UnsupportedRequirement message)) (extras_plain (chars text) refused e)
-        (subst (λ k. Fits vars k refused) said h))
+      (subst (λ k. Fits vars k refused) said h))
 
   pub extras_error : (error : Pep508Error T E) (refusal : Refusal)
       → IfSome (told_error error) (λ fault. told_refusal refusal ≡ Some fault)
@@ -54,6 +54,6 @@ module _ {T E : Type 0} (vars : Variables) (text : List ℕ) where
       → ExtrasRefusedBy text error.message × IfSome (told_error error) (λ fault. fault.input ≡ text)
   extras_error error refusal told of h = (
     cause_by error.message (extras_at (chars text)) refusal.kind refl
-    (says T E error.message error.excerpt refusal.kind refusal.input.now refusal.start refusal.len told) h,
+        (says T E error.message error.excerpt refusal.kind refusal.input.now refusal.start refusal.len told) h,
     said_input T E (told_error error) refusal.kind refusal.input.now text refusal.start refusal.len of told,
   )

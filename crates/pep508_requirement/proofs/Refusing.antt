@@ -1,5 +1,5 @@
 -- What an error says of a text is the reason for which the text is refused.
-use Rattle.std.proofs.Common.{◌≡◌, ◌≢◌, ℕ, Bool, false, List, ◌∷◌, Option, Some, None, Result, Ok, Err, IfSome, refl, sym, ap, subst, ◌∙◌, inl, inr}
+use Rattle.std.proofs.Common.{◌≡◌, ℕ, Bool, List, Option, Some, None, Result, Ok, Err, IfSome, refl, sym, ap, subst, ◌∙◌, inl, inr}
 use Rattle.std.specs.Str.{skip_leading_whitespace}
 use Rattle.pep508_url.specs.Vars.{Variables}
 use Rattle.pep508_error.specs.declared.cursor.Cursor.{Cursor}
@@ -13,7 +13,7 @@ use Rattle.pep508_error.specs.declared.error.Pep508ErrorSource.TheVariants as so
 use Rattle.pep508_error.specs.Errors.{Fault, told_by, said_by, told_error, told_refusal}
 use Rattle.pep508_requirement_text.specs.FrontReading.{Front, Refused, front_reading}
 use Rattle.pep508_requirement_text.specs.FrontReading as reading
-use Rattle.pep508_requirement_text.specs.FrontOutcome.{Fits, Tells}
+use Rattle.pep508_requirement_text.specs.FrontOutcome.{Tells}
 use Rattle.pep508_requirement_text.specs.FrontFound.{IsSource, IsUrlIn}
 use Rattle.pep508_requirement_text.specs.declared.source.Source.{Source}
 use Rattle.pep508_requirement_text.specs.declared.source.Source.TheVariants as read
@@ -109,10 +109,10 @@ module _ {T E : Type 0} (Reads : List ℕ → Result T E → Type 0) (lacks : E 
       no_number (front_reading text) (subst (λ k. Tells vars k (front_reading text)) said h)
   front_cause (sources.String message) kind said h =
       inl (front_refused vars text (kinds.String message) (front_reading text) refl (λ e. cc)
-        (subst (λ k. Tells vars k (front_reading text)) said h))
+      (subst (λ k. Tells vars k (front_reading text)) said h))
   front_cause (sources.UnsupportedRequirement message) kind said h =
       inl (front_refused vars text (kinds.UnsupportedRequirement message) (front_reading text) refl (λ e. cc)
-        (subst (λ k. Tells vars k (front_reading text)) said h))
+      (subst (λ k. Tells vars k (front_reading text)) said h))
 
   -- the front is refused
   pub front_error : (error : Pep508Error T E) (refusal : Refusal)
@@ -121,10 +121,10 @@ module _ {T E : Type 0} (Reads : List ℕ → Result T E → Type 0) (lacks : E 
       → Tells vars refusal.kind (front_reading text) → IsRefused Reads lacks vars text error
   front_error error refusal told of h = record {
     cause =
-      front_cause error.message refusal.kind
-      (says T E error.message error.excerpt refusal.kind refusal.input.now refusal.start refusal.len told) h;
+        front_cause error.message refusal.kind
+        (says T E error.message error.excerpt refusal.kind refusal.input.now refusal.start refusal.len told) h;
     input =
-      said_input T E (told_error error) refusal.kind refusal.input.now text refusal.start refusal.len of told;
+        said_input T E (told_error error) refusal.kind refusal.input.now text refusal.start refusal.len of told;
   }
 
   left_cause : (source : Pep508ErrorSource T E) (kind : RefusalKind) (front : Front)
@@ -136,23 +136,23 @@ module _ {T E : Type 0} (Reads : List ℕ → Result T E → Type 0) (lacks : E 
   left_cause (sources.String message) kind front what left said whole h =
       let at = subst (LeftRefusedBy left) said h in
       inr (record {
-          front = front;
-          what = what;
-          first = at.0;
-          left = at.1;
-          read = subst (IsReadUpTo Reads text front what) at.2 whole;
-          is = at.3;
-        })
+        front = front;
+        what = what;
+        first = at.0;
+        left = at.1;
+        read = subst (IsReadUpTo Reads text front what) at.2 whole;
+        is = at.3;
+      })
   left_cause (sources.UnsupportedRequirement message) kind front what left said whole h =
       let at = subst (LeftRefusedBy left) said h in
       inr (record {
-          front = front;
-          what = what;
-          first = 59;
-          left = at.0;
-          read = subst (IsReadUpTo Reads text front what) at.1 whole;
-          is = refl;
-        })
+        front = front;
+        what = what;
+        first = 59;
+        left = at.0;
+        read = subst (IsReadUpTo Reads text front what) at.1 whole;
+        is = refl;
+      })
 
   -- ---- what is asked for
 
@@ -215,9 +215,9 @@ module _ {T E : Type 0} (Reads : List ℕ → Result T E → Type 0) (lacks : E 
       → IsRefused Reads lacks vars text error
   left_error error refusal source front what rest told of e s wanted h = record {
     cause =
-      left_cause error.message refusal.kind front what (skip_leading_whitespace rest)
-      (says T E error.message error.excerpt refusal.kind refusal.input.now refusal.start refusal.len told)
-      (record { rest = rest; reading = e; asks = asks source front.source what s wanted; behind = refl }) h;
+        left_cause error.message refusal.kind front what (skip_leading_whitespace rest)
+        (says T E error.message error.excerpt refusal.kind refusal.input.now refusal.start refusal.len told)
+        (record { rest = rest; reading = e; asks = asks source front.source what s wanted; behind = refl }) h;
     input =
-      said_input T E (told_error error) refusal.kind refusal.input.now text refusal.start refusal.len of told;
+        said_input T E (told_error error) refusal.kind refusal.input.now text refusal.start refusal.len of told;
   }

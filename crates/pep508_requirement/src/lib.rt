@@ -6,7 +6,6 @@ mod extras;
 mod reading;
 mod requirement;
 mod unnamed;
-mod unnamed_url;
 mod version_or_url;
 
 pub use extras::Extras;

@@ -13,8 +13,8 @@ ghost use Rattle.pep508_requirement.specs.RequirementReading.{ReadsRequirement};
 
 use crate::{Requirement, VersionOrUrl};
 use pep508_error::{Cursor, Pep508Error, Refusal, RefusalKind};
-use pep508_requirement_text::{Front, Source, UrlPiece, read_front};
 use pep508_marker::{Reporter, Silent};
+use pep508_requirement_text::{Front, Source, UrlPiece, read_front};
 use pep508_tree::{Interner, MarkerTree};
 use pep508_url::{Pep508Url, Vars};
 use read_outcome::FromValueError;
@@ -210,7 +210,9 @@ fn refuse_first<'a, T: Pep508Url>(
     };
     match mark {
         Some(mark) => refuse_mark(alloc, rest, mark),
-        None => left.refuse_char(RefusalKind::string(format!(in alloc; "Expected end of input or `;`, found `{first}`"))),
+        None => left.refuse_char(RefusalKind::string(format!(in alloc;
+            "Expected end of input or `;`, found `{first}`"
+        ))),
     }
 }
 
@@ -220,9 +222,9 @@ fn refuse_mark<'a>(alloc: Global, rest: Cursor<'a>, mark: char) -> Refusal<'a>
     ensures of { IsOf rest.entry result }
 {
     let place = rest.before().unwrap_or(rest);
-    place.refuse_char(RefusalKind::string(
-        format!(in alloc; "Missing space before '{mark}', the end of the URL is ambiguous"),
-    ))
+    place.refuse_char(RefusalKind::string(format!(in alloc;
+        "Missing space before '{mark}', the end of the URL is ambiguous"
+    )))
 }
 
 /// The `;` or `#` with which the print of the URL ends, where there is one that does.
@@ -234,5 +236,9 @@ fn unclear_end<T: Pep508Url>(
         return Ok(None);
     };
     let text = url.to_string(alloc)?;
-    Ok([';', '#'].into_iter().find(|mark| text.as_str().ends_with(*mark)))
+    Ok(
+        [';', '#']
+            .into_iter()
+            .find(|mark| text.as_str().ends_with(*mark)),
+    )
 }

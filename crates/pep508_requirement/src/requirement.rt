@@ -3,8 +3,8 @@
 ghost use Rattle.std.specs.Prelude.{◌≡◌, Some, IfOk};
 ghost use Rattle.pep508_requirement.specs.Requirements.{without_url, IsCopy};
 
-use crate::extras::copy_names;
 use crate::VersionOrUrl;
+use crate::extras::copy_names;
 use pep508_name::{ExtraName, PackageName, RequirementOrigin};
 use pep508_tree::MarkerTree;
 use pep508_url::{Pep508Url, VerbatimUrl};

@@ -20,7 +20,9 @@ impl VersionOrUrl<VerbatimUrl> {
         ensures { IfOk result (λ copy. copy ≡ self.now) }
     {
         match self {
-            VersionOrUrl::VersionSpecifier(list) => Ok(VersionOrUrl::VersionSpecifier(list.try_clone(alloc)?)),
+            VersionOrUrl::VersionSpecifier(list) => Ok(VersionOrUrl::VersionSpecifier(
+                list.try_clone(alloc)?,
+            )),
             VersionOrUrl::Url(url) => Ok(VersionOrUrl::Url(url.try_clone(alloc)?)),
         }
     }

@@ -5,10 +5,7 @@ use serde_json::Value;
 use std::test::Fail;
 
 /// The print of what is asked for, nothing for any version.
-fn asked(
-    alloc: Global,
-    requirement: &Requirement<VerbatimUrl>,
-) -> Result<String, AllocError> {
+fn asked(alloc: Global, requirement: &Requirement<VerbatimUrl>) -> Result<String, AllocError> {
     match &requirement.version_or_url {
         None => Ok(String::new(alloc)),
         Some(wanted) => VersionOrUrlRef::from_ref(wanted).to_string(alloc),
@@ -22,12 +19,28 @@ fn reads_requirements(rt: HostRuntime) -> Result<(), Fail> {
     let mut interner = Interner::new(alloc);
     for (text, name, extras, wanted) in [
         ("foo", "foo", 0, ""),
-        (" Foo_Bar [b , a] < 2.0 , >= 1.16 ", "foo-bar", 2, ">=1.16, <2.0"),
+        (
+            " Foo_Bar [b , a] < 2.0 , >= 1.16 ",
+            "foo-bar",
+            2,
+            ">=1.16, <2.0",
+        ),
         ("foo[ ](>=1)", "foo", 0, ">=1"),
         ("foo @ ./pkg#b", "foo", 0, "file:///w/pkg#b"),
-        ("foo[x]@https://e.example/f.whl", "foo", 1, "https://e.example/f.whl"),
+        (
+            "foo[x]@https://e.example/f.whl",
+            "foo",
+            1,
+            "https://e.example/f.whl",
+        ),
     ] {
-        let read = Requirement::<VerbatimUrl>::parse(alloc, &mut interner, &vars, text, Some("/w"))?;
+        let read = Requirement::<VerbatimUrl>::parse(
+            alloc,
+            &mut interner,
+            &vars,
+            text,
+            Some("/w"),
+        )?;
         assert_eq!(rt; read.name.as_str(), name, "at {text}");
         assert_eq!(rt; read.extras.len(), extras, "at {text}");
         assert_eq!(rt; asked(alloc, &read)?.as_str(), wanted, "at {text}");
@@ -45,16 +58,66 @@ fn refuses_texts(rt: HostRuntime) -> Result<(), Fail> {
     let vars = Vars::new(alloc, &[], "/root")?;
     let mut interner = Interner::new(alloc);
     for (text, start, len, message) in [
-        ("foo- >=1", 3, 1, "Package name must end with an alphanumeric character, not '-'\nfoo- >=1\n   ^"),
-        ("foo[a-]", 5, 1, "Extra name must end with an alphanumeric character, not '-'\nfoo[a-]\n     ^"),
-        ("é==1", 0, 2, "Expected package name starting with an alphanumeric character, found `é`\né==1\n^"),
-        ("./foo.whl", 0, 9, "URL requirement must be preceded by a package name. Add the name of the package before the URL (e.g., `package_name @ /path/to/file`).\n./foo.whl\n^^^^^^^^^"),
-        ("foo-1.0.tar.gz", 0, 0, "URL requirement must be preceded by a package name. Add the name of the package before the URL (e.g., `package_name @ https://...`).\nfoo-1.0.tar.gz\n"),
-        ("foo @ ../../x", 6, 7, "path could not be normalized: /w/../../x\nfoo @ ../../x\n      ^^^^^^^"),
-        ("foo @ https://e.example/f.whl; os_name == 'a'", 29, 1, "Missing space before ';', the end of the URL is ambiguous\nfoo @ https://e.example/f.whl; os_name == 'a'\n                             ^"),
-        ("foo==18446744073709551616", 3, 22, "expected number less than or equal to 18446744073709551615, but number found in \"18446744073709551616\" exceeds it\nfoo==18446744073709551616\n   ^^^^^^^^^^^^^^^^^^^^^^"),
-        ("foo ; os_name == 'a'", 4, 1, "Markers are not read yet\nfoo ; os_name == 'a'\n    ^"),
-        ("foo @ ./a\nx", 10, 1, "Expected end of input or `;`, found `x`\nfoo @ ./a\nx\n         ^"),
+        (
+            "foo- >=1",
+            3,
+            1,
+            "Package name must end with an alphanumeric character, not '-'\nfoo- >=1\n   ^",
+        ),
+        (
+            "foo[a-]",
+            5,
+            1,
+            "Extra name must end with an alphanumeric character, not '-'\nfoo[a-]\n     ^",
+        ),
+        (
+            "é==1",
+            0,
+            2,
+            "Expected package name starting with an alphanumeric character, found `é`\né==1\n^",
+        ),
+        (
+            "./foo.whl",
+            0,
+            9,
+            "URL requirement must be preceded by a package name. Add the name of the package before the URL (e.g., `package_name @ /path/to/file`).\n./foo.whl\n^^^^^^^^^",
+        ),
+        (
+            "foo-1.0.tar.gz",
+            0,
+            0,
+            "URL requirement must be preceded by a package name. Add the name of the package before the URL (e.g., `package_name @ https://...`).\nfoo-1.0.tar.gz\n",
+        ),
+        (
+            "foo @ ../../x",
+            6,
+            7,
+            "path could not be normalized: /w/../../x\nfoo @ ../../x\n      ^^^^^^^",
+        ),
+        (
+            "foo @ https://e.example/f.whl; os_name == 'a'",
+            29,
+            1,
+            "Missing space before ';', the end of the URL is ambiguous\nfoo @ https://e.example/f.whl; os_name == 'a'\n                             ^",
+        ),
+        (
+            "foo==18446744073709551616",
+            3,
+            22,
+            "expected number less than or equal to 18446744073709551615, but number found in \"18446744073709551616\" exceeds it\nfoo==18446744073709551616\n   ^^^^^^^^^^^^^^^^^^^^^^",
+        ),
+        (
+            "foo ; os_name == 'a'",
+            4,
+            1,
+            "Markers are not read yet\nfoo ; os_name == 'a'\n    ^",
+        ),
+        (
+            "foo @ ./a\nx",
+            10,
+            1,
+            "Expected end of input or `;`, found `x`\nfoo @ ./a\nx\n         ^",
+        ),
         ("", 0, 1, "Empty field is not allowed for PEP508\n\n^"),
     ] {
         match Requirement::<VerbatimUrl>::parse(alloc, &mut interner, &vars, text, Some("/w")) {

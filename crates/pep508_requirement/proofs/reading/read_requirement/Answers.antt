@@ -9,7 +9,7 @@ returns-in-Err g c =
     front_error _ _ c.args.vars.now c.args.text.now c.of.result c.in-Err.refusal c.of.ensures
     (λ other. c.in-Err.ensures.stays other ∙ c.new.ensures.input)
     (subst (λ text. Tells c.args.vars.now c.in-Err.refusal.kind (front_reading text)) c.new.ensures.rest
-      c.in-Err.ensures.read)
+    c.in-Err.ensures.read)
 
 pub returns-in-Err-read_asked : goal.returns-in-Err-read_asked
 returns-in-Err-read_asked g c =

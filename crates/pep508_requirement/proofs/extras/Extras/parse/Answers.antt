@@ -1,7 +1,7 @@
 use Rattle.std.proofs.Common.{[], chars, sym, ap, subst, ◌∙◌}
 use Rattle.pep508_url.specs.Vars.{Variables}
 use Rattle.pep508_requirement_text.specs.FrontReading.{extras_at}
-use Rattle.pep508_requirement_text.specs.FrontOutcome.{Tells, behind}
+use Rattle.pep508_requirement_text.specs.FrontOutcome.{Tells}
 use Rattle.pep508_requirement.proofs.RefusedExtras.{extras_error}
 use Rattle.pep508_requirement.proofs.extras.Extras.parse.Goals as goal
 
@@ -20,4 +20,4 @@ returns-in-Err g c =
     extras_error none c.args.text.now c.of.result c.in-Err.refusal c.of.ensures
     (λ other. c.in-Err.ensures.stays other ∙ c.new.ensures.input)
     (subst (λ text. Tells none c.in-Err.refusal.kind (extras_at (chars text))) c.new.ensures.rest
-      (c.in-Err.ensures.read none))
+    (c.in-Err.ensures.read none))
