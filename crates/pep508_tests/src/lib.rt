@@ -1,9 +1,7 @@
-//! Tests of the public calls of names, environments and URLs: what no contract says of them.
+//! Tests of the public calls of names and environments: what no contract says of them.
 #![tactic(auto)]
 
 #[cfg(test)]
 mod environments;
 #[cfg(test)]
 mod names;
-#[cfg(test)]
-mod urls;
