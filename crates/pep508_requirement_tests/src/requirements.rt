@@ -1,7 +1,7 @@
-use pep508_requirement::{Extras, Requirement, VersionOrUrl, VersionOrUrlRef};
+use pep508_requirement::{Requirement, VersionOrUrl, VersionOrUrlRef};
 use pep508_tree::Interner;
 use pep508_url::{Vars, VerbatimUrl};
-use serde_json::Value;
+use std::alloc::{AllocError, Global};
 use std::test::Fail;
 
 /// The print of what is asked for, nothing for any version.
