@@ -1,6 +1,8 @@
-use pep508_requirement::{Requirement, VersionOrUrl, VersionOrUrlRef};
+use pep508_requirement::{Extras, Requirement, RequirementOrigin, VersionOrUrl, VersionOrUrlRef};
 use pep508_tree::Interner;
 use pep508_url::{Vars, VerbatimUrl};
+use read_outcome::FromValueError;
+use serde_json::Value;
 use std::alloc::{AllocError, Global};
 use std::test::Fail;
 
@@ -130,5 +132,29 @@ fn refuses_texts(rt: HostRuntime) -> Result<(), Fail> {
             }
         }
     }
+    Ok(())
+}
+
+#[test]
+fn reads_values_and_extras(rt: HostRuntime) -> Result<(), Fail> {
+    let alloc = rt.alloc();
+    let vars = Vars::new(alloc, &[], "/root")?;
+    let mut interner = Interner::new(alloc);
+    let value = Value::from_str(alloc, "\"foo @ https://e.example/f.whl\"")?;
+    let mut read = Requirement::<VerbatimUrl>::from_value(alloc, &mut interner, &vars, &value)?;
+    read.clear_url();
+    assert!(rt; read.version_or_url.is_none());
+    let placed = read.with_origin(RequirementOrigin::Workspace);
+    assert!(rt; placed.origin == Some(RequirementOrigin::Workspace));
+    let other = Value::from_str(alloc, "[]")?;
+    match Requirement::<VerbatimUrl>::from_value(alloc, &mut interner, &vars, &other) {
+        Err(FromValueError::Shape) => {}
+        _ => assert!(rt; false, "a list is no requirement"),
+    }
+    assert!(rt;
+        Requirement::<VerbatimUrl>::from_str(alloc, &mut interner, &vars, "foo @ ./a").is_err()
+    );
+    let extras = Extras::parse::<VerbatimUrl>(alloc, "[b,a]>=1")?;
+    assert_eq!(rt; extras.as_slice().len(), 2);
     Ok(())
 }
