@@ -4,15 +4,21 @@
     wrong.py [--texts] [CRATE..]
 
 A crate C has wrong edits in crates/C/must-fail/, which the gate tries at each run, and in
-tests/wrong/C/, which are tried here alone. Both kinds are tried in a copy of the tree, as many side
-by side as there are processors and memory; all crates' where none is named. With --texts nothing is
-proved: it is only seen that each edit still fits the files that it changes.
+tests/wrong/C/, which are tried here alone. Both kinds are tried in a copy of the tree, as many crates
+side by side as there are processors and memory; all crates where none is named. With --texts nothing
+is proved: it is only seen that each edit still fits the files that it changes.
+
+Edits of different functions stand together in one `rt check`, which tells of each function by
+itself: an edit is refused where the very function that it changes is told as not proved. An edit
+whose function isn't told so, or only since a proof file names what the edit took away, is tried
+alone by `rt must-fail`.
 
 An edit that is refused has passed. One that is proved, doesn't compile or doesn't fit has failed,
 and a line names it. The last line is `N passed, M failed`; the status is 0 where M is 0, and
 2 where a name is no crate's.
 """
 
+import difflib
 import fcntl
 import os
 import re
@@ -26,8 +32,14 @@ import time
 
 TOP = os.path.dirname(os.path.dirname(os.path.abspath(__file__)))
 PARTS = ("src", "specs", "proofs")
-# A group of edits begins with a proof of the whole crate, so smaller groups cost more than they save.
-LEAST_GROUP = 6
+# A group of edits begins with a check of the whole crate, so smaller groups cost more than they save.
+LEAST_GROUP = 20
+# Where one of the edits in a check doesn't compile, all of them are tried alone.
+MOST_TOGETHER = 20
+HEADER = re.compile(r"^( *)(?:pub(?:\([a-z]+\))? )?(?:unsafe |const )*fn (\w+)", re.M)
+# What rt says of a proof file that names what an edit took away.
+LOST = re.compile(r"has no field|is not in scope|has no `|was not admitted|\(nearest: ")
+TOLD = re.compile(r"^fn (\S+): (proved|not proved.*|no proof.*)$", re.M)
 NAME = re.compile(r"[A-Za-z0-9_-][A-Za-z0-9_.-]*\.edit")
 
 
@@ -119,6 +131,78 @@ def misfit(path, folder):
     return None if pairs else "it has no 'old:' and 'new:'"
 
 
+def pairs_of(path):
+    """The pairs of an edit that fits: file, old text and new text."""
+    file, old = None, None
+    with open(path, encoding="utf-8", errors="replace") as lines:
+        for line in lines.read().split("\n"):
+            word, _, rest = line.partition(" ")
+            if word == "file:":
+                file = rest.strip()
+            elif word == "old:":
+                old = rest
+            elif word == "new:":
+                yield file, old, rest
+
+
+def edited(path, texts, folder):
+    """The texts of files with an edit applied to them, or None where it doesn't fit them."""
+    texts = dict(texts)
+    for file, old, new in pairs_of(path):
+        if file not in texts:
+            with open(os.path.join(folder, file), encoding="utf-8") as it:
+                texts[file] = it.read()
+        if texts[file].count(old) != 1:
+            return None
+        texts[file] = texts[file].replace(old, new)
+    return texts
+
+
+def function_at(file, text, at):
+    """The end of the name by which rt tells of the function that stands there, or None."""
+    header = next((it for it in reversed(list(HEADER.finditer(text))) if it.start() <= at), None)
+    if not header or not file.startswith("src/"):
+        return None
+    if not header[1]:
+        return "::".join([*file[len("src/") : -len(".rt")].split("/"), header[2]]).removeprefix("lib::")
+    blocks = re.findall(r"^impl\b(.*?)\{", text[: header.start()], re.M | re.S)
+    if not blocks:
+        return None
+    block, of = blocks[-1], None
+    while of != block:
+        of, block = block, re.sub(r"<[^<>]*>", "", block)
+    names = [it.strip().rpartition("::")[2] for it in block.partition(" where ")[0].split(" for ")]
+    return "::".join(["".join(reversed(names)), header[2]])
+
+
+def functions_of(path, folder):
+    """The functions whose text an edit changes."""
+    found = []
+    for file, text in edited(path, {}, folder).items():
+        with open(os.path.join(folder, file), encoding="utf-8") as it:
+            old, new = it.read().split("\n"), text.split("\n")
+        for kind, _, _, at, end in difflib.SequenceMatcher(None, old, new, autojunk=False).get_opcodes():
+            if kind != "equal":
+                found.append(function_at(file, text, sum(len(it) + 1 for it in new[:at]) + (end > at)))
+    return found
+
+
+def is_told_refused(function, said, crate):
+    """Whether a check told that this function, and not only one that it calls, is not proved, and not only because
+    its proof file names what the edit took away."""
+    told = dict(TOLD.findall(said))
+    names = [it for it in told if it == f"{crate}::{function}"] or [it for it in told if it.endswith(f"::{function}")]
+    if len(names) != 1:
+        return False
+    if "did not prove" in told[names[0]]:
+        return True
+    *modules, name = names[0].split("::")[1:]
+    proof = "".join(f"{re.escape(it)}/" for it in modules) + rf"\+?{re.escape(name)}/"
+    errors = re.findall(rf"^(?:\./)?proofs/{proof}\S+: error: (.*)$", said, re.M)
+    lost = [it for it in errors if LOST.search(it)]
+    return told[names[0]].startswith("not proved") and len(lost) < len(errors)
+
+
 def try_texts(crates):
     """Sees whether each edit fits. Returns how many crates are well and how many faults there are."""
     passed = failed = 0
@@ -163,6 +247,15 @@ def copy_kept(crate, folder):
         incremental = os.path.join(kept, "incremental")
         if os.path.isdir(incremental):
             shutil.copytree(incremental, os.path.join(folder, "out", "incremental"))
+
+
+def copy_work(crate, folder):
+    """Takes over what earlier checks of a crate that is tried have proved."""
+    incremental = os.path.join(crate.folder, "out", "incremental")
+    held = held_alone(crate)
+    if os.path.isdir(incremental):
+        shutil.copytree(incremental, os.path.join(folder, "out", "incremental"))
+    os.close(held)
 
 
 def held_alone(crate):
@@ -210,33 +303,75 @@ class Runs:
 
 
 class Group:
-    """Some edits of a crate, which rt tries in turn over one another's work."""
+    """Some edits of a crate, which rt tries over one another's work."""
 
     def __init__(self, crate, names):
         self.crate, self.names = crate, names
         self.work = crate.memory() * (6 + len(names))
 
     def prepare(self, base, room, crates, lines):
-        """Lays out the crate with these edits, over the libraries that stand in the base."""
+        """Lays out the crate over the libraries that stand in the base, with what is kept of its work."""
         own = [*below(self.crate, crates), self.crate]
         with open(os.path.join(room, "crates.txt"), "w", encoding="utf-8") as file:
             file.writelines(lines[it.name] for it in own)
         for it in own:
             folder = copy_texts(it, room)
             if it is not self.crate:
-                os.symlink(os.path.join(base, "crates", it.name, "out"), os.path.join(folder, "out"))
-        edits = os.path.join(room, "crates", self.crate.name, "must-fail")
-        os.mkdir(edits)
-        for name in self.names:
-            shutil.copyfile(self.crate.edits[name], os.path.join(edits, name))
+                # (rt checks over no link to a folder, and writes into no library)
+                library = os.path.join("out", "rlib")
+                built = os.path.join(base, "crates", it.name, library)
+                shutil.copytree(built, os.path.join(folder, library), copy_function=link_or_copy)
+        copy_work(self.crate, folder)
+        return folder
 
-    def outcomes(self, said):
-        """What rt told of each edit: whether it was refused, and the words."""
+    def batches(self, functions):
+        """The edits in batches of which each changes a function once, and the edits' texts together."""
+        left = [it for it in self.names if functions[it] and None not in functions[it]]
+        while left:
+            texts, taken, batch = {}, set(), []
+            for name in list(left):
+                fits = not taken & {*functions[name]} and len(batch) < MOST_TOGETHER
+                more = edited(self.crate.edits[name], texts, self.crate.folder) if fits else None
+                if more is not None:
+                    texts, taken = more, taken | {*functions[name]}
+                    batch.append(name)
+                    left.remove(name)
+            yield batch, texts
+
+    def refused_together(self, folder, runs):
+        """Tries the edits in batches, and returns those of which a check told that they are refused."""
+        fits = [it for it in self.names if not misfit(self.crate.edits[it], self.crate.folder)]
+        functions = {it: functions_of(self.crate.edits[it], self.crate.folder) if it in fits else [] for it in self.names}
+        status, said = runs.run(["rt", "check", "--jobs", "1"], folder)
+        refused = []
+        for batch, texts in self.batches(functions) if not status else []:
+            for file, text in texts.items():
+                with open(os.path.join(folder, file), "w", encoding="utf-8") as it:
+                    it.write(text)
+            _, said = runs.run(["rt", "check", "--jobs", "1"], folder)
+            refused += [it for it in batch if any(is_told_refused(at, said, self.crate.name) for at in functions[it])]
+            for file in texts:
+                shutil.copyfile(os.path.join(self.crate.folder, file), os.path.join(folder, file))
+        return refused
+
+    def try_alone(self, room, folder, names, runs):
+        """Has rt try edits one by one, and returns what it told of each."""
+        os.mkdir(os.path.join(folder, "must-fail"))
+        for name in names:
+            shutil.copyfile(self.crate.edits[name], os.path.join(folder, "must-fail", name))
+        _, said = runs.run(["rt", "must-fail", self.crate.name], room)
         pieces = re.split(rf"^rt: must-fail {self.crate.name}/(\S+?): ", said, flags=re.M)
         told = dict(zip(pieces[1::2], (it.rstrip("\n") for it in pieces[2::2])))
         last = said.rstrip("\n").rpartition("\n")[2][:300]
+        return {it: told.get(it, f"rt told no outcome; its last line is: {last}") for it in names}
+
+    def outcomes(self, room, folder, runs):
+        """What came of each edit: whether it was refused, and the words."""
+        refused = self.refused_together(folder, runs)
+        left = [it for it in self.names if it not in refused]
+        alone = self.try_alone(room, folder, left, runs) if left else {}
         for name in self.names:
-            words = told.get(name, f"rt told no outcome; its last line is: {last}")
+            words = alone.get(name, "refused")
             yield name, words.startswith("refused"), words
 
 
@@ -287,8 +422,7 @@ class Trial:
         self.done = self.passed = self.failed = self.busy = 0
         self.began = time.monotonic()
 
-    def judge(self, group, said):
-        outcomes = list(group.outcomes(said))
+    def judge(self, group, outcomes):
         refused = sum(is_refused for _, is_refused, _ in outcomes)
         self.done, self.passed = self.done + 1, self.passed + refused
         self.failed += len(outcomes) - refused
@@ -296,8 +430,11 @@ class Trial:
             label = f"{group.crate.name}/{name}"
             if not is_refused:
                 print(f"FAILED: {label}: {words}")
-            elif "only because a proof file names" in words:
+            elif "only because a proof file names" in words or "(nearest: " in words:
                 print(f"note: {label}: {words}")
+            elif words == "refused, as it must be":
+                # (so rt says where no goal is open: the code itself may be what it can't check)
+                print(f"note: {label}: refused, and no goal is named: see why")
         seconds = time.monotonic() - self.began
         print(f"wrong: {group.crate.name}: {refused} of {len(outcomes)} edits refused"
               f" ({self.done} of {len(self.groups)} groups, {seconds:.0f} s)", flush=True)
@@ -307,14 +444,14 @@ class Trial:
         try:
             room = os.path.join(self.rooms, str(number))
             os.makedirs(room)
-            group.prepare(self.base, room, self.crates, self.lines)
-            _, said = self.runs.run(["rt", "must-fail", group.crate.name], room)
+            folder = group.prepare(self.base, room, self.crates, self.lines)
+            outcomes = list(group.outcomes(room, folder, self.runs))
             shutil.rmtree(room, ignore_errors=True)
         except OSError as error:
-            said = str(error)
+            outcomes = [(it, False, str(error)) for it in group.names]
         with self.turn:
             if not self.runs.is_over:
-                self.judge(group, said)
+                self.judge(group, outcomes)
             self.memory, self.busy = self.memory + need, self.busy - 1
             self.turn.notify_all()
 

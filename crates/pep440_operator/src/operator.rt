@@ -11,7 +11,8 @@ use std::alloc::Global;
 use std::error::Error;
 use std::fmt;
 
-/// How a specifier compares (PEP 440, "Version specifiers"). A star stands for every release that begins alike.
+/// How a specifier compares (PEP 440, "Version specifiers"). A star stands for every release that begins
+/// alike.
 ///
 /// Prints as in a specifier's text, without the star, which follows the version there.
 #[derive(Clone, Copy, Debug, PartialEq, Eq, PartialOrd, Ord, Hash)]
@@ -56,7 +57,8 @@ impl fmt::Display for Operator {
 }
 
 impl Operator {
-    /// Reads an operator, as `>=`, with no white space around it; never one with a star, which follows the version.
+    /// Reads an operator, as `>=`, with no white space around it; never one with a star, which follows the
+    /// version.
     ///
     /// Takes memory for the error alone, which keeps the text. Linear in the text.
     #[tactic(auto, unfolding(crate::specs::OperatorReading::operator_of))]
@@ -83,8 +85,9 @@ impl Operator {
 
     /// The operator of the negated sign: `!=` for `==` and `===`, `>=` for `<`, and none for `~=`.
     ///
-    /// `==` and `!=`, with a star and without, take exactly what their negations refuse (PEP 440, "Version exclusion").
-    /// `<` and `>` do not: both `<1.0` and `>=1.0` refuse `1.0.dev0`, and both `>1.0` and `<=1.0` refuse `1.0.post1`.
+    /// `==` and `!=`, with a star and without, take exactly what their negations refuse (PEP 440, "Version
+    /// exclusion"). `<` and `>` do not: both `<1.0` and `>=1.0` refuse `1.0.dev0`, and both `>1.0` and
+    /// `<=1.0` refuse `1.0.post1`.
     pub fn negate(self) -> Option<Operator>
         ensures { result ≡ negated self }
     {

@@ -11,13 +11,12 @@ use Rattle.std.specs.Cmp.Lexicographic.{nat_list_cmp_total}
 use Rattle.version_ranges.specs.Point.{At, JustAbove}
 use Rattle.pep440_text.specs.declared.Prerelease.{Prerelease}
 use Rattle.pep440_version.specs.Record.{Segment, VersionRecord}
-use Rattle.pep440_version.specs.Changes.{is_prerelease}
+use Rattle.pep440_version.specs.Changes.{is_prerelease, raised}
 use Rattle.pep440_version.specs.Order.{kind_rank, pre_key, post_key, absent_last, segment_key}
 use Rattle.pep440_version.specs.Order.{version_cmp, key_cmp}
 use Rattle.pep440_version.specs.OrderLaws.{version_cmp_total}
 use Rattle.pep440_operator.specs.declared.operator.Operator.TheVariants as operators
 use Rattle.pep440_range.specs.Agreement.{IsSaid}
-use Rattle.pep440_range.specs.Numbers.{raised}
 use Rattle.pep440_range.specs.Ranges.{range_holds, range_by, greater_range, from_bound}
 use Rattle.pep440_range.proofs.Orderings.{equal_first, neither, is_none}
 use Rattle.pep440_range.proofs.Prefixes.{raised_is}

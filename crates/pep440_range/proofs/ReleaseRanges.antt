@@ -8,10 +8,10 @@ use Rattle.version_ranges.specs.Point.{At}
 use Rattle.pep440_version.specs.Record.{VersionRecord, release_record}
 use Rattle.pep440_version.specs.Order.{padded_cmp, version_cmp}
 use Rattle.pep440_version.specs.OrderLaws.{version_cmp_total}
+use Rattle.pep440_version.specs.Changes.{last_raised}
 use Rattle.pep440_operator.specs.declared.operator.Operator.{Operator}
 use Rattle.pep440_operator.specs.declared.operator.Operator.TheVariants as operators
 use Rattle.pep440_specifier.specs.Matching.{begins_padded, without_last, same_release, matches}
-use Rattle.pep440_range.specs.Numbers.{last_raised}
 use Rattle.pep440_range.specs.Ranges.{PointTest, all_but, at_version, from_bound, to_bound, up_to}
 use Rattle.pep440_range.specs.Ranges.{star_releases, release_range_by}
 use Rattle.pep440_range.proofs.Orderings.{turned_not_greater, not_greater, turned_greater, then_level}

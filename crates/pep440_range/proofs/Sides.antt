@@ -7,11 +7,10 @@ use Rattle.std.specs.Ordering.{ordering_then, is_eq, is_lt, is_gt}
 use Rattle.std.specs.declared.ops.Bound.TheVariants.{Included, Excluded}
 use Rattle.version_ranges.specs.Point.{At}
 use Rattle.pep440_version.specs.Record.{VersionRecord}
-use Rattle.pep440_version.specs.Changes.{is_prerelease}
+use Rattle.pep440_version.specs.Changes.{is_prerelease, raised}
 use Rattle.pep440_version.specs.Order.{version_cmp, key_cmp}
 use Rattle.pep440_version.specs.OrderLaws.{version_cmp_total}
 use Rattle.pep440_specifier.specs.Matching.{same_release}
-use Rattle.pep440_range.specs.Numbers.{raised}
 use Rattle.pep440_range.specs.Ranges.{PointTest, from_bound, end_of_less, greater_range}
 use Rattle.pep440_range.specs.Agreement.{IsSaid, AreApart}
 use Rattle.pep440_range.proofs.Orderings.{turned_greater, not_from, last_not_greater, and_true, neither}

@@ -10,8 +10,8 @@ use pep440_version::Version;
 use std::alloc::{AllocError, Global};
 use version_ranges::Ranges;
 
-/// The range of a specifier (PEP 440, "Version specifiers"), with the bounds that `range_of` names; `NumberAtEnd` where
-/// a number of a bound would have to be greater than `u64::MAX`.
+/// The range of a specifier (PEP 440, "Version specifiers"), with the bounds that `range_of` names;
+/// `NumberAtEnd` where a number of a bound would have to be greater than `u64::MAX`.
 ///
 /// Goes a fixed number of times through the version. Takes memory for the bounds and a copy of the version.
 pub fn specifier_to_range(

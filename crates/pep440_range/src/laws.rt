@@ -1,4 +1,5 @@
-//! Laws over the definitions that the contracts cite. The functions do nothing: each one's contract is its law.
+//! Laws over the definitions that the contracts cite. The functions do nothing: each one's contract is its
+//! law.
 
 ghost use Rattle.std.specs.Prelude.{◌≡◌, ◌≢◌, ℕ, [], ◌∷◌, List, map, Option, Some, None, Ok, All, false};
 ghost use Rattle.std.specs.Option.{option_map};
@@ -25,8 +26,8 @@ ghost use Rattle.pep440_range.specs.Ranges.{PointTest, GivesAll, all_but, range_
 use pep440_version::Version;
 use version_ranges::laws::intervals_hold_the_set;
 
-/// A specifier's range holds a version without a local part exactly where the specifier takes it; but for `===`, and for
-/// post-releases of one release beside `<` and `>`.
+/// A specifier's range holds a version without a local part exactly where the specifier takes it; but for
+/// `===`, and for post-releases of one release beside `<` and `>`.
 pub fn ranges_agree_with_matching()
     ensures { (specifier : SpecifierRecord) (candidate : VersionRecord) (range : PointTest) →
         IsBuilt specifier → IsSaid specifier.version → IsSaid candidate → candidate.local ≡ [] →
@@ -35,8 +36,8 @@ pub fn ranges_agree_with_matching()
         range (At candidate) ≡ matches specifier.operator specifier.version candidate }
 {}
 
-/// A list's range, where there is one, holds a version without a local part exactly where the list takes it; under what
-/// `ranges_agree_with_matching` asks, of each member.
+/// A list's range, where there is one, holds a version without a local part exactly where the list takes it;
+/// under what `ranges_agree_with_matching` asks, of each member.
 pub fn list_ranges_agree_with_matching()
     ensures { (members : List SpecifierRecord) (candidate : VersionRecord)
         (set : List (Point VersionRecord)) →
@@ -45,8 +46,8 @@ pub fn list_ranges_agree_with_matching()
         holds_at version_cmp set (At candidate) ≡ matches_all members candidate }
 {}
 
-/// The same for a candidate that has neither a local part nor a post-release, and members without `===` and without a
-/// post-release beside `<` or `>`: then no more is asked of the two together.
+/// The same for a candidate that has neither a local part nor a post-release, and members without `===` and
+/// without a post-release beside `<` or `>`: then no more is asked of the two together.
 pub fn ranges_agree_beside_posts()
     ensures { (members : List SpecifierRecord) (candidate : VersionRecord)
         (set : List (Point VersionRecord)) →
@@ -55,8 +56,8 @@ pub fn ranges_agree_beside_posts()
         holds_at version_cmp set (At candidate) ≡ matches_all members candidate }
 {}
 
-/// Among versions of release numbers alone, a specifier's range among releases holds a candidate exactly where the
-/// specifier takes it; but for `===`, which goes by prints, so that `===1.0` refuses `1`.
+/// Among versions of release numbers alone, a specifier's range among releases holds a candidate exactly
+/// where the specifier takes it; but for `===`, which goes by prints, so that `===1.0` refuses `1`.
 pub fn release_ranges_agree_with_matching()
     ensures { (specifier : SpecifierRecord) (candidate : VersionRecord) (range : PointTest) →
         IsReleaseVersion specifier.version → IsReleaseVersion candidate → specifier.operator ≢ ExactEqual →
@@ -64,16 +65,16 @@ pub fn release_ranges_agree_with_matching()
         range (At candidate) ≡ matches specifier.operator specifier.version candidate }
 {}
 
-/// The range of an operator's negation is what the operator's own range does not hold, where `IsComplemented` says so:
-/// for `==`, `===` and `!=`, and for `<` and `>=` beside a pre-release or a developmental release.
+/// The range of an operator's negation is what the operator's own range does not hold, where `IsComplemented`
+/// says so: for `==`, `===` and `!=`, and for `<` and `>=` beside a pre-release or a developmental release.
 pub fn negation_is_the_complement()
     ensures { (operator other : Operator) (version : VersionRecord) →
         negated operator ≡ Some other → IsComplemented operator version →
         range_by other version ≡ option_map all_but (range_by operator version) }
 {}
 
-/// Elsewhere some points are in neither range: the developmental releases of a version that is neither that nor a
-/// pre-release, beside `<` and `>=`; and what lies just above a version, beside `<=` and `>`.
+/// Elsewhere some points are in neither range: the developmental releases of a version that is neither that
+/// nor a pre-release, beside `<` and `>=`; and what lies just above a version, beside `<=` and `>`.
 pub fn some_are_in_neither_range()
     ensures before { (version : VersionRecord) →
         IsSaid version → version.local ≡ [] → is_prerelease version ≡ false →
@@ -85,16 +86,16 @@ pub fn some_are_in_neither_range()
         × (range_holds (range_by GreaterThan version) (JustAbove version) ≡ false) }
 {}
 
-/// Among releases the range of an operator's negation is what the operator's own range does not hold, for each operator
-/// that has a negation.
+/// Among releases the range of an operator's negation is what the operator's own range does not hold, for
+/// each operator that has a negation.
 pub fn release_negation_is_the_complement()
     ensures { (operator other : Operator) (release : List ℕ) →
         negated operator ≡ Some other →
         release_range_by other release ≡ option_map all_but (release_range_by operator release) }
 {}
 
-/// The ranges among releases of an interval's specifiers hold together just what lies between its bounds. The numbers of
-/// the upper bound are of 64 bits, as those of each version are.
+/// The ranges among releases of an interval's specifiers hold together just what lies between its bounds. The
+/// numbers of the upper bound are of 64 bits, as those of each version are.
 pub fn interval_specifiers_hold_the_interval()
     ensures { (lower upper : Bound VersionRecord) →
         IsReleaseBound lower → IsReleaseBound upper → HasNumbers upper →
@@ -102,9 +103,9 @@ pub fn interval_specifiers_hold_the_interval()
         (is_within version_cmp (lower, upper)) }
 {}
 
-/// The ranges among releases of the list of intervals hold together just what lies in one of the intervals; where these
-/// lie one behind another, and each gap between two is one version or a minor release, which a specifier leaves out.
-/// There is at least one interval: the empty list takes all versions.
+/// The ranges among releases of the list of intervals hold together just what lies in one of the intervals;
+/// where these lie one behind another, and each gap between two is one version or a minor release, which a
+/// specifier leaves out. There is at least one interval: the empty list takes all versions.
 pub fn list_of_intervals_holds_their_union()
     ensures { (first : Interval) (later : List Interval) (members : List SpecifierRecord) →
         AreReleaseIntervals (first ∷ later) → HaveNumbers (first ∷ later) →
@@ -113,8 +114,8 @@ pub fn list_of_intervals_holds_their_union()
         ShareJust (map release_range_of members) (is_in_one (first ∷ later)) }
 {}
 
-/// The ranges among releases of the list of a set's intervals hold together just what the set holds, where each gap
-/// between two of the intervals is one version or a minor release; the set is not empty.
+/// The ranges among releases of the list of a set's intervals hold together just what the set holds, where
+/// each gap between two of the intervals is one version or a minor release; the set is not empty.
 pub fn list_of_a_set_holds_the_set()
     ensures { (set : List (Point VersionRecord)) (first : Interval) (later : List Interval)
         (members : List SpecifierRecord) →

@@ -1,7 +1,8 @@
 //! Release numbers that are raised by one.
 
 ghost use Rattle.std.specs.Prelude.{◌<◌, length, IfOk};
-ghost use Rattle.pep440_range.specs.Numbers.{Raises, raised, last_raised};
+ghost use Rattle.pep440_version.specs.Changes.{raised, last_raised};
+ghost use Rattle.pep440_range.specs.Numbers.{Raises};
 
 use crate::RangeError;
 use std::alloc::Global;

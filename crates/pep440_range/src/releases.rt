@@ -11,8 +11,8 @@ use pep440_version::Version;
 use std::alloc::Global;
 use version_ranges::Ranges;
 
-/// The range of a specifier among releases, as markers compare the versions of an interpreter: of its version the
-/// release alone counts, and the bounds are plain.
+/// The range of a specifier among releases, as markers compare the versions of an interpreter: of its version
+/// the release alone counts, and the bounds are plain.
 ///
 /// Goes a fixed number of times through the version. Takes memory for the bounds.
 pub fn release_specifier_to_range(

@@ -13,8 +13,8 @@ use version_ranges::Ranges;
 
 /// What is in the ranges of all members; `NumberAtEnd` where one of them has no range.
 ///
-/// Ranges of halves of the list are cut with each other, so that n members take O(n log n) comparisons of versions: a
-/// list of 40,000 exclusions takes less than a second. Takes memory for the bounds.
+/// Ranges of halves of the list are cut with each other, so that n members take O(n log n) comparisons of
+/// versions: a list of 40,000 exclusions takes less than a second. Takes memory for the bounds.
 pub fn specifiers_to_range(
     alloc: Global,
     specifiers: &VersionSpecifiers,

@@ -46,7 +46,8 @@ without_last numbers = take (length numbers - 1) numbers
 -- whether epoch and release are those of the other, up to zeros at the end
 abbrev pub same_release : VersionRecord → VersionRecord → Bool
 same_release version candidate =
-    version.epoch == candidate.epoch && is_eq (slice_cmp nat_cmp (stripped version.release) (stripped candidate.release))
+    version.epoch == candidate.epoch
+    && is_eq (slice_cmp nat_cmp (stripped version.release) (stripped candidate.release))
 
 -- whether the specifier of an operator and a version takes a candidate
 abbrev pub matches : Operator → VersionRecord → VersionRecord → Bool
@@ -56,7 +57,8 @@ matches ExactEqual version candidate = bytes_eq (version_text candidate) (versio
 matches NotEqual version candidate = not (is_eq (candidate_cmp version candidate))
 matches NotEqualStar version candidate = not (has_front version.epoch version.release candidate)
 matches TildeEqual version candidate =
-    has_front version.epoch (without_last version.release) candidate && is_ge (candidate_cmp version candidate)
+    has_front version.epoch (without_last version.release) candidate
+    && is_ge (candidate_cmp version candidate)
 matches LessThan version candidate =
     is_lt (candidate_cmp version candidate)
     && not (same_release version candidate && (is_prerelease candidate && not (is_prerelease version)))

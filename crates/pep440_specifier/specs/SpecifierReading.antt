@@ -1,5 +1,5 @@
--- What there is to read of the text of a specifier, character by character from its front on: the specifier, or
--- its first fault with the texts in it.
+-- What there is to read of the text of a specifier, character by character from its front on: the specifier,
+-- or its first fault with the texts in it.
 use Rattle.std.specs.Prelude.{◌≡◌, ◌≢◌, ℕ, ◌==◌, Bool, if◌then◌else◌, List, [], ◌∷◌, take, drop, Option}
 use Rattle.std.specs.Prelude.{Some, None, Result, Ok, Err, encode_utf8_all}
 use Rattle.std.specs.Char.{is_whitespace}
@@ -24,8 +24,8 @@ use Rattle.pep440_specifier.specs.Building.{built_of_pattern}
 abbrev pub cut_at : List ℕ → ℕ → Option (List ℕ × List ℕ)
 cut_at text end = if end == 0 then None else Some (take end text, chars (drop end text))
 
--- the text before the first character that passes a test, and the characters from it on; nothing where the first
--- passes
+-- the text before the first character that passes a test, and the characters from it on; nothing where the
+-- first passes
 abbrev pub front_in : (ℕ → Bool) → List ℕ → Option (List ℕ × List ℕ)
 front_in test cs =
     if position_or_len test cs == 0 then None

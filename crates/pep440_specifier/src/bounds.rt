@@ -90,8 +90,8 @@ impl VersionSpecifier {
         Ok(upper_specifier(alloc, bound)?)
     }
 
-    /// The specifiers of the interval between two bounds, whose versions have epoch 0 and a release alone: `==` of a
-    /// point, `==a.b.*` from `a.b` to below `a.(b+1)`, and else one of each bound that there is.
+    /// The specifiers of the interval between two bounds, whose versions have epoch 0 and a release alone:
+    /// `==` of a point, `==a.b.*` from `a.b` to below `a.(b+1)`, and else one of each bound that there is.
     ///
     /// Takes memory for copies of the versions and for the list.
     pub fn from_release_only_bounds(

@@ -1,4 +1,5 @@
-//! Laws over the definitions that the contracts cite. The functions do nothing: each one's contract is its law.
+//! Laws over the definitions that the contracts cite. The functions do nothing: each one's contract is its
+//! law.
 
 ghost use Rattle.std.specs.Prelude.{◌≡◌, ◌↔◌, ℕ, not, true, false, List, [], ◌∷◌, Some, None};
 ghost use Rattle.pep440_version.specs.Record.{VersionRecord, release_record};
@@ -36,7 +37,8 @@ pub fn text_has_one_specifier()
     pattern_text_is_read();
 }
 
-/// What a text says as a specifier may be built: its version goes with its operator, and marks no end of a range.
+/// What a text says as a specifier may be built: its version goes with its operator, and marks no end of a
+/// range.
 pub fn a_read_specifier_is_built()
     ensures built { (text : List ℕ) (specifier : SpecifierRecord)
         → specifier_of text ≡ Some specifier → IsBuilt specifier }
@@ -46,8 +48,8 @@ pub fn a_read_specifier_is_built()
     specifier_text_is_read();
 }
 
-/// Equal specifiers may take different versions where a star stands: `==1.*` and `==1.0.*` are equal, since `1` and `1.0`
-/// are one version, and of the two `==1.*` alone takes `1.1` (PEP 440, "Version matching").
+/// Equal specifiers may take different versions where a star stands: `==1.*` and `==1.0.*` are equal, since
+/// `1` and `1.0` are one version, and of the two `==1.*` alone takes `1.1` (PEP 440, "Version matching").
 #[tactic(auto, unfolding(crate::specs::SpecifierOrder::specifier_key, pep440_version::specs::Order::key_of))]
 pub fn equal_stars_may_differ()
     ensures built { IsBuilt (equal_star (1 ∷ [])) × IsBuilt (equal_star (1 ∷ 0 ∷ [])) }

@@ -12,7 +12,8 @@ use std::cmp::Ordering;
 impl VersionSpecifier {
     /// Whether it takes a version (PEP 440, "Version specifiers").
     ///
-    /// Goes a fixed number of times through both versions. Takes memory for `===` alone, which compares prints.
+    /// Goes a fixed number of times through both versions. Takes memory for `===` alone, which compares
+    /// prints.
     pub fn contains(&self, alloc: Global, version: &Version) -> Result<bool, AllocError>
         ensures matching { IfOk result (λ taken.
             taken ≡ matches self.now.operator self.now.version version.now) }

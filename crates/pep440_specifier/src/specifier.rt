@@ -37,8 +37,8 @@ impl Model for VersionSpecifier {
 }
 
 impl VersionSpecifier {
-    /// The specifier of an operator and a pattern. A star is allowed beside `==` and `!=` alone, a local part beside
-    /// `==`, `!=` and `===` alone, and `~=` needs two release numbers.
+    /// The specifier of an operator and a pattern. A star is allowed beside `==` and `!=` alone, a local part
+    /// beside `==`, `!=` and `===` alone, and `~=` needs two release numbers.
     pub fn from_pattern(
         operator: Operator,
         pattern: VersionPattern,
@@ -58,8 +58,8 @@ impl VersionSpecifier {
         }
     }
 
-    /// The specifier of an operator and a version. A local part is allowed beside `==`, `!=` and `===` alone, and `~=`
-    /// needs two release numbers. A star's version has an epoch and a release alone.
+    /// The specifier of an operator and a version. A local part is allowed beside `==`, `!=` and `===` alone,
+    /// and `~=` needs two release numbers. A star's version has an epoch and a release alone.
     pub fn from_version(
         operator: Operator,
         version: Version,
@@ -164,9 +164,9 @@ impl VersionSpecifier {
 
     /// Reads an operator and a version behind it, as `>= 1.2` or `==1.2.*`, with white space around each.
     ///
-    /// Linear in the text; takes memory for the version, and for the texts of an error, and none before an operator and a
-    /// first number were read. The error names the first fault from the left, and is `Memory` itself where memory runs
-    /// out.
+    /// Linear in the text; takes memory for the version, and for the texts of an error, and none before an
+    /// operator and a first number were read. The error names the first fault from the left, and is `Memory`
+    /// itself where memory runs out.
     pub fn from_str(
         alloc: Global,
         text: &str,
@@ -209,7 +209,8 @@ impl VersionSpecifier {
         self.version.any_prerelease()
     }
 
-    /// Whether its version says where the versions that it takes begin: so for `==`, `===`, `~=`, `>` and `>=`.
+    /// Whether its version says where the versions that it takes begin: so for `==`, `===`, `~=`, `>` and
+    /// `>=`.
     ///
     /// With a star they begin below that version: `==1.2.*` takes `1.2.dev0`.
     pub fn has_lower_bound(&self) -> bool

@@ -19,8 +19,8 @@ AreReleaseIntervals [] = Unit {0}
 AreReleaseIntervals (next ∷ later) =
     IsReleaseBound next.0 × IsReleaseBound next.1 × AreReleaseIntervals later
 
--- what is left out between an interval's upper bound and the next one's lower bound: `!=v` between below `v` and
--- above `v`, `!=a.b.*` between below `a.b` and from `a.(b+1)`
+-- what is left out between an interval's upper bound and the next one's lower bound: `!=v` between below `v`
+-- and above `v`, `!=a.b.*` between below `a.b` and from `a.(b+1)`
 abbrev pub gap_specifier : Bound VersionRecord → Bound VersionRecord → Option SpecifierRecord
 gap_specifier (Excluded upper) (Excluded lower) =
     if version_eq upper lower then Some (record { operator = NotEqual; version = upper }) else None

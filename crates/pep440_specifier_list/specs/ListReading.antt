@@ -1,5 +1,5 @@
--- What there is to read of the text of a list: the pieces between commas, each a specifier; or the first piece that
--- is none, with its place in the text.
+-- What there is to read of the text of a list: the pieces between commas, each a specifier; or the first
+-- piece that is none, with its place in the text.
 use Rattle.std.specs.Prelude.{◌≡◌, ℕ, ◌+◌, ◌==◌, List, [], ◌∷◌, length, Option, Some, None, Result, Ok, Err}
 use Rattle.std.specs.List.{slice_split}
 use Rattle.std.specs.Option.{option_map}
@@ -16,8 +16,8 @@ use Rattle.pep440_specifier_list.specs.Lists.{IsInOrder}
 
 -- ---- reading
 
--- why a text is no list: the text, where its first piece that is no specifier begins and ends in it, in bytes, and
--- that piece's fault
+-- why a text is no list: the text, where its first piece that is no specifier begins and ends in it, in
+-- bytes, and that piece's fault
 pub record ListFault : Type 0 where
   pub line : List ℕ
   pub start : ℕ

@@ -14,14 +14,16 @@ use std::alloc::{AllocError, Global};
 use std::ops::Bound;
 
 impl VersionSpecifiers {
-    /// The list of intervals, whose versions have epoch 0 and a release alone; of no intervals, the empty list.
+    /// The list of intervals, whose versions have epoch 0 and a release alone; of no intervals, the empty
+    /// list.
     ///
-    /// Each interval is to end before the next begins: only the first may lack a lower bound, only the last an upper
-    /// one, and an upper bound is not above the next lower one. A gap of one version is said by `!=`, one from `a.b` to
-    /// below `a.(b+1)` by `!=a.b.*`, and any other gap by nothing, so that the list takes its versions too.
+    /// Each interval is to end before the next begins: only the first may lack a lower bound, only the last
+    /// an upper one, and an upper bound is not above the next lower one. A gap of one version is said by
+    /// `!=`, one from `a.b` to below `a.(b+1)` by `!=a.b.*`, and any other gap by nothing, so that the list
+    /// takes its versions too.
     ///
-    /// Linear in the intervals, but for bringing the members in order. Takes memory for the list and copies of versions,
-    /// and none where there are no intervals.
+    /// Linear in the intervals, but for bringing the members in order. Takes memory for the list and copies
+    /// of versions, and none where there are no intervals.
     pub fn from_release_only_bounds(
         alloc: Global,
         bounds: &[(Bound<&Version>, Bound<&Version>)],

@@ -34,8 +34,8 @@ impl CountedSpecifiers {
         CountedSpecifiers { list, tests: 0 }
     }
 
-    /// What the list's `contains` answers. Each member that is asked counts as one test, one that has no memory too: it
-    /// is the last.
+    /// What the list's `contains` answers. Each member that is asked counts as one test, one that has no
+    /// memory too: it is the last.
     pub fn contains_counted(&mut self, alloc: Global, version: &Version) -> Result<bool, AllocError>
         ensures answer { IfOk result (λ taken. taken ≡ matches_all self.old.members version.now) }
         ensures count { OnOk result (self.new ≡ counted self.old (asked self.old.members version.now)) }

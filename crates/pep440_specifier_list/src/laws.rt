@@ -1,4 +1,5 @@
-//! Laws over the definitions that the contracts cite. The functions do nothing: each one's contract is its law.
+//! Laws over the definitions that the contracts cite. The functions do nothing: each one's contract is its
+//! law.
 
 ghost use Rattle.std.specs.Prelude.{◌≡◌, ◌↔◌, ℕ, [], true, List, All, IsTrue, Some};
 ghost use Rattle.std.specs.Str.{IsUtf8};
@@ -21,7 +22,8 @@ pub fn the_empty_list_takes_all()
     ensures { (candidate : VersionRecord) → matches_all [] candidate ≡ true }
 {}
 
-/// A text is read as a list exactly where it is the text of that list: specifiers with commas between them, or nothing.
+/// A text is read as a list exactly where it is the text of that list: specifiers with commas between them,
+/// or nothing.
 pub fn list_text_is_read()
     ensures { (text : List ℕ) (members : List SpecifierRecord) → IsUtf8 text
         → ((given : List SpecifierRecord) × (specifiers_of text ≡ Some given) × IsInOrder given members)

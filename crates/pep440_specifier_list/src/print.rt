@@ -78,8 +78,8 @@ impl fmt::Display for VersionSpecifiers {
     }
 }
 
-/// The members of a list with bare commas between them, as `>=1.16,<2.0`: the list as it stands in JSON and in a
-/// requirement's text. It borrows the list.
+/// The members of a list with bare commas between them, as `>=1.16,<2.0`: the list as it stands in JSON and
+/// in a requirement's text. It borrows the list.
 #[derive(Drop)]
 pub struct BareCommas<'a> {
     members: &'a [VersionSpecifier],
@@ -111,7 +111,8 @@ impl fmt::Display for BareCommas<'_> {
 }
 
 impl VersionSpecifiers {
-    /// The list as a text with bare commas between its members. Takes no memory; printing it is linear in the text.
+    /// The list as a text with bare commas between its members. Takes no memory; printing it is linear in the
+    /// text.
     pub fn bare_commas(&self) -> BareCommas<'_>
         ensures { result ≡ self.now }
     {

@@ -12,11 +12,11 @@ use pep440_specifier::{VersionSpecifier, VersionSpecifierParseError};
 use std::alloc::Global;
 
 impl VersionSpecifiers {
-    /// Reads specifiers with commas between them, as `>=1.16, <2.0`; the empty text is the empty list (PEP 440, "Version
-    /// specifiers").
+    /// Reads specifiers with commas between them, as `>=1.16, <2.0`; the empty text is the empty list (PEP
+    /// 440, "Version specifiers").
     ///
-    /// Linear in the text, but for bringing the members in order; takes memory for the members, and none for the empty
-    /// text. The error names the first piece between commas that is no specifier.
+    /// Linear in the text, but for bringing the members in order; takes memory for the members, and none for
+    /// the empty text. The error names the first piece between commas that is no specifier.
     pub fn from_str(
         alloc: Global,
         text: &str,

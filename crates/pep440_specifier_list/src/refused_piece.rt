@@ -6,7 +6,8 @@ ghost use Rattle.pep440_specifier_list.specs.Places.{IsPlaced};
 use pep440_specifier::VersionSpecifierParseError;
 use underline::{Underlined, columns};
 
-/// The first piece between commas of a text that is no specifier: what is wrong with it, and where it stands in the text.
+/// The first piece between commas of a text that is no specifier: what is wrong with it, and where it stands
+/// in the text.
 #[derive(Debug, PartialEq, Eq, Drop)]
 pub struct RefusedPiece {
     pub(crate) error: VersionSpecifierParseError,

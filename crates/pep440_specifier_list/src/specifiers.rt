@@ -104,8 +104,8 @@ impl VersionSpecifiers {
 
     /// Whether each member takes the version (PEP 440, "Version specifiers").
     ///
-    /// Asks the members in order, up to the first that refuses. Takes memory for members of `===` alone, which compare
-    /// prints.
+    /// Asks the members in order, up to the first that refuses. Takes memory for members of `===` alone,
+    /// which compare prints.
     pub fn contains(&self, alloc: Global, version: &Version) -> Result<bool, AllocError>
         ensures matching { IfOk result (λ taken. taken ≡ matches_all self.now version.now) }
         ensures memory { All (λ s. s.operator ≢ ExactEqual) self.now → IsOk result }

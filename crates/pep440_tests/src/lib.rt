@@ -1,12 +1,6 @@
-//! Tests of the public calls of versions, specifiers and sets: what no contract says of them.
+//! Tests of the public calls of versions and specifiers: what neither a contract nor `pep440_vectors` says of them.
 #![tactic(auto)]
 
-#[cfg(test)]
-mod conversions;
-#[cfg(test)]
-mod lists;
-#[cfg(test)]
-mod sets;
 #[cfg(test)]
 mod specifiers;
 #[cfg(test)]

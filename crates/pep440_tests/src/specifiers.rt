@@ -1,127 +1,47 @@
 //! Specifiers and their operators.
 
-ghost use Rattle.std.specs.Prelude.{IfOk};
+ghost use Rattle.std.specs.Prelude.{◌≡◌, ◌∷◌, [], IfOk};
 ghost use Rattle.pep440_rs.specs.Bounds.{IsReleaseVersion};
+ghost use Rattle.pep440_rs.specs.Record.{release_record};
 
 use pep440_rs::{
     BoundError, FromValueError, Operator, OperatorParseError, Version, VersionSpecifier,
     VersionSpecifierBuildError, VersionSpecifierParseError,
 };
 use serde_json::Value;
-use std::alloc::Global;
+use std::alloc::{AllocError, Global};
 use std::hash::{DefaultHasher, Hash, Hasher};
 use std::ops::Bound;
-use std::process::Abort;
 use std::test::Fail;
-
-/// A specifier, a candidate, and whether it is taken.
-#[test]
-fn takes_versions(rt: HostRuntime) -> Result<(), Fail> {
-    let alloc = rt.alloc();
-    for (specifier, candidate, taken) in [
-        ("==1.0.*", "1", true),
-        ("==1.2.*", "1", false),
-        ("==1.2.*", "1.2.dev0", true),
-        ("!=1.0.*", "1.0.3", false),
-        ("<1.0.post1", "1.0", true),
-        ("<1.0", "1.0a1", false),
-        ("<1.0a2", "1.0a1", true),
-        (">1.0a1", "1.0a2.post1", false),
-        (">1.0", "1.0.post1", false),
-        (">1.0.post1", "1.0.post2", true),
-        (">1.0a1", "1.0+x", true),
-        ("==1.0", "1.0+x", true),
-        ("==1.0+x", "1.0", false),
-        ("!=1", "1.0", false),
-        ("===1.0", "1.0.0", false),
-        ("===1.0", "1.0", true),
-        ("~=1.4.5", "1.4.9", true),
-        ("~=1.4.5", "1.5", false),
-        ("~=1.4", "2.0", false),
-        ("~=1.4", "1.9", true),
-        ("<=1.0", "1", true),
-        (">=1.9", "1.10", true),
-    ] {
-        let specifier = VersionSpecifier::from_str(alloc, specifier)?;
-        let candidate = Version::from_str(alloc, candidate)?;
-        assert_eq!(rt;
-            specifier.contains(alloc, &candidate)?,
-            taken,
-            "at {specifier} and {candidate}"
-        );
-    }
-    Ok(())
-}
-
-#[test]
-fn reads_and_prints(rt: HostRuntime) -> Result<(), Fail> {
-    let alloc = rt.alloc();
-    for (text, print) in [
-        (" >= 1.5 ", ">=1.5"),
-        ("==1.5.*", "==1.5.*"),
-        ("==\u{a0}V1.0-RC", "==1.0rc0"),
-        ("~=1.4.post1", "~=1.4.post1"),
-    ] {
-        let specifier = VersionSpecifier::from_str(alloc, text)?;
-        assert_eq!(rt; specifier.to_string(alloc)?.as_str(), print);
-    }
-    Ok(())
-}
-
-#[test]
-fn tells_faults(rt: HostRuntime) -> Result<(), Fail> {
-    let alloc = rt.alloc();
-    for (text, fault) in [
-        ("", "Unexpected end of version specifier, expected operator"),
-        (
-            "1.0",
-            "Unexpected end of version specifier, expected operator",
-        ),
-        (
-            "==",
-            "Unexpected end of version specifier, expected version",
-        ),
-        (
-            "=>1",
-            "no such comparison operator \"=>\", must be one of ~= == != <= >= < > ===",
-        ),
-        ("==1.0 x", "Trailing `x` is not allowed"),
-        (
-            "==1.0.*x",
-            "after parsing `1.0`, found `.*x`, which is not part of a valid version",
-        ),
-        (
-            "~=1",
-            "The ~= operator requires at least two segments in the release version",
-        ),
-        (
-            ">=1.0+x",
-            "Operator >= is incompatible with versions containing non-empty local segments (`1.0+x`)",
-        ),
-        (
-            "<1.*",
-            "Operator < cannot be used with a wildcard version specifier",
-        ),
-    ] {
-        match VersionSpecifier::from_str(alloc, text) {
-            Ok(specifier) => assert!(rt; false, "read {specifier}"),
-            Err(error) => assert_eq!(rt; error.to_string(alloc)?.as_str(), fault),
-        }
-    }
-    Ok(())
-}
 
 #[test]
 fn tells_want_of_memory(rt: HostRuntime) -> Result<(), Fail> {
     let alloc = rt.alloc();
-    for text in [
-        OperatorParseError::Memory.to_string(alloc)?,
-        VersionSpecifierBuildError::Memory.to_string(alloc)?,
-        VersionSpecifierParseError::Memory.to_string(alloc)?,
-    ] {
-        assert_eq!(rt; text.as_str(), "out of memory");
-    }
+    assert_eq!(rt;
+        OperatorParseError::Memory.to_string(alloc)?.as_str(),
+        "out of memory"
+    );
+    assert_eq!(rt;
+        VersionSpecifierBuildError::Memory
+            .to_string(alloc)?
+            .as_str(),
+        "out of memory"
+    );
+    assert_eq!(rt;
+        VersionSpecifierParseError::Memory
+            .to_string(alloc)?
+            .as_str(),
+        "out of memory"
+    );
+    assert_eq!(rt;
+        BoundError::Memory.to_string(alloc)?.as_str(),
+        "out of memory"
+    );
     Ok(())
+}
+
+fn is_read_back(alloc: Global, operator: Operator, text: &str) -> Result<bool, Fail> {
+    Ok(Operator::from_str(alloc, text)? == operator)
 }
 
 #[test]
@@ -141,14 +61,17 @@ fn operators_print_read_and_negate(rt: HostRuntime) -> Result<(), Fail> {
     ] {
         assert_eq!(rt; operator.to_string(alloc)?.as_str(), text);
         assert_eq!(rt; operator.negate(), negated);
-        let read = Operator::from_str(alloc, text)?;
-        assert_eq!(rt; read == operator, !operator.is_star(), "at {operator:?}");
+        assert_eq!(rt; is_read_back(alloc, operator, text)?, !operator.is_star());
     }
-    match Operator::from_str(alloc, "=>") {
+    Ok(())
+}
+
+#[test]
+fn names_an_unknown_operator(rt: HostRuntime) {
+    match Operator::from_str(rt.alloc(), "=>") {
         Err(OperatorParseError::Unknown(text)) => assert_eq!(rt; text.as_str(), "=>"),
         _ => assert!(rt; false, "read =>"),
     }
-    Ok(())
 }
 
 fn hash_of(specifier: &VersionSpecifier) -> u64 {
@@ -157,28 +80,23 @@ fn hash_of(specifier: &VersionSpecifier) -> u64 {
     hasher.finish()
 }
 
+/// Whether two specifiers are equal and have one hash.
+fn are_alike(alloc: Global, a: &str, b: &str) -> Result<bool, Fail> {
+    let a = VersionSpecifier::from_str(alloc, a)?;
+    let b = VersionSpecifier::from_str(alloc, b)?;
+    Ok(a == b && hash_of(&a) == hash_of(&b))
+}
+
+fn is_less(alloc: Global, a: &str, b: &str) -> Result<bool, Fail> {
+    Ok(VersionSpecifier::from_str(alloc, a)? < VersionSpecifier::from_str(alloc, b)?)
+}
+
 #[test]
 fn compares_and_hashes(rt: HostRuntime) -> Result<(), Fail> {
     let alloc = rt.alloc();
     for (short, long, above) in [("==1", "==1.0", "!=0"), ("==1.*", "==1.0.*", "!=0.*")] {
-        let short = VersionSpecifier::from_str(alloc, short)?;
-        let long = VersionSpecifier::from_str(alloc, long)?;
-        let above = VersionSpecifier::from_str(alloc, above)?;
-        assert!(rt; short == long);
-        assert_eq!(rt; hash_of(&short), hash_of(&long));
-        assert!(rt; short < above);
-    }
-    Ok(())
-}
-
-/// Equal specifiers with a star may take different versions, since their versions are equal.
-#[test]
-fn equal_stars_differ(rt: HostRuntime) -> Result<(), Fail> {
-    let alloc = rt.alloc();
-    let candidate = Version::new(alloc, &[1, 1])?;
-    for (specifier, taken) in [("==1.*", true), ("==1.0.*", false)] {
-        let specifier = VersionSpecifier::from_str(alloc, specifier)?;
-        assert_eq!(rt; specifier.contains(alloc, &candidate)?, taken);
+        assert!(rt; are_alike(alloc, short, long)?);
+        assert!(rt; is_less(alloc, short, above)?);
     }
     Ok(())
 }
@@ -205,60 +123,59 @@ fn has_parts(rt: HostRuntime) -> Result<(), Fail> {
     Ok(())
 }
 
-/// Tests that a specifier prints so.
-fn prints(
-    rt: &impl Abort,
-    alloc: Global,
-    specifier: &VersionSpecifier,
-    print: &str,
-) -> Result<(), Fail> {
-    assert_eq!(rt; specifier.to_string(alloc)?.as_str(), print);
+/// The specifier of `1` by this operator, where it has a call of its own.
+fn made(operator: Operator, version: Version) -> Option<VersionSpecifier>
+    requires { version ≡ release_record (1 ∷ []) }
+{
+    Some(match operator {
+        Operator::Equal => VersionSpecifier::equals_version(version),
+        Operator::EqualStar => VersionSpecifier::equals_star_version(version),
+        Operator::NotEqual => VersionSpecifier::not_equals_version(version),
+        Operator::NotEqualStar => VersionSpecifier::not_equals_star_version(version),
+        Operator::GreaterThan => VersionSpecifier::greater_than_version(version),
+        Operator::GreaterThanEqual => VersionSpecifier::greater_than_equal_version(version),
+        Operator::LessThan => VersionSpecifier::less_than_version(version),
+        Operator::LessThanEqual => VersionSpecifier::less_than_equal_version(version),
+        Operator::TildeEqual | Operator::ExactEqual => return None,
+    })
+}
+
+/// The print of `1` by this operator.
+fn made_print(alloc: Global, operator: Operator) -> Result<String, AllocError> {
+    match made(operator, Version::new(alloc, &[1])?) {
+        Some(specifier) => specifier.to_string(alloc),
+        None => Ok(String::new(alloc)),
+    }
+}
+
+#[test]
+fn makes_specifiers_of_operators(rt: HostRuntime) -> Result<(), Fail> {
+    for (operator, print) in [
+        (Operator::Equal, "==1"),
+        (Operator::EqualStar, "==1.*"),
+        (Operator::NotEqual, "!=1"),
+        (Operator::NotEqualStar, "!=1.*"),
+        (Operator::GreaterThan, ">1"),
+        (Operator::GreaterThanEqual, ">=1"),
+        (Operator::LessThan, "<1"),
+        (Operator::LessThanEqual, "<=1"),
+    ] {
+        assert_eq!(rt; made_print(rt.alloc(), operator)?.as_str(), print);
+    }
     Ok(())
 }
 
-#[test]
-fn makes_equal(rt: HostRuntime) -> Result<(), Fail> {
-    let alloc = rt.alloc();
-    let made = VersionSpecifier::equals_version(Version::new(alloc, &[1])?);
-    prints(&rt, alloc, &made, "==1")?;
-    let made = VersionSpecifier::equals_star_version(Version::new(alloc, &[1])?);
-    prints(&rt, alloc, &made, "==1.*")
-}
-
-#[test]
-fn makes_not_equal(rt: HostRuntime) -> Result<(), Fail> {
-    let alloc = rt.alloc();
-    let made = VersionSpecifier::not_equals_version(Version::new(alloc, &[1])?);
-    prints(&rt, alloc, &made, "!=1")?;
-    let made = VersionSpecifier::not_equals_star_version(Version::new(alloc, &[1])?);
-    prints(&rt, alloc, &made, "!=1.*")
-}
-
-#[test]
-fn makes_greater(rt: HostRuntime) -> Result<(), Fail> {
-    let alloc = rt.alloc();
-    let made = VersionSpecifier::greater_than_version(Version::new(alloc, &[1])?);
-    prints(&rt, alloc, &made, ">1")?;
-    let made = VersionSpecifier::greater_than_equal_version(Version::new(alloc, &[1])?);
-    prints(&rt, alloc, &made, ">=1")
-}
-
-#[test]
-fn makes_less(rt: HostRuntime) -> Result<(), Fail> {
-    let alloc = rt.alloc();
-    let made = VersionSpecifier::less_than_version(Version::new(alloc, &[1])?);
-    prints(&rt, alloc, &made, "<1")?;
-    let made = VersionSpecifier::less_than_equal_version(Version::new(alloc, &[1])?);
-    prints(&rt, alloc, &made, "<=1")
+/// Whether the specifier that a JSON value says is the one that this text says.
+fn says(alloc: Global, value: &Value, text: &str) -> Result<bool, Fail> {
+    Ok(VersionSpecifier::from_value(alloc, value)? == VersionSpecifier::from_str(alloc, text)?)
 }
 
 #[test]
 fn is_a_json_text(rt: HostRuntime) -> Result<(), Fail> {
     let alloc = rt.alloc();
-    let specifier = VersionSpecifier::from_str(alloc, "!=1.5.*")?;
-    let value = specifier.to_value(alloc)?;
+    let value = VersionSpecifier::from_str(alloc, "!=1.5.*")?.to_value(alloc)?;
     assert_eq!(rt; value.as_str(), Some("!=1.5.*"));
-    assert!(rt; VersionSpecifier::from_value(alloc, &value)? == specifier);
+    assert!(rt; says(alloc, &value, "!=1.5.*")?);
     Ok(())
 }
 
@@ -289,10 +206,17 @@ fn printed(alloc: Global, specifiers: &[VersionSpecifier]) -> Result<String, Fai
     Ok(text)
 }
 
-/// From a version to below another one.
+/// The prints of what is said of all from a version to below another one.
+fn interval_print(alloc: Global, lower: &str, upper: &str) -> Result<String, Fail> {
+    let lower = release(alloc, lower)?;
+    let upper = release(alloc, upper)?;
+    let bounds = (Bound::Included(&lower), Bound::Excluded(&upper));
+    let made = VersionSpecifier::from_release_only_bounds(alloc, bounds)?;
+    printed(alloc, &made)
+}
+
 #[test]
 fn makes_specifiers_of_intervals(rt: HostRuntime) -> Result<(), Fail> {
-    let alloc = rt.alloc();
     for (lower, upper, print) in [
         ("3.7", "3.8", "==3.7.* "),
         ("3.7", "3.8.0", "==3.7.* "),
@@ -305,23 +229,24 @@ fn makes_specifiers_of_intervals(rt: HostRuntime) -> Result<(), Fail> {
             ">=3.18446744073709551615 <4.0 ",
         ),
     ] {
-        let lower = release(alloc, lower)?;
-        let upper = release(alloc, upper)?;
-        let bounds = (Bound::Included(&lower), Bound::Excluded(&upper));
-        let made = VersionSpecifier::from_release_only_bounds(alloc, bounds)?;
-        assert_eq!(rt; printed(alloc, &made)?.as_str(), print);
+        assert_eq!(rt; interval_print(rt.alloc(), lower, upper)?.as_str(), print);
     }
     Ok(())
 }
 
-#[test]
-fn makes_equal_of_a_point(rt: HostRuntime) -> Result<(), Fail> {
-    let alloc = rt.alloc();
-    let lower = release(alloc, "3.7")?;
-    let upper = release(alloc, "3.7.0")?;
+/// The prints of what is said of all between two versions, both included.
+fn point_print(alloc: Global, lower: &str, upper: &str) -> Result<String, Fail> {
+    let lower = release(alloc, lower)?;
+    let upper = release(alloc, upper)?;
     let bounds = (Bound::Included(&lower), Bound::Included(&upper));
     let made = VersionSpecifier::from_release_only_bounds(alloc, bounds)?;
-    assert_eq!(rt; printed(alloc, &made)?.as_str(), "==3.7 ");
+    printed(alloc, &made)
+}
+
+#[test]
+fn makes_equal_of_a_point(rt: HostRuntime) -> Result<(), Fail> {
+    let print = point_print(rt.alloc(), "3.7", "3.7.0")?;
+    assert_eq!(rt; print.as_str(), "==3.7 ");
     Ok(())
 }
 
@@ -360,17 +285,11 @@ fn refuses_a_local_part(rt: HostRuntime) -> Result<(), Fail> {
     let alloc = rt.alloc();
     let version = Version::from_str(alloc, "1.0+x")?;
     let found = VersionSpecifier::from_lower_bound(alloc, Bound::Included(&version));
-    assert_eq!(rt;
-        bound_print(alloc, found)?.as_str(),
-        "a bound has a local part"
-    );
+    let print = bound_print(alloc, found)?;
+    assert_eq!(rt; print.as_str(), "a bound has a local part");
     match VersionSpecifier::from_upper_bound(alloc, Bound::Excluded(&version)) {
         Err(error) => assert_eq!(rt; error, BoundError::LocalInBound),
         Ok(_) => assert!(rt; false, "took a local part"),
     }
-    assert_eq!(rt;
-        BoundError::Memory.to_string(alloc)?.as_str(),
-        "out of memory"
-    );
     Ok(())
 }

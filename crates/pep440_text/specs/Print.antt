@@ -57,4 +57,5 @@ local_text (segment ∷ segments) = codes "+" ++ join_with_byte 46 (map segment_
 unfoldable pub version_text : VersionRecord → List ℕ
 version_text version =
     epoch_text version.epoch ++ release_text version.release ++ pre_text version.pre
-    ++ numbered_text (codes ".post") version.post ++ numbered_text (codes ".dev") version.dev ++ local_text version.local
+    ++ numbered_text (codes ".post") version.post ++ numbered_text (codes ".dev") version.dev
+    ++ local_text version.local

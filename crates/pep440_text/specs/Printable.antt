@@ -18,7 +18,8 @@ abbrev pub IsPrintableSegment : Segment → Type 0
 IsPrintableSegment (Text bytes) = IsPrintableText bytes
 IsPrintableSegment (Number number) = number < 2 ^ 64
 
--- a version that stands at no end of a range, and whose numbers and segments a text can have (PEP 440, "Version scheme")
+-- a version that stands at no end of a range, and whose numbers and segments a text can have (PEP 440,
+-- "Version scheme")
 pub record IsPrintable (version : VersionRecord) : Type 0 where
   pub no_least : version.least ≡ None
   pub no_most : version.most ≡ None

@@ -80,7 +80,9 @@ abbrev pub epoch_by : List ℕ → List ℕ → List ℕ → Result (Option ℕ 
 epoch_by bytes digits [] = Ok (None, bytes)
 epoch_by bytes [] (byte ∷ rest) = Ok (None, bytes)
 epoch_by bytes (digit ∷ digits) (byte ∷ rest) =
-    if byte == 33 then (number_of bytes (digit ∷ digits) >>= λ number. Ok (number, rest)) else Ok (None, bytes)
+    if byte == 33
+    then (number_of bytes (digit ∷ digits) >>= λ number. Ok (number, rest))
+    else Ok (None, bytes)
 
 -- an epoch, where there is one
 unfoldable pub epoch_at : List ℕ → Result (Option ℕ × List ℕ) TextFault

@@ -49,7 +49,8 @@ abbrev pub segment_of : LocalSegment → Segment
 segment_of (variants.String text) = Text (string_bytes text)
 segment_of (variants.Number number) = Number number
 
--- a version, or all versions whose release begins with its release where it is a wildcard (PEP 440, "Version matching")
+-- a version, or all versions whose release begins with its release where it is a wildcard (PEP 440, "Version
+-- matching")
 pub record PatternRecord : Type 0 where
   pub version : VersionRecord
   pub wildcard : Bool

@@ -1,4 +1,5 @@
-//! Laws over the definitions that the contracts cite. The functions do nothing: each one's contract is its law.
+//! Laws over the definitions that the contracts cite. The functions do nothing: each one's contract is its
+//! law.
 
 ghost use Rattle.std.specs.Prelude.{◌≡◌, ℕ, ◌↔◌, List, Some, Err};
 ghost use Rattle.std.specs.Str.{IsUtf8};
@@ -34,8 +35,8 @@ pub fn text_has_one_pattern()
         → IsPatternText text pattern → IsPatternText text other → pattern ≡ other }
 {}
 
-/// The print of each printable version is read as that version: also of one that was made from others, as by dropping
-/// its local part or by raising a number.
+/// The print of each printable version is read as that version: also of one that was made from others, as by
+/// dropping its local part or by raising a number.
 pub fn print_reads_back()
     ensures { (version : VersionRecord)
         → IsPrintable version → version_of (version_text version) ≡ Some version }

@@ -1,6 +1,7 @@
 //! The texts of versions, as PEP 440 has them: their parts, what is read of them and what they print.
 //!
-//! `read_version` and `read_pattern` give the parts of a text; the crate of versions makes a `Version` of them.
+//! `read_version` and `read_pattern` give the parts of a text; the crate of versions makes a `Version` of
+//! them.
 #![tactic(auto)]
 
 ghost use Rattle.std.specs.Prelude.{◌≡◌, IfOk};

@@ -98,7 +98,8 @@ fn plain(alloc: Global, head: Head) -> VersionParts
     }
 }
 
-/// The version of an epoch, a release and the parts behind them. Most versions have none, so that is looked at first.
+/// The version of an epoch, a release and the parts behind them. Most versions have none, so that is looked
+/// at first.
 #[tactic(auto, using(crate::proofs::White::nothing_behind), unfolding(crate::specs::Reading::suffixed))]
 fn suffixed(alloc: Global, head: Head, bytes: &[u8]) -> Result<VersionParts, ReadError>
     ensures parts { Answers said told_read result (suffixed (head.epoch, head.release.items) bytes.now) }
@@ -136,9 +137,11 @@ fn is_star(bytes: &[u8]) -> bool
     }
 }
 
-/// Reads a version: its parts in their order, each that can be taken, in either case and with white space around them.
+/// Reads a version: its parts in their order, each that can be taken, in either case and with white space
+/// around them.
 ///
-/// Goes through the text a fixed number of times, and takes memory for release and local part. The error names the first fault from the left.
+/// Goes through the text a fixed number of times, and takes memory for release and local part. The error
+/// names the first fault from the left.
 #[tactic(auto, unfolding(crate::specs::Reading::read_version))]
 pub fn read_version(alloc: Global, text: &[u8]) -> Result<VersionParts, ReadError>
     ensures parts { Answers said told_read result (read_version text.now) }

@@ -1,5 +1,6 @@
 //! The answers.
 
+use crate::{faults, sets};
 use pep440_rs::{
     LocalSegment, RangeError, Version, VersionParseError, VersionSpecifier,
     VersionSpecifierParseError, VersionSpecifiers, VersionSpecifiersParseError,
@@ -12,7 +13,7 @@ use std::fmt::Write;
 use version_ranges::Ranges;
 
 /// What is answered where a text is none of the kind.
-const REFUSED: &str = "refused";
+pub const REFUSED: &str = "refused";
 
 /// The answer to a question; `refused` where a text can't be read, `no question` for another form.
 pub fn answer(alloc: Global, question: &str) -> Result<String, AllocError> {
@@ -33,7 +34,11 @@ pub fn answer(alloc: Global, question: &str) -> Result<String, AllocError> {
         "range" => in_range(alloc, first, text_at(&question, 2)),
         "intervals" => intervals(alloc, first),
         "union" | "intersection" => in_both(alloc, kind, &question),
-        _ => String::from_str(alloc, "no question"),
+        "takes" => takes(alloc, first, text_at(&question, 2)),
+        "version fault" => faults::version_fault(alloc, first),
+        "pattern" => faults::pattern(alloc, first),
+        "list fault" => faults::list_fault(alloc, first),
+        _ => sets::answer(alloc, kind, first),
     }
 }
 
@@ -79,7 +84,7 @@ fn parts(alloc: Global, text: &str) -> Result<String, AllocError> {
     Ok(answer)
 }
 
-fn number(answer: &mut String, name: &str, number: Option<u64>) -> Result<(), AllocError> {
+pub fn number(answer: &mut String, name: &str, number: Option<u64>) -> Result<(), AllocError> {
     match number {
         Some(number) => write!(answer, ", {name} {number}"),
         None => write!(answer, ", {name} -"),
@@ -119,7 +124,7 @@ fn specifier(alloc: Global, text: &str) -> Result<String, AllocError> {
 }
 
 /// The specifiers of a list, none where the text isn't one.
-fn specifiers(alloc: Global, text: &str) -> Result<Option<VersionSpecifiers>, AllocError> {
+pub fn specifiers(alloc: Global, text: &str) -> Result<Option<VersionSpecifiers>, AllocError> {
     match VersionSpecifiers::from_str(alloc, text) {
         Ok(specifiers) => Ok(Some(specifiers)),
         Err(VersionSpecifiersParseError::Memory) => Err(AllocError),
@@ -141,6 +146,21 @@ fn contains(alloc: Global, list: &str, candidate: &str) -> Result<String, AllocE
     };
     let taken = list.contains(alloc, &candidate)?;
     format!(in alloc; "{taken}")
+}
+
+/// Whether a specifier takes a version.
+fn takes(alloc: Global, text: &str, candidate: &str) -> Result<String, AllocError> {
+    let Some(candidate) = version(alloc, candidate)? else {
+        return String::from_str(alloc, REFUSED);
+    };
+    match VersionSpecifier::from_str(alloc, text) {
+        Ok(specifier) => {
+            let taken = specifier.contains(alloc, &candidate)?;
+            format!(in alloc; "{taken}")
+        }
+        Err(VersionSpecifierParseError::Memory) => Err(AllocError),
+        Err(_) => String::from_str(alloc, REFUSED),
+    }
 }
 
 /// The set of versions that a list takes; none where the text isn't a list, or a number can't be
@@ -168,10 +188,7 @@ fn in_range(alloc: Global, list: &str, candidate: &str) -> Result<String, AllocE
 fn intervals(alloc: Global, list: &str) -> Result<String, AllocError> {
     match range(alloc, list)? {
         Some(range) => {
-            let mut count = 0u64;
-            for _ in range.iter() {
-                count = count.saturating_add(1);
-            }
+            let count = range.iter().count();
             format!(in alloc; "{count}")
         }
         None => String::from_str(alloc, REFUSED),

@@ -4,6 +4,8 @@
 #![tactic(auto)]
 
 mod answers;
+mod faults;
+mod sets;
 
 use answers::answer;
 use std::{fs, io};

@@ -1,5 +1,5 @@
--- The order of versions is total, and equality is an equivalence that it agrees with; equal versions, and equal patterns,
--- feed a hash alike. The laws of `Eq`, `Ord` and `Hash` cite these.
+-- The order of versions is total, and equality is an equivalence that it agrees with; equal versions, and
+-- equal patterns, feed a hash alike. The laws of `Eq`, `Ord` and `Hash` cite these.
 use Rattle.std.specs.Prelude.{◌≡◌, ℕ, true, IsTrue, ◌↔◌, List, [], ◌∷◌, refl}
 use Rattle.std.proofs.Common.{ap, sym, ◌∙◌}
 use Rattle.std.proofs.lemmas.Bool.{and_parts}

@@ -1,4 +1,5 @@
--- What there is to read of the text of a version or a pattern: its record, or its first fault with the texts in it.
+-- What there is to read of the text of a version or a pattern: its record, or its first fault with the texts
+-- in it.
 use Rattle.std.specs.Prelude.{ℕ, ◌-◌, List, length, take, drop, Option, Some, None, Result, Ok, Err}
 use Rattle.std.specs.String.{string_bytes}
 use Rattle.pep440_text.specs.declared.FaultKind.{FaultKind}

@@ -1,4 +1,5 @@
-//! Laws over the definitions that the contracts cite. The functions do nothing: each one's contract is its law.
+//! Laws over the definitions that the contracts cite. The functions do nothing: each one's contract is its
+//! law.
 
 ghost use Rattle.std.specs.Prelude.{◌≡◌, ◌≢◌, ℕ, ◌↔◌, List, IsTrue};
 ghost use Rattle.std.specs.Result.{result_ok};
@@ -16,8 +17,8 @@ pub fn key_decides()
     ensures { (a b : VersionRecord) → IsTrue (version_eq a b) ↔ (key_of a ≡ key_of b) }
 {}
 
-/// Zeros at the end of a release change neither order nor equality nor hash, as `1.0` is `1`: the keys are the same.
-/// They do change the print.
+/// Zeros at the end of a release change neither order nor equality nor hash, as `1.0` is `1`: the keys are
+/// the same. They do change the print.
 pub fn end_zeros_change_nothing()
     ensures key { (version : VersionRecord) (count : ℕ)
         → key_of (with_end_zeros count version) ≡ key_of version }

@@ -1,4 +1,5 @@
-//! Versions of Python packages, as PEP 440 has them: what a version says, its text, its print and their order.
+//! Versions of Python packages, as PEP 440 has them: what a version says, its text, its print and their
+//! order.
 //!
 //! Contracts see a `Version` as a `VersionRecord`, whose parts stand each for itself.
 #![tactic(auto)]

@@ -164,7 +164,8 @@ impl Version {
         compare_releases(&self.release, &other.release)
     }
 
-    /// Compares all but the local parts, in one walk over both versions (PEP 440, "Local version identifiers").
+    /// Compares all but the local parts, in one walk over both versions (PEP 440, "Local version
+    /// identifiers").
     #[tactic(auto, unfolding(crate::specs::Order::key_of))]
     pub fn cmp_public(&self, other: &Version) -> Ordering
         ensures { result ≡ version_cmp (without_local self.now) (without_local other.now) }

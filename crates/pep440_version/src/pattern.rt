@@ -46,7 +46,8 @@ impl VersionPattern {
         }
     }
 
-    /// The pattern of all versions whose release begins with this one's, which has an epoch and a release alone.
+    /// The pattern of all versions whose release begins with this one's, which has an epoch and a release
+    /// alone.
     pub fn wildcard(version: Version) -> VersionPattern
         requires { version ≡ epoch_record version.epoch version.release }
         ensures { result ≡ record { version = version; wildcard = true } }
@@ -57,7 +58,8 @@ impl VersionPattern {
         }
     }
 
-    /// Reads a version, as `1.2rc1`, or an epoch and a release with `.*` behind them, as `1.2.*`; ASCII white space may stand around.
+    /// Reads a version, as `1.2rc1`, or an epoch and a release with `.*` behind them, as `1.2.*`; ASCII white
+    /// space may stand around.
     ///
     /// Costs are those of `Version::from_str`. The error names the first fault from the left.
     pub fn from_str(alloc: Global, text: &str) -> Result<VersionPattern, VersionPatternParseError>

@@ -109,8 +109,8 @@ impl Version {
         self
     }
 
-    /// Whether it is release numbers alone: epoch 0, no suffix, no local part, and at no end of a range (PEP 440, "Final
-    /// releases"). Takes no memory; its cost is constant.
+    /// Whether it is release numbers alone: epoch 0, no suffix, no local part, and at no end of a range (PEP
+    /// 440, "Final releases"). Takes no memory; its cost is constant.
     #[tactic(auto, using(crate::proofs::Releases::only_release_is))]
     pub fn is_only_release(&self) -> bool
         ensures { IsTrue result ↔ (self.now ≡ release_record self.now.release) }
@@ -120,8 +120,9 @@ impl Version {
         self.epoch == 0 && !suffixed && !at_end
     }
 
-    /// The version without the zeros at its release's end, down to one number, as `1.2` of `1.2.0.0` and `0` of `0.0`: the
-    /// shortest of those that are equal to it but for the local part. Takes no memory; goes once over the zeros.
+    /// The version without the zeros at its release's end, down to one number, as `1.2` of `1.2.0.0` and `0`
+    /// of `0.0`: the shortest of those that are equal to it but for the local part. Takes no memory; goes
+    /// once over the zeros.
     #[tactic(auto, using(crate::proofs::Releases::kept_numbers))]
     pub fn without_end_zeros(mut self) -> Version
         ensures { result ≡ without_end_zeros self }
@@ -131,8 +132,8 @@ impl Version {
         self
     }
 
-    /// The version with the last of its release numbers raised by one, as `1.3` of `1.2`; `None` where that number is
-    /// `u64::MAX`. Takes no memory; its cost is constant.
+    /// The version with the last of its release numbers raised by one, as `1.3` of `1.2`; `None` where that
+    /// number is `u64::MAX`. Takes no memory; its cost is constant.
     pub fn with_last_raised(mut self) -> Option<Version>
         ensures { result
             ≡ option_map (λ numbers. record self { release = numbers }) (last_raised self.release) }

@@ -14,8 +14,8 @@ use std::marker::Model;
 
 /// A version (PEP 440, "Version scheme").
 ///
-/// Its parts are seen by `epoch`, `release`, `pre`, `post`, `dev` and `local`. Comparing and hashing go by the order
-/// of PEP 440, so that `1.0` equals `1`; they take no memory and go once through both versions.
+/// Its parts are seen by `epoch`, `release`, `pre`, `post`, `dev` and `local`. Comparing and hashing go by
+/// the order of PEP 440, so that `1.0` equals `1`; they take no memory and go once through both versions.
 #[derive(Drop)]
 pub struct Version {
     pub(crate) epoch: u64,
@@ -57,12 +57,12 @@ impl Version {
         Ok(Version::of_release(alloc, Vec::from_slice(alloc, release)?))
     }
 
-    /// Reads a version, as `1!2.0rc1.post2.dev3+ubuntu.1`: letters in either case, every spelling that PEP 440 normalizes
-    /// ("Normalization"), and ASCII white space around.
+    /// Reads a version, as `1!2.0rc1.post2.dev3+ubuntu.1`: letters in either case, every spelling that PEP
+    /// 440 normalizes ("Normalization"), and ASCII white space around.
     ///
-    /// Linear in the text; takes memory for the numbers of the release and the segments of the local part, and for the
-    /// texts in the error. The error names the first fault from the left; where no number begins the release, nothing
-    /// was allocated before it.
+    /// Linear in the text; takes memory for the numbers of the release and the segments of the local part,
+    /// and for the texts in the error. The error names the first fault from the left; where no number begins
+    /// the release, nothing was allocated before it.
     pub fn from_str(alloc: Global, text: &str) -> Result<Version, VersionParseError>
         ensures answered { Answers (λ version. version) told_version result (version_reading text.now) }
         ensures grown { result ≡ Err errors.Memory → version_reading text.now ≢ Err NoLeadingNumber }
@@ -158,21 +158,24 @@ impl Version {
         self.dev
     }
 
-    /// The segments of the local part, none where there is no such part (PEP 440, "Local version identifiers").
+    /// The segments of the local part, none where there is no such part (PEP 440, "Local version
+    /// identifiers").
     pub fn local(&self) -> &[LocalSegment]
         ensures { map segment_of result.now ≡ self.now.local }
     {
         &self.local
     }
 
-    /// The number by which it stands below every suffix of its release, as the lower end of a range; no text says it.
+    /// The number by which it stands below every suffix of its release, as the lower end of a range; no text
+    /// says it.
     pub fn min(&self) -> Option<u64>
         ensures { result ≡ self.now.least }
     {
         self.least
     }
 
-    /// The number by which it stands above every post-release of its release, as the upper end of a range; no text says it.
+    /// The number by which it stands above every post-release of its release, as the upper end of a range; no
+    /// text says it.
     pub fn max(&self) -> Option<u64>
         ensures { result ≡ self.now.most }
     {

@@ -33,7 +33,8 @@ member_name SysPlatform = codes "sys_platform"
 abbrev pub members : List EnvironmentMember
 members =
     ImplementationName ∷ ImplementationVersion ∷ OsName ∷ PlatformMachine ∷ PlatformPythonImplementation
-    ∷ PlatformRelease ∷ PlatformSystem ∷ PlatformVersion ∷ PythonFullVersion ∷ PythonVersion ∷ SysPlatform ∷ []
+    ∷ PlatformRelease ∷ PlatformSystem ∷ PlatformVersion ∷ PythonFullVersion ∷ PythonVersion
+    ∷ SysPlatform ∷ []
 
 -- whether a member's text has to be a version (PEP 440, "Version scheme")
 abbrev pub is_version : EnvironmentMember → Bool

@@ -1,4 +1,5 @@
 pub mod Walk
+pub mod Same
 pub mod Parts
 pub mod Steps
 pub mod Again

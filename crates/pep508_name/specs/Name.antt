@@ -75,8 +75,8 @@ error_text (InvalidName text) =
     ++ codes "\". Names must start and end with a letter or digit and may only contain "
     ++ codes "-, _, ., and alphanumeric characters."
 
--- a name as the folder of an installed package is called: `_` for each `-` (the specification of recorded installs,
--- which has `-` between a name and a version)
+-- a name as the folder of an installed package is called: `_` for each `-` (the specification of
+-- recorded installs, which has `-` between a name and a version)
 abbrev pub dist_info_byte : ℕ → ℕ
 dist_info_byte byte = if byte == 45 then 95 else byte
 

@@ -35,8 +35,8 @@ impl Model for ExtraName {
 impl ExtraName {
     /// The name that a text stands for (PEP 508, "Names"), with no white space around it.
     ///
-    /// Two passes over the text and one allocation of its length. A text that is no name is
-    /// refused with a copy of it.
+    /// One pass over a text in normal form, at most three over another, and one allocation of its
+    /// length. A text that is no name is refused with a copy of it.
     pub fn from_str(alloc: Global, text: &str) -> Result<Self, InvalidNameError>
         ensures answered { Answers (λ name. name) told_name result (name_reading text.now) }
         ensures grown { result ≡ Err InvalidNameError.Memory → 0 < length text.now }

@@ -16,6 +16,7 @@ pub mod laws;
 mod normal;
 mod origin;
 mod package;
+mod unchanged;
 
 pub use extra::ExtraName;
 pub use normal::is_name;

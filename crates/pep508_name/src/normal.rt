@@ -14,6 +14,7 @@ ghost use Rattle.pep508_name.specs.Name.{is_name, is_name_byte, is_alphanumeric,
 ghost use Rattle.pep508_name.specs.Hashing.{alike_names};
 
 use crate::InvalidNameError;
+use crate::unchanged::is_normal;
 use std::alloc::{AllocError, Global};
 use std::cmp::Ordering;
 use std::fmt;
@@ -45,6 +46,11 @@ impl NormalName {
         ensures answered { Answers (λ name. name) told_name result (name_reading text.now) }
         ensures grown { result ≡ Err InvalidNameError.Memory → 0 < length text.now }
     {
+        if is_normal(text) {
+            return Ok(NormalName {
+                text: String::from_str(alloc, text)?,
+            });
+        }
         if !is_name(text) {
             return Err(invalid(alloc, text));
         }
@@ -183,7 +189,7 @@ fn is_name_byte(byte: u8) -> bool
 fn is_separator(byte: u8) -> bool
     ensures { result ≡ is_separator byte }
 {
-    byte == b'-' || byte == b'_' || byte == b'.'
+    matches!(byte, b'-' | b'_' | b'.')
 }
 
 /// The error for a text that is no name.
@@ -223,7 +229,8 @@ fn normalized(alloc: Global, text: &str) -> Result<String, AllocError>
 
 /// A text with `_` for each `-`.
 pub(crate) fn escaped(alloc: Global, text: &str) -> Result<String, AllocError>
-    ensures { IfOk result (λ name. string_bytes name ≡ encode_utf8_all (map dist_info_byte (chars text.now))) }
+    ensures { IfOk result (λ name.
+        string_bytes name ≡ encode_utf8_all (map dist_info_byte (chars text.now))) }
 {
     text.chars()
         .map(|letter| if letter == '-' { '_' } else { letter })

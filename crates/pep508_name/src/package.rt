@@ -38,8 +38,8 @@ impl Model for PackageName {
 impl PackageName {
     /// The name that a text stands for (PEP 508, "Names"), with no white space around it.
     ///
-    /// Two passes over the text and one allocation of its length. A text that is no name is
-    /// refused with a copy of it.
+    /// One pass over a text in normal form, at most three over another, and one allocation of its
+    /// length. A text that is no name is refused with a copy of it.
     pub fn from_str(alloc: Global, text: &str) -> Result<Self, InvalidNameError>
         ensures answered { Answers (λ name. name) told_name result (name_reading text.now) }
         ensures grown { result ≡ Err InvalidNameError.Memory → 0 < length text.now }
@@ -76,7 +76,8 @@ impl PackageName {
     #[tactic(auto, using(crate::proofs::Escaped::escaped_name, crate::proofs::Escaped::nothing_escaped))]
     pub fn as_dist_info_name(&self, alloc: Global) -> Result<CowStr<'_>, AllocError>
         ensures text { IfOk result (λ name. cow_str_bytes name ≡ dist_info_name self.now) }
-        ensures lent { list_any (λ byte. byte == 45) self.now ≡ false → IsOkAnd result (λ name. IsBorrowedStr name) }
+        ensures lent { list_any (λ byte. byte == 45) self.now ≡ false
+            → IsOkAnd result (λ name. IsBorrowedStr name) }
     {
         let name = self.as_str();
         if !name.as_bytes().contains(&b'-') {

@@ -6,3 +6,14 @@ pub mod ExtrasReading
 pub mod ListPlaces
 pub mod FrontParts
 pub mod SourceCases
+pub mod Tests
+pub mod Decoded
+pub mod CharacterCuts
+pub mod UrlLaws
+pub mod Pieces
+pub mod Names
+pub mod ExtrasTexts
+pub mod Lists
+pub mod Sources
+pub mod Found
+pub mod Again

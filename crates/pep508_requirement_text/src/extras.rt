@@ -1,11 +1,12 @@
 //! Reading extras.
 
-ghost use Rattle.std.specs.Prelude.{◌≡◌, ◌==◌, IfOk, IfErr, IfSome, option_map};
+ghost use Rattle.std.specs.Prelude.{◌≡◌, ◌==◌, false, IsOk, IfOk, IfErr, IfSome, option_map};
 ghost use Rattle.std.specs.List.{slice_split};
 ghost use Rattle.std.specs.Str.{trim};
 ghost use Rattle.pep508_url.specs.Vars.{Variables};
 ghost use Rattle.pep508_name.specs.Name.{name_of};
 ghost use Rattle.pep508_error.specs.Cursors.{IsBehind};
+ghost use Rattle.pep508_requirement_text.specs.UrlEnds.{begins_with};
 ghost use Rattle.pep508_requirement_text.specs.FrontReading.{extras_at, extras_of, names_of};
 ghost use Rattle.pep508_requirement_text.specs.FrontOutcome.{behind, Reads, StaysIn, IsPlain, IsOf};
 
@@ -27,6 +28,7 @@ pub fn read_extras<'a>(
     ensures read { (vars : Variables) → Reads vars (λ found. (found.0.items, behind found.1)) result
         (extras_at (behind start.entry)) }
     ensures stays { StaysIn start.entry (λ found. found.1) result }
+    ensures none { begins_with (λ c. c == 91) (behind start.entry) ≡ false → IsOk result }
 {
     let Some(inner) = strip(start, '[') else {
         return Ok((Vec::new(alloc), start));

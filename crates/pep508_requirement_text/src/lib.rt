@@ -5,6 +5,7 @@ mod archive;
 mod cuts;
 mod extras;
 mod front;
+pub mod laws;
 mod list;
 mod look;
 mod message;

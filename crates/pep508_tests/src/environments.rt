@@ -1,5 +1,6 @@
 use pep508_marker::{EnvironmentError, EnvironmentMember, MarkerEnvironment};
 use serde_json::Value;
+use std::alloc::{AllocError, Global};
 use std::test::Fail;
 
 const GOOD: &str = r##"{
@@ -18,24 +19,37 @@ fn reads_an_environment(rt: HostRuntime) -> Result<(), Fail> {
     Ok(())
 }
 
+/// The environment above with another `python_full_version`.
+fn with_full_version(alloc: Global, text: &str) -> Result<String, AllocError> {
+    let full = format!(in alloc; "\"python_full_version\": \"{text}\"")?;
+    GOOD.replace(alloc, "\"python_full_version\": \"3.11.4\"", full.as_str())
+}
+
+/// The print of the version that this text is read as.
+fn full_version(alloc: Global, text: &str) -> Result<String, Fail> {
+    let given = with_full_version(alloc, text)?;
+    let value = Value::from_str(alloc, given.as_str())?;
+    let environment = MarkerEnvironment::from_value(alloc, &value)?;
+    Ok(environment.python_full_version().to_string(alloc)?)
+}
+
 // Each text of a version is one that PEP 440 normalizes, or has white space around it.
 #[test]
 fn reads_versions_by_the_whole_grammar(rt: HostRuntime) -> Result<(), Fail> {
-    let alloc = rt.alloc();
     for (text, want) in [
         ("3.12.0a1", "3.12.0a1"),
         (" 3.8 ", "3.8"),
         ("v3.8", "3.8"),
         ("3.11.4+Local-1", "3.11.4+local.1"),
     ] {
-        let full = format!(in alloc; "\"python_full_version\": \"{text}\"")?;
-        let given = GOOD.replace(alloc, "\"python_full_version\": \"3.11.4\"", full.as_str())?;
-        let value = Value::from_str(alloc, given.as_str())?;
-        let environment = MarkerEnvironment::from_value(alloc, &value)?;
-        let version = environment.python_full_version().to_string(alloc)?;
-        assert_eq!(rt; version.as_str(), want, "at {text}");
+        assert_eq!(rt; full_version(rt.alloc(), text)?.as_str(), want, "at {text}");
     }
     Ok(())
+}
+
+fn fault_of(alloc: Global, text: &str) -> Result<Option<EnvironmentError>, Fail> {
+    let value = Value::from_str(alloc, text)?;
+    Ok(MarkerEnvironment::from_value(alloc, &value).err())
 }
 
 #[test]
@@ -60,11 +74,7 @@ fn names_the_first_fault(rt: HostRuntime) -> Result<(), Fail> {
             EnvironmentError::Member(EnvironmentMember::OsName),
         ),
     ] {
-        let value = Value::from_str(rt.alloc(), text)?;
-        match MarkerEnvironment::from_value(rt.alloc(), &value) {
-            Ok(_) => assert!(rt; false, "taken: {text}"),
-            Err(fault) => assert_eq!(rt; fault, want, "at {text}"),
-        }
+        assert_eq!(rt; fault_of(rt.alloc(), text)?, Some(want), "at {text}");
     }
     Ok(())
 }

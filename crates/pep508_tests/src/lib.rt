@@ -1,4 +1,4 @@
-//! Tests of the public calls of names, origins, environments and URLs: what no contract says of them.
+//! Tests of the public calls of names, origins and environments: what no contract says of them.
 #![tactic(auto)]
 
 #[cfg(test)]
@@ -7,5 +7,3 @@ mod environments;
 mod names;
 #[cfg(test)]
 mod origins;
-#[cfg(test)]
-mod urls;

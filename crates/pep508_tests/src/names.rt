@@ -112,20 +112,6 @@ fn reads_owned_texts(rt: HostRuntime) -> Result<(), Fail> {
 }
 
 #[test]
-fn names_folders(rt: HostRuntime) -> Result<(), Fail> {
-    let alloc = rt.alloc();
-    for (text, want) in [
-        ("Friendly.bard", "friendly_bard"),
-        ("a--b-c", "a_b_c"),
-        ("1okay", "1okay"),
-    ] {
-        let name = PackageName::from_str(alloc, text)?;
-        assert_eq!(rt; name.as_dist_info_name(alloc)?.as_str(), want);
-    }
-    Ok(())
-}
-
-#[test]
 fn reads_and_writes_values(rt: HostRuntime) -> Result<(), Fail> {
     let alloc = rt.alloc();
     let value = PackageName::from_str(alloc, "A.b")?.to_value(alloc)?;

@@ -4,54 +4,9 @@ use serde_json::Value;
 use std::hash::{DefaultHasher, Hash, Hasher};
 use std::test::Fail;
 
-/// Values of origins and their paths.
-const ORIGINS: [(&str, &str); 3] = [
-    ("{\"file\":\"a/requirements.txt\"}", "a/requirements.txt"),
-    (
-        "{\"project\":[\"pyproject.toml\",\"a-b\"]}",
-        "pyproject.toml",
-    ),
-    ("\"workspace\"", "(workspace)"),
-];
-
-/// Values that are no origins: another form, another member, or one member more.
-const OTHERS: [&str; 12] = [
-    "null",
-    "\"file\"",
-    "{}",
-    "{\"file\":1}",
-    "{\"File\":\"a\"}",
-    "{\"workspace\":null}",
-    "{\"project\":\"a\"}",
-    "{\"project\":[\"p\"]}",
-    "{\"project\":[\"p\",1]}",
-    "{\"project\":[\"p\",\"a\",\"b\"]}",
-    "{\"file\":\"a\",\"x\":1}",
-    "{\"file\":\"a\",\"project\":[\"p\",\"a\"]}",
-];
-
 #[test]
-fn reads_and_writes_values(rt: HostRuntime) -> Result<(), Fail> {
+fn tells_a_bad_name(rt: HostRuntime) -> Result<(), Fail> {
     let alloc = rt.alloc();
-    for (text, path) in ORIGINS {
-        let origin = RequirementOrigin::from_value(alloc, &Value::from_str(alloc, text)?)?;
-        assert_eq!(rt; origin.path(), path);
-        assert_eq!(rt; origin.to_value(alloc)?.to_string(alloc)?.as_str(), text);
-        assert!(rt; origin.try_clone(alloc)? == origin);
-    }
-    Ok(())
-}
-
-#[test]
-fn refuses_other_values(rt: HostRuntime) -> Result<(), Fail> {
-    let alloc = rt.alloc();
-    for text in OTHERS {
-        let read = RequirementOrigin::from_value(alloc, &Value::from_str(alloc, text)?);
-        assert!(rt;
-            matches!(&read, Err(FromValueError::Shape)),
-            "taken: {text}"
-        );
-    }
     let text = "{\"project\":[\"p\",\"a-\"]}";
     let want = FromValueError::Text(InvalidNameError::InvalidName(String::from_str(alloc, "a-")?));
     match RequirementOrigin::from_value(alloc, &Value::from_str(alloc, text)?) {
@@ -76,6 +31,8 @@ fn compares_origins(rt: HostRuntime) -> Result<(), Fail> {
     let b = RequirementOrigin::File(String::from_str(alloc, "b")?);
     let name = PackageName::from_str(alloc, "n")?;
     let project = RequirementOrigin::Project(String::from_str(alloc, "a")?, name);
+    assert!(rt; a.try_clone(alloc)? == a);
+    assert!(rt; project.try_clone(alloc)? == project);
     assert!(rt; in_order(&a, &b));
     assert!(rt; in_order(&b, &project));
     assert!(rt; in_order(&project, &RequirementOrigin::Workspace));

@@ -1,7 +1,8 @@
 -- What names a marker tree in an interner.
 use Rattle.std.specs.Prelude.{ℕ, Bool, true, false, not}
 
--- the place of a diagram, of which place 0 is the leaf that is true, and whether the diagram's leaves are turned
+-- the place of a diagram, of which place 0 is the leaf that is true, and whether the diagram's leaves are
+-- turned
 pub record Tree : Type 0 where
   pub place : ℕ
   pub negated : Bool

@@ -1,8 +1,6 @@
-//! URLs of requirements (PEP 508, "Grammar"): environment variables, schemes, paths, and the URL that keeps the text that
-//! it was given as.
-//!
-//! Contracts see a text as the list of its bytes, a path as a text, and a URL as the parts that the crate `url` makes of
-//! it. What text is a URL is that crate's own word, `parse_url`.
+//! URLs of requirements (PEP 508, "Grammar"): variables, schemes, paths, and the URL that keeps its text as
+//! given. Contracts see a text and a path as their bytes, and a URL as the parts that the crate `url` makes
+//! of it; what text is a URL is that crate's own word, `parse_url`.
 #![tactic(auto)]
 
 mod comparing;

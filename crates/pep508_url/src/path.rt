@@ -13,7 +13,8 @@ use percent_encoding::{DecodeError, percent_decode_str};
 use std::alloc::{AllocError, Global};
 use std::borrow::CowStr;
 
-/// The path without empty parts, `.` and `..`; refused as `Normalization` where a `..` finds no part before it to take.
+/// The path without empty parts, `.` and `..`; refused as `Normalization` where a `..` finds no part before
+/// it to take.
 ///
 /// A relative path is taken by its own beginning. One pass, and memory for the list of parts and the path.
 #[tactic(auto, unfolding(crate::specs::Paths::normal_path))]
@@ -79,8 +80,8 @@ fn root(path: &str) -> &'static str
     if is_absolute(path) { "/" } else { "" }
 }
 
-/// The path that the path of a `file` URL stands for: its escapes as their bytes, or the path as it is where those are
-/// no UTF-8. A path without escapes is lent as it is.
+/// The path that the path of a `file` URL stands for: its escapes as their bytes, or the path as it is where
+/// those are no UTF-8. A path without escapes is lent as it is.
 pub fn normalize_url_path(alloc: Global, path: &str) -> Result<CowStr<'_>, AllocError>
     ensures { IfOk result (λ text. cow_str_bytes text ≡ decoded path.now) }
 {

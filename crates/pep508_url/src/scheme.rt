@@ -128,8 +128,8 @@ impl fmt::Display for Scheme {
     }
 }
 
-/// The scheme of a text (RFC 3986, section 3.1), and what follows its `:`. Controls and blanks around the text are left
-/// out first. The scheme need not be one of `Scheme`. One pass, and no memory.
+/// The scheme of a text (RFC 3986, section 3.1), and what follows its `:`. Controls and blanks around the
+/// text are left out first. The scheme need not be one of `Scheme`. One pass, and no memory.
 #[tactic(auto, unfolding(crate::specs::Schemes::scheme_split))]
 pub fn split_scheme(text: &str) -> Option<(&str, &str)>
     ensures { option_map (λ parts. (parts.0.now, parts.1.now)) result ≡ scheme_split text.now }

@@ -5,8 +5,8 @@ ghost use Rattle.pep508_url.specs.Splits.{without_host, local_path, is_bracket, 
 
 use crate::cuts::{behind, is_absolute};
 
-/// The path of a `file` URL behind its scheme (RFC 8089, section 2): without the `//` in front, or without `//localhost`
-/// where a `/` follows that. Any other text stays. No memory is taken.
+/// The path of a `file` URL behind its scheme (RFC 8089, section 2): without the `//` in front, or without
+/// `//localhost` where a `/` follows that. Any other text stays. No memory is taken.
 #[tactic(auto, unfolding(crate::specs::Splits::without_host))]
 pub fn strip_host(path: &str) -> &str
     ensures { result.now ≡ without_host path.now }

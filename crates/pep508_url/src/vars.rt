@@ -14,7 +14,8 @@ use std::marker::Model;
 
 /// The variables that a URL may name, which a caller takes from the process's environment or makes itself.
 ///
-/// It keeps copies of its own. Contracts see it as the pairs of names and values, in order, and the project's root.
+/// It keeps copies of its own. Contracts see it as the pairs of names and values, in order, and the project's
+/// root.
 #[derive(Drop)]
 pub struct Vars {
     pairs: Vec<(String, String)>,
@@ -37,7 +38,8 @@ impl Model for Vars {
 }
 
 impl Vars {
-    /// Names with their values, of which the first pair of a name counts, and the absolute path of the project.
+    /// Names with their values, of which the first pair of a name counts, and the absolute path of the
+    /// project.
     ///
     /// Copies every text.
     pub fn new(
@@ -65,7 +67,8 @@ impl Vars {
         })
     }
 
-    /// The value of a variable: that of its first pair, and for `PROJECT_ROOT` without a pair the project's root.
+    /// The value of a variable: that of its first pair, and for `PROJECT_ROOT` without a pair the project's
+    /// root.
     ///
     /// Looks at the pairs in turn.
     #[tactic(auto, unfolding(crate::specs::Vars::value_of))]
@@ -109,10 +112,12 @@ fn first_value<'a>(pairs: &'a [(String, String)], name: &str) -> Option<&'a str>
     None
 }
 
-/// The text with the values of the variables that it names as `${NAME}`, with a NAME of capital letters, digits and `_`.
-/// A name that is not known stays as it is written, and what a value brings is not looked at again.
+/// The text with the values of the variables that it names as `${NAME}`, with a NAME of capital letters,
+/// digits and `_`. A name that is not known stays as it is written, and what a value brings is not looked at
+/// again.
 ///
-/// Linear in what it gives, and in the number of variables for each one named; a text without `$` is lent as it is.
+/// Linear in what it gives, and in the number of variables for each one named; a text without `$` is lent as
+/// it is.
 pub fn expand_env_vars<'a>(
     alloc: Global,
     text: &'a str,

@@ -17,7 +17,8 @@ use std::alloc::{AllocError, Global};
 use std::marker::Model;
 use url::Url;
 
-/// A URL and, where there is one, the text that it was given as, with variables' names in place of their values.
+/// A URL and, where there is one, the text that it was given as, with variables' names in place of their
+/// values.
 ///
 /// It compares, hashes and prints as the URL.
 #[derive(Drop)]
@@ -68,8 +69,8 @@ impl VerbatimUrl {
         })
     }
 
-    /// The URL of a path, which is absolute or stands in the absolute directory, given as no text. What follows the path's
-    /// first `#` is the URL's fragment.
+    /// The URL of a path, which is absolute or stands in the absolute directory, given as no text. What
+    /// follows the path's first `#` is the URL's fragment.
     ///
     /// Linear in the two texts.
     pub fn from_path(alloc: Global, path: &str, working_dir: &str) -> Result<Self, VerbatimUrlError>
@@ -136,8 +137,8 @@ impl VerbatimUrl {
         url
     }
 
-    /// The path that a URL of the scheme `file` without a host stands for (RFC 8089, section 2): its escapes as their
-    /// bytes. Refused as `UrlConversion` for another URL, and where the bytes are no UTF-8.
+    /// The path that a URL of the scheme `file` without a host stands for (RFC 8089, section 2): its escapes
+    /// as their bytes. Refused as `UrlConversion` for another URL, and where the bytes are no UTF-8.
     pub fn as_path(&self, alloc: Global) -> Result<String, VerbatimUrlError>
         ensures { Answers (λ path. string_bytes path) told_url result (path_of self.now.url) }
     {

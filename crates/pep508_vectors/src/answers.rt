@@ -1,5 +1,6 @@
 //! The answers.
 
+use crate::requirement::{picture, requirement};
 use pep508_name::{InvalidNameError, PackageName, RequirementOrigin};
 use pep508_url::{
     Pep508Url, Scheme, Vars, VerbatimUrl, VerbatimUrlError, expand_env_vars, split_extras,
@@ -39,6 +40,8 @@ pub fn answer(alloc: Global, vars: &Vars, question: &str) -> Result<String, Allo
         "path" => url(alloc, VerbatimUrl::from_path(alloc, text, DIRECTORY)),
         "absolute-path" => url(alloc, VerbatimUrl::from_absolute_path(alloc, text)),
         "as-path" => as_path(alloc, text),
+        "requirement" => requirement(alloc, vars, text, DIRECTORY),
+        "picture" => picture(alloc, vars, text, DIRECTORY),
         _ => String::from_str(alloc, "no question"),
     }
 }

@@ -1,9 +1,10 @@
-//! Answers questions on names, origins and URLs, one a line, whose answers are known from elsewhere.
+//! Answers questions on names, origins, URLs and requirements, one a line, whose answers are known from elsewhere.
 //!
 //! A question is a JSON list: what is asked, and the text that it is asked of. See docs/VECTORS.md.
 #![tactic(auto)]
 
 mod answers;
+mod requirement;
 
 use answers::answer;
 use pep508_url::Vars;

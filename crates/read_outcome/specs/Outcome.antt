@@ -1,10 +1,11 @@
--- What a call that reads returns, by what there is to read. A reading is the value, or the fault that refuses it.
+-- What a call that reads returns, by what there is to read. A reading is the value, or the fault that refuses
+-- it.
 use Rattle.std.specs.Prelude.{◌≡◌, ℕ, List, codes, Option, Some, None, Result, Ok, Err}
 use Rattle.read_outcome.specs.declared.FromValueError.{FromValueError}
 use Rattle.read_outcome.specs.declared.FromValueError.TheVariants.{Shape, Text}
 
--- the fault that an error tells is that of the reading; an error that tells none is want of memory, which leaves open
--- what there is to read
+-- the fault that an error tells is that of the reading; an error that tells none is want of memory, which
+-- leaves open what there is to read
 abbrev pub Tells : {Y F : Type 0} → Option F → Result Y F → Type 0
 Tells None reading = Unit {0}
 Tells (Some fault) reading = reading ≡ Err fault

@@ -1,5 +1,5 @@
-//! What a call that reads returns: the words that every contract of a reader cites (`specs/Outcome.antt`), and the
-//! error of what is read from a JSON value.
+//! What a call that reads returns: the words that every contract of a reader cites (`specs/Outcome.antt`),
+//! and the error of what is read from a JSON value.
 #![tactic(auto)]
 
 ghost use Rattle.read_outcome.specs.Outcome.{value_error_text};

@@ -1,4 +1,5 @@
-//! Tests of the public calls of requirement and candidate lists, the judge and the commands: what no contract says of them.
+//! Tests of the public calls of requirement and candidate lists, the judge and the commands: what no contract
+//! says of them.
 #![tactic(auto)]
 
 #[cfg(test)]

@@ -75,7 +75,8 @@ fn applying_lines<'a>(
     ensures lines { IfOk result (λ groups. (q : List ℕ) →
         group_of groups q ≡ filter (is_asked environment.now q) lines.now) }
     ensures packages { IfOk result (λ groups. (q : List ℕ) →
-        is_some (get_by (λ k. slice_cmp nat_cmp q k.now) groups) ≡ list_any (is_asked environment.now q) lines.now) }
+        is_some (get_by (λ k. slice_cmp nat_cmp q k.now) groups)
+        ≡ list_any (is_asked environment.now q) lines.now) }
 {
     let mut groups: Groups<'a, RequirementLine> = BTreeMap::new(alloc);
     for line in lines {

@@ -44,6 +44,7 @@ each_line read [] = Ok []
 each_line read (line ∷ lines) = with_first (read line.0 line.1) (each_line read lines)
 
 -- what all lines of a text read as, or the first fault, or where the bytes stop being UTF-8
-unfoldable pub lines_of_text : {A E : Type 0} → (ℕ → List ℕ → Result A E) → (ℕ → E) → List ℕ → Result (List A) E
+unfoldable pub lines_of_text : {A E : Type 0} →
+    (ℕ → List ℕ → Result A E) → (ℕ → E) → List ℕ → Result (List A) E
 lines_of_text read no_text bytes =
     if is_utf8 bytes then each_line read (text_lines bytes) else Err (no_text (utf8_valid_len bytes))

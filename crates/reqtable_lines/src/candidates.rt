@@ -8,10 +8,10 @@ ghost use Rattle.std.specs.Str.{IsUtf8, trim};
 ghost use Rattle.reqtable_lines.specs.CandidateLine.{parts_in, has_name};
 ghost use Rattle.reqtable_lines.specs.Candidates.{candidate_at, candidates_of, told_candidates, IsNameReached};
 
-use crate::requirement::read_version;
+use crate::requirement::{read_name, read_version};
 use crate::text_lines::{as_text, is_blank, line_text};
 use pep440_rs::Version;
-use pep508_name::{PackageName, is_name};
+use pep508_name::PackageName;
 use std::alloc::{AllocError, AllocFailed, Global};
 use std::marker::Model;
 
@@ -92,8 +92,8 @@ impl Candidates {
     /// version is in any spelling that PEP 440 normalizes ("Normalization"), as `v1.0-ALPHA`.
     ///
     /// The first line of another kind ends the reading, with the first thing that is wrong of its
-    /// shape, its name and its version. Its shape and its name are looked at without memory. Time
-    /// grows with the length of the bytes, memory with the candidates.
+    /// shape, its name and its version. A line of a wrong shape or name is refused as that whatever
+    /// memory there is. Time grows with the length of the bytes, memory with the candidates.
     pub fn parse(alloc: Global, bytes: &[u8]) -> Result<Candidates, CandidatesError>
         ensures answered { Answers (λ candidates. candidates) told_candidates result
             (candidates_of bytes.now) }
@@ -134,11 +134,8 @@ fn read_candidate(alloc: Global, number: usize, text: &str) -> Result<Candidate,
     let Some((name, version)) = split_at_white(text.trim()) else {
         return Err(fault(number, CandidateFault::Shape));
     };
-    if !is_name(name) {
+    let Some(name) = read_name(alloc, name)? else {
         return Err(fault(number, CandidateFault::Name));
-    }
-    let Ok(name) = PackageName::from_str(alloc, name) else {
-        return Err(CandidatesError::Memory);
     };
     match read_version(alloc, version)? {
         Some(version) => Ok(Candidate { name, version }),

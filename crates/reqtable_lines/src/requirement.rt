@@ -132,18 +132,16 @@ fn read_release(alloc: Global, text: &str) -> Result<Option<Version>, AllocError
     read_version(alloc, text)
 }
 
-/// The name that the whole text is. A text that is none wants no memory.
+/// The name that the whole text is. Want of memory is told for a name alone.
 #[tactic(auto, unfolding(pep508_name::specs::Name::name_of))]
-fn read_name(alloc: Global, text: &str) -> Result<Option<PackageName>, AllocError>
+pub(crate) fn read_name(alloc: Global, text: &str) -> Result<Option<PackageName>, AllocError>
     ensures name { IfOk result (λ name. name ≡ name_of text.now) }
     ensures grown { OnErr result (IsTrue (is_name text.now)) }
 {
-    if !is_name(text) {
-        return Ok(None);
-    }
     match PackageName::from_str(alloc, text) {
         Ok(name) => Ok(Some(name)),
-        Err(_) => Err(AllocError),
+        Err(_) if is_name(text) => Err(AllocError),
+        Err(_) => Ok(None),
     }
 }
 

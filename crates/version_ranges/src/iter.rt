@@ -1,5 +1,5 @@
 //! The intervals of a set, one after another.
-ghost use Rattle.std.specs.Prelude.{◌≡◌, ◌+◌, ◌/◌, ◌%◌, cond, length, [], ◌∷◌, map, MatchOption};
+ghost use Rattle.std.specs.Prelude.{◌≡◌, ◌<◌, ◌+◌, ◌/◌, ◌%◌, ◌^◌, cond, length, [], ◌∷◌, map, MatchOption};
 ghost use Rattle.std.specs.Iterator.{at_most};
 ghost use Rattle.std.specs.Map.Iter.{TakesFirst, ShowsInOrder};
 ghost use Rattle.std.specs.Range.Bound.{bound_map};
@@ -94,13 +94,17 @@ impl<'a, T> Iterator for Iter<'a, T> {
 }
 
 impl<T: RangeValue> Ranges<T> {
-    /// The intervals of the set, in order: none is empty, and no two of them touch. It takes no memory.
+    /// The intervals of the set, in order: none is empty, and no two of them touch. They can be counted.
+    /// It takes no memory.
     pub fn iter(&self) -> Iter<'_, T>
         ensures intervals { result ≡ intervals self.now }
         ensures runs { ShowsInOrder (lent_bounds {T = T}) }
         ensures normal { IsNormal T.cmp self.now }
+        ensures fits { length (intervals self.now) < 2 ^ 64 }
     {
         let (starts_held, boundaries) = self.turns();
+        // As a `usize` counts boundaries, it counts intervals: clause `fits`.
+        let _count = count_intervals(starts_held, boundaries.len());
         Iter {
             starts_held,
             boundaries,

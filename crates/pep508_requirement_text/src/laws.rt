@@ -1,0 +1,57 @@
+//! Laws over the definitions that the contracts cite. The functions do nothing: each one's contract is its law.
+
+ghost use Rattle.std.specs.Prelude.{◌≡◌, ◌≢◌, ◌↔◌, ℕ, Bool, false, List, [], ◌++◌, Ok, Err};
+ghost use Rattle.std.specs.Char.{is_whitespace};
+ghost use Rattle.pep508_requirement_text.specs.UrlEnds.{begins_with, url_split, IsUrlBefore};
+ghost use Rattle.pep508_requirement_text.specs.FrontReading.{Front, Refused, front_reading};
+ghost use Rattle.pep508_requirement_text.specs.FrontText.{IsFrontText, IsRequirementText};
+
+use pep440_specifier::laws::specifier_text_is_read;
+
+/// What is read at the front of a text stands there as the grammar has it (PEP 508, "Grammar").
+pub fn a_read_front_is_written()
+    ensures { (text : List ℕ) (front : Front) (rest : List ℕ)
+        → front_reading text ≡ Ok (front, rest) → IsFrontText text front rest }
+{
+    specifier_text_is_read();
+}
+
+/// What stands at the front of a text as the grammar has it is read (PEP 508, "Grammar").
+pub fn a_written_front_is_read()
+    ensures { (text : List ℕ) (front : Front) (rest : List ℕ)
+        → IsFrontText text front rest → front_reading text ≡ Ok (front, rest) }
+{
+    specifier_text_is_read();
+}
+
+/// At the front of a text stands at most one front of a requirement, and one rest follows it.
+pub fn a_text_has_one_front()
+    ensures { (text : List ℕ) (front other : Front) (rest left : List ℕ)
+        → IsFrontText text front rest → IsFrontText text other left → (front ≡ other) × (rest ≡ left) }
+{
+    a_written_front_is_read();
+}
+
+/// A text is that of at most one requirement without a marker.
+pub fn a_text_has_one_requirement()
+    ensures { (text : List ℕ) (front other : Front)
+        → IsRequirementText text front → IsRequirementText text other → front ≡ other }
+{
+    a_written_front_is_read();
+}
+
+/// A text whose front is refused is that of no requirement.
+pub fn a_refused_text_is_none()
+    ensures { (text : List ℕ) (refused : Refused) → front_reading text ≡ Err refused
+        → (front : Front) → IsRequirementText text front → ⊥ }
+{
+    a_written_front_is_read();
+}
+
+/// A URL is split off exactly where it ends: at the first place behind it at which one may end.
+pub fn a_url_is_split_where_it_ends()
+    ensures { (brackets : Bool) (url rest : List ℕ)
+        → (url_split brackets 0 (url ++ rest) ≡ (url, rest)) × (url ≢ [])
+        × (begins_with is_whitespace url ≡ false)
+        ↔ IsUrlBefore brackets url rest }
+{}

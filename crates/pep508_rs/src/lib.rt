@@ -1,0 +1,19 @@
+//! Requirements of Python packages, as PEP 508 has them: names, extras, specifiers, URLs and markers.
+//!
+//! The crates below hold the code; this one passes on what they offer, and versions and specifiers as `pep440_rs`.
+#![tactic(auto)]
+
+pub use pep440_rs;
+pub use pep508_error::{Pep508Error, Pep508ErrorSource};
+pub use pep508_marker::{
+    EnvironmentError, EnvironmentMember, MarkerEnvironment, MarkerWarningKind, Reporter, Silent,
+};
+pub use pep508_name::{ExtraName, InvalidNameError, PackageName, RequirementOrigin};
+pub use pep508_requirement::{
+    Extras, Requirement, UnnamedRequirement, VersionOrUrl, VersionOrUrlRef,
+};
+pub use pep508_tree::{Interner, MarkerTree};
+pub use pep508_url::{
+    Pep508Url, Scheme, UnnamedRequirementUrl, Vars, VerbatimUrl, VerbatimUrlError, expand_env_vars,
+    normalize_absolute_path, normalize_url_path, split_extras, split_scheme, strip_host,
+};
