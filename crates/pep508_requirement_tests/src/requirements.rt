@@ -1,7 +1,10 @@
-use pep508_requirement::{Extras, Requirement, VersionOrUrl, VersionOrUrlRef};
+use pep508_requirement::{Extras, Requirement, RequirementOrigin, VersionOrUrl, VersionOrUrlRef};
 use pep508_tree::Interner;
 use pep508_url::{Vars, VerbatimUrl};
+use read_outcome::FromValueError;
 use serde_json::Value;
+use std::alloc::{AllocError, Global};
+use std::process::Abort;
 use std::test::Fail;
 
 /// The print of what is asked for, nothing for any version.
@@ -51,12 +54,33 @@ fn reads_requirements(rt: HostRuntime) -> Result<(), Fail> {
     Ok(())
 }
 
+/// The fault of a text begins here, is so long and prints so.
+fn refuses(
+    rt: &impl Abort,
+    alloc: Global,
+    text: &str,
+    start: usize,
+    len: usize,
+    print: &str,
+) -> Result<(), Fail> {
+    let vars = Vars::new(alloc, &[], "/root")?;
+    let mut interner = Interner::new(alloc);
+    match Requirement::<VerbatimUrl>::parse(alloc, &mut interner, &vars, text, Some("/w")) {
+        Ok(_) => assert!(rt; false, "{text} is read"),
+        Err(error) => {
+            assert_eq!(rt; error.start(), start, "at {text}");
+            assert_eq!(rt; error.len(), len, "at {text}");
+            assert_eq!(rt; error.input(), text);
+            assert_eq!(rt; error.to_string(alloc)?.as_str(), print);
+        }
+    }
+    Ok(())
+}
+
 /// The fault of a text: where it begins, how long it is, and its picture.
 #[test]
 fn refuses_texts(rt: HostRuntime) -> Result<(), Fail> {
     let alloc = rt.alloc();
-    let vars = Vars::new(alloc, &[], "/root")?;
-    let mut interner = Interner::new(alloc);
     for (text, start, len, message) in [
         (
             "foo- >=1",
@@ -120,15 +144,31 @@ fn refuses_texts(rt: HostRuntime) -> Result<(), Fail> {
         ),
         ("", 0, 1, "Empty field is not allowed for PEP508\n\n^"),
     ] {
-        match Requirement::<VerbatimUrl>::parse(alloc, &mut interner, &vars, text, Some("/w")) {
-            Ok(_) => assert!(rt; false, "{text} is read"),
-            Err(error) => {
-                assert_eq!(rt; error.start(), start, "at {text}");
-                assert_eq!(rt; error.len(), len, "at {text}");
-                assert_eq!(rt; error.input(), text);
-                assert_eq!(rt; error.to_string(alloc)?.as_str(), message);
-            }
-        }
+        refuses(&rt, alloc, text, start, len, message)?;
     }
+    Ok(())
+}
+
+#[test]
+fn reads_values_and_extras(rt: HostRuntime) -> Result<(), Fail> {
+    let alloc = rt.alloc();
+    let vars = Vars::new(alloc, &[], "/root")?;
+    let mut interner = Interner::new(alloc);
+    let value = Value::from_str(alloc, "\"foo @ https://e.example/f.whl\"")?;
+    let mut read = Requirement::<VerbatimUrl>::from_value(alloc, &mut interner, &vars, &value)?;
+    read.clear_url();
+    assert!(rt; read.version_or_url.is_none());
+    let placed = read.with_origin(RequirementOrigin::Workspace);
+    assert!(rt; placed.origin == Some(RequirementOrigin::Workspace));
+    let other = Value::from_str(alloc, "[]")?;
+    match Requirement::<VerbatimUrl>::from_value(alloc, &mut interner, &vars, &other) {
+        Err(FromValueError::Shape) => {}
+        _ => assert!(rt; false, "a list is no requirement"),
+    }
+    assert!(rt;
+        Requirement::<VerbatimUrl>::from_str(alloc, &mut interner, &vars, "foo @ ./a").is_err()
+    );
+    let extras = Extras::parse::<VerbatimUrl>(alloc, "[b,a]>=1")?;
+    assert_eq!(rt; extras.as_slice().len(), 2);
     Ok(())
 }
