@@ -11,7 +11,7 @@ for itself. Where an input is refused and its text can't be made, the text of wa
 the refusal. The last run gives the answer with ample memory.
 
 The commands are `reqs check` on each example and on lists that are refused, its help, and the questions of
-crates/pep440_vectors, one a run. The last line is `refused: N passed, M failed`, a command or a kind of question each.
+crates/pep440_vectors and crates/pep508_vectors, one a run. The last line is `refused: N passed, M failed`, a command or a kind of question each.
 """
 
 import json
@@ -23,14 +23,20 @@ import tempfile
 
 TOP = os.path.dirname(os.path.dirname(os.path.abspath(__file__)))
 REQS = os.path.join(TOP, "crates", "reqs_cli", "out", "reqs_cli")
-VECTORS = os.path.join(TOP, "crates", "pep440_vectors", "out", "pep440_vectors")
+VECTORS = ("pep440_vectors", "pep508_vectors")
 # Every request after the first that is refused.
 ALL = 2 ** 62
 # A command that asks more often than this doesn't end.
 MOST_REQUESTS = 100_000
 INPUT_REFUSED = 2
+
+
+def program(name):
+    return os.path.join(TOP, "crates", name, "out", name)
+
+
 # How each program ends where memory is refused.
-WANT = {REQS: (3, b"reqs: out of memory\n"), VECTORS: (1, b"Error: Kind(OutOfMemory)\n")}
+WANT = {REQS: (3, b"reqs: out of memory\n"), **{program(it): (1, b"Error: Kind(OutOfMemory)\n") for it in VECTORS}}
 
 
 class Tally:
@@ -136,14 +142,23 @@ def commands(room):
 def tasks(library, room):
     for name, words, folder, wanted in commands(room):
         yield library, name, [REQS, *words], folder, wanted, None
-    data = os.path.join(TOP, "crates", "pep440_vectors")
-    questions = read(os.path.join(data, "data", "vectors.jsonl")).splitlines()
-    answers = read(os.path.join(data, "stdout")).splitlines()
-    if len(questions) != len(answers):
-        sys.exit("refused.py: crates/pep440_vectors has not as many answers as questions")
-    for question, answer in zip(questions, answers):
-        kind = f"questions of {json.loads(question)[0]}:"
-        yield library, kind, [VECTORS], None, (0, answer + b"\n", b""), question
+    for name in VECTORS:
+        for question, answer in questions(name):
+            kind = f"questions of {json.loads(question)[0]}:"
+            yield library, kind, [program(name)], None, (0, answer, b""), question
+
+
+def questions(name):
+    """The questions of a program, each with what is printed for it: the question, and the answer's lines."""
+    data = os.path.join(TOP, "crates", name)
+    asked = read(os.path.join(data, "data", "vectors.jsonl")).splitlines()
+    left = read(os.path.join(data, "stdout"))
+    for question, following in zip(asked, [*asked[1:], None]):
+        end = len(left) if following is None else left.find(b"\n" + following + b" ") + 1
+        if not left.startswith(question + b" ") or not end:
+            sys.exit(f"refused.py: crates/{name}/stdout has not the answers to its questions in turn")
+        yield question, left[:end]
+        left = left[end:]
 
 
 def work(task):
