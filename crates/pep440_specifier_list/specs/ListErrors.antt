@@ -27,4 +27,5 @@ piece_picture piece =
 abbrev pub error_text : VersionSpecifiersParseError → List ℕ
 error_text Memory = codes "out of memory"
 error_text (Specifier piece) =
-    codes "Failed to parse version: " ++ (specifier_error_text piece.error ++ (codes ":\n" ++ piece_picture piece))
+    codes "Failed to parse version: "
+    ++ (specifier_error_text piece.error ++ (codes ":\n" ++ piece_picture piece))

@@ -66,7 +66,8 @@ impl RefusedPiece {
     pub fn underlined(&self) -> Underlined<'_>
         ensures text { result.text.now ≡ string_bytes self.now.line }
         ensures blanks { result.blanks ≡ columns (take self.now.start (string_bytes self.now.line)) }
-        ensures marks { result.marks ≡ piece_columns (string_bytes self.now.line) self.now.start self.now.end }
+        ensures marks { result.marks
+            ≡ piece_columns (string_bytes self.now.line) self.now.start self.now.end }
     {
         Underlined {
             text: self.line(),

@@ -1,4 +1,5 @@
-//! Tests of the public calls of versions and specifiers: what neither a contract nor `pep440_vectors` says of them.
+//! Tests of the public calls of versions and specifiers: what neither a contract nor `pep440_vectors` says of
+//! them.
 #![tactic(auto)]
 
 #[cfg(test)]

@@ -2,7 +2,8 @@
 use Rattle.std.specs.Prelude.{◌≡◌, ℕ, ◌+◌, ◌<◌, ◌≤◌, List, length}
 use Rattle.std.specs.Str.{IsCharBoundary}
 
--- so many bytes from a place on, both ends between characters; at the text's end at most the one place behind it
+-- so many bytes from a place on, both ends between characters; at the text's end at most the one place behind
+-- it
 pub record IsSpan (input : List ℕ) (start len : ℕ) : Type 0 where
   pub starts : IsCharBoundary input start
   pub ends : start < length input → IsCharBoundary input (start + len)

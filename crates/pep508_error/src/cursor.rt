@@ -122,7 +122,8 @@ impl<'a> Cursor<'a> {
 
     /// The refusal of the character that follows, or of the text's end where there is none.
     pub fn refuse_char(self, kind: RefusalKind) -> Refusal<'a>
-        ensures { Refuses result kind self.entry.input.now self.entry.position (first_len (rest_of self.entry)) }
+        ensures { Refuses result kind self.entry.input.now self.entry.position
+            (first_len (rest_of self.entry)) }
     {
         Refusal {
             kind,

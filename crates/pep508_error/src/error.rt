@@ -52,7 +52,8 @@ impl<T: Pep508Url> Pep508Error<T> {
         }
     }
 
-    /// The error that tells what a reader says. Takes memory for a copy of the text; for want of it the error is `Memory`.
+    /// The error that tells what a reader says. Takes memory for a copy of the text; for want of it the error
+    /// is `Memory`.
     pub fn of(alloc: Global, refusal: Refusal<'_>) -> Self
         ensures { IfSome (told_error result) (λ fault. told_refusal refusal.entry ≡ Some fault) }
     {
@@ -79,8 +80,8 @@ impl<T: Pep508Url> Pep508Error<T> {
         }
     }
 
-    /// The error that tells why the text of a URL is not taken for one: so many bytes that follow a place. Want of memory
-    /// is `Memory`, here and for the copy of the text that it takes.
+    /// The error that tells why the text of a URL is not taken for one: so many bytes that follow a place.
+    /// Want of memory is `Memory`, here and for the copy of the text that it takes.
     pub fn of_url(alloc: Global, error: T::Err, place: Cursor<'_>, len: usize) -> Self
         requires { IsCharBoundary (rest_of place) len }
         ensures lacks { T.lacks_memory error ≡ true → result.message ≡ Memory }
@@ -120,7 +121,8 @@ impl<T: Pep508Url> Pep508Error<T> {
     /// Where the part at fault begins, in bytes.
     pub fn start(&self) -> usize
         ensures start { result ≡ self.now.excerpt.start }
-        ensures placed { IsSpan (string_bytes self.now.excerpt.input) self.now.excerpt.start self.now.excerpt.len }
+        ensures placed { IsSpan (string_bytes self.now.excerpt.input)
+            self.now.excerpt.start self.now.excerpt.len }
     {
         self.excerpt.start
     }

@@ -33,7 +33,8 @@ impl RefusalKind {
 
     /// The message that the text can't be a requirement with a name, or want of memory for it.
     pub fn unsupported(message: Result<String, AllocError>) -> RefusalKind
-        ensures { MatchResult message (λ text. result ≡ UnsupportedRequirement text) (λ error. result ≡ Memory) }
+        ensures { MatchResult message (λ text. result ≡ UnsupportedRequirement text)
+            (λ error. result ≡ Memory) }
     {
         match message {
             Ok(message) => RefusalKind::UnsupportedRequirement(message),

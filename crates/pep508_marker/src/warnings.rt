@@ -12,7 +12,8 @@ use std::alloc::AllocError;
 pub enum MarkerWarningKind {
     /// A key has an old name of PEP 345, as `os.name`.
     DeprecatedMarkerName,
-    /// `extra` is compared with something other than the name of an extra, or by another operator than `==` and `!=`.
+    /// `extra` is compared with something other than the name of an extra, or by another operator than `==`
+    /// and `!=`.
     ExtraInvalidComparison,
     /// Two texts are compared by their bytes, as `'3.9' > '3.10'`, or by `~=`.
     LexicographicComparison,
@@ -31,7 +32,8 @@ pub trait Reporter {
     /// A warning may be reported.
     ghost can_report: { Self → Type 0 } = { λ _. Unit {0} };
 
-    /// A warning that was taken leads from one state to another. Several are taken one after another, by `FoldsTo`.
+    /// A warning that was taken leads from one state to another. Several are taken one after another, by
+    /// `FoldsTo`.
     ghost takes: { Self → Warning → Self → Type 0 };
 
     /// Takes a warning. An error says that memory ran out.
@@ -41,8 +43,8 @@ pub trait Reporter {
         ensures taken { OnOk result
             (takes self.old (record { kind = kind; text = string_bytes text }) self.new) };
 
-    /// Whether warnings are to be reported. Where they are not, one that is left out counts as taken, so that no
-    /// text need be made.
+    /// Whether warnings are to be reported. Where they are not, one that is left out counts as taken, so that
+    /// no text need be made.
     fn wants(&self) -> bool
         ensures { OnFalse result ((warning : Warning) → takes self.now warning self.now) }
     {

@@ -44,8 +44,8 @@ impl ExtraName {
         Ok(ExtraName(NormalName::from_str(alloc, text)?))
     }
 
-    /// The name that a text stands for, as `from_str` reads it. A text that is no name is refused and given back in the
-    /// error, so only a name wants memory.
+    /// The name that a text stands for, as `from_str` reads it. A text that is no name is refused and given
+    /// back in the error, so only a name wants memory.
     pub fn new(alloc: Global, text: String) -> Result<Self, InvalidNameError>
         ensures answered { Answers (λ name. name) told_name result (name_reading (string_bytes text)) }
         ensures grown { result ≡ Err InvalidNameError.Memory → IsTrue (is_name (string_bytes text)) }

@@ -68,8 +68,8 @@ impl RequirementOrigin {
         }
     }
 
-    /// The origin that a JSON value is, in just the forms of `to_value`. Another value, and an object with another or a
-    /// further member, is refused as `Shape`, a project's name that is none as the text's fault.
+    /// The origin that a JSON value is, in just the forms of `to_value`. Another value, and an object with
+    /// another or a further member, is refused as `Shape`, a project's name that is none as the text's fault.
     pub fn from_value(
         alloc: Global,
         value: &Value,

@@ -47,8 +47,8 @@ impl PackageName {
         Ok(PackageName(NormalName::from_str(alloc, text)?))
     }
 
-    /// The name that a text stands for, as `from_str` reads it. A text that is no name is refused and given back in the
-    /// error, so only a name wants memory.
+    /// The name that a text stands for, as `from_str` reads it. A text that is no name is refused and given
+    /// back in the error, so only a name wants memory.
     pub fn new(alloc: Global, text: String) -> Result<Self, InvalidNameError>
         ensures answered { Answers (λ name. name) told_name result (name_reading (string_bytes text)) }
         ensures grown { result ≡ Err InvalidNameError.Memory → IsTrue (is_name (string_bytes text)) }
@@ -71,8 +71,8 @@ impl PackageName {
         Ok(PackageName(self.0.try_clone(alloc)?))
     }
 
-    /// The name as the folder of an installed package has it, with `_` for each `-` (the specification of recorded
-    /// installs). Lent, and so without memory, where there is no `-`.
+    /// The name as the folder of an installed package has it, with `_` for each `-` (the specification of
+    /// recorded installs). Lent, and so without memory, where there is no `-`.
     #[tactic(auto, using(crate::proofs::Escaped::escaped_name, crate::proofs::Escaped::nothing_escaped))]
     pub fn as_dist_info_name(&self, alloc: Global) -> Result<CowStr<'_>, AllocError>
         ensures text { IfOk result (λ name. cow_str_bytes name ≡ dist_info_name self.now) }

@@ -20,7 +20,8 @@ UrlRefusedBy Reads lacks text (sources.UrlError error) = Reads text (Err error) 
 UrlRefusedBy Reads lacks text source = ⊥
 
 -- the URL's text is refused with this error, which shows it in its text, or memory ran out
-pub record IsUrlError {T E : Type 0} (Reads : List ℕ → Result T E → Type 0) (lacks : E → Bool) (piece : UrlPiece)
+pub record IsUrlError {T E : Type 0} (Reads : List ℕ → Result T E → Type 0) (lacks : E → Bool)
+    (piece : UrlPiece)
     (error : Pep508Error T E) : Type 0 where
   pub cause : UrlRefusedBy Reads lacks piece.text.now error.message
   pub input : IfSome (told_error error) (λ fault. fault.input ≡ piece.start.input.now)

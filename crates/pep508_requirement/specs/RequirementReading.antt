@@ -1,5 +1,5 @@
--- What reading a requirement's text answers, by its front and by what is left behind it. `Reads` says what may be
--- returned for the text of a URL: it is the type of URLs that knows.
+-- What reading a requirement's text answers, by its front and by what is left behind it. `Reads` says what
+-- may be returned for the text of a URL: it is the type of URLs that knows.
 use Rattle.std.specs.Prelude.{◌≡◌, ◌≢◌, ◌⊎◌, ℕ, Bool, false, List, [], ◌∷◌, Option, Some, None, Result, Ok, Err, IfSome}
 use Rattle.std.specs.Str.{skip_leading_whitespace}
 use Rattle.pep440_rs.specs.Lists.{IsInOrder}
@@ -18,9 +18,10 @@ use Rattle.pep508_requirement.specs.declared.requirement.Requirement.{Requiremen
 use Rattle.pep508_requirement.specs.declared.version_or_url.VersionOrUrl.{VersionOrUrl}
 use Rattle.pep508_requirement.specs.declared.version_or_url.VersionOrUrl.TheVariants as asked
 
--- what a requirement asks for beside its name and extras is what the text says: nothing, the given specifiers in order,
--- or a URL that is read of the given text
-abbrev pub AsksFor : {T E : Type 0} → (List ℕ → Result T E → Type 0) → Source → Option (VersionOrUrl T E) → Type 0
+-- what a requirement asks for beside its name and extras is what the text says: nothing, the given specifiers
+-- in order, or a URL that is read of the given text
+abbrev pub AsksFor : {T E : Type 0} → (List ℕ → Result T E → Type 0) → Source → Option (VersionOrUrl T E)
+    → Type 0
 AsksFor Reads Any None = Unit {0}
 AsksFor Reads Any (Some what) = ⊥
 AsksFor Reads (Specifiers given) (Some (asked.VersionSpecifier list)) = IsInOrder given list
@@ -36,7 +37,8 @@ pub record IsReadUpTo {T E : Type 0} (Reads : List ℕ → Result T E → Type 0
   pub asks : AsksFor Reads front.source what
   pub behind : skip_leading_whitespace rest ≡ left
 
--- the text is read as this requirement, and nothing is left: it holds always, and comes from no place that was told
+-- the text is read as this requirement, and nothing is left: it holds always, and comes from no place that
+-- was told
 pub record IsRead {T E : Type 0} (Reads : List ℕ → Result T E → Type 0) (text : List ℕ) (r : Requirement T E)
     : Type 0 where
   pub front : Front
@@ -53,8 +55,8 @@ pub record IsFrontRefused (vars : Variables) (text : List ℕ) (kind : RefusalKi
   pub fits : Fits vars kind refused
 
 -- the front has a URL of which this error is told, and not for want of memory
-pub record IsUrlRefused {T E : Type 0} (Reads : List ℕ → Result T E → Type 0) (lacks : E → Bool) (text : List ℕ)
-    (error : E) : Type 0 where
+pub record IsUrlRefused {T E : Type 0} (Reads : List ℕ → Result T E → Type 0) (lacks : E → Bool)
+    (text : List ℕ) (error : E) : Type 0 where
   pub front : Front
   pub rest : List ℕ
   pub url : List ℕ
@@ -85,13 +87,13 @@ RefusedBy Reads lacks vars text (sources.String message) =
     IsFrontRefused vars text (kinds.String message) ⊎ IsFollowed Reads text (λ c. c ≢ 59)
 
 -- the text is refused with this error, which shows it, or memory ran out
-pub record IsRefused {T E : Type 0} (Reads : List ℕ → Result T E → Type 0) (lacks : E → Bool) (vars : Variables)
-    (text : List ℕ) (error : Pep508Error T E) : Type 0 where
+pub record IsRefused {T E : Type 0} (Reads : List ℕ → Result T E → Type 0) (lacks : E → Bool)
+    (vars : Variables) (text : List ℕ) (error : Pep508Error T E) : Type 0 where
   pub cause : RefusedBy Reads lacks vars text error.message
   pub input : IfSome (told_error error) (λ fault. fault.input ≡ text)
 
 -- what reading the text answers
-abbrev pub ReadsRequirement : {T E : Type 0} → (List ℕ → Result T E → Type 0) → (E → Bool) → Variables → List ℕ
-    → Result (Requirement T E) (Pep508Error T E) → Type 0
+abbrev pub ReadsRequirement : {T E : Type 0} → (List ℕ → Result T E → Type 0) → (E → Bool) → Variables
+    → List ℕ → Result (Requirement T E) (Pep508Error T E) → Type 0
 ReadsRequirement Reads lacks vars text (Ok r) = IsRead Reads text r
 ReadsRequirement Reads lacks vars text (Err error) = IsRefused Reads lacks vars text error

@@ -14,8 +14,8 @@ use std::alloc::{AllocError, Global};
 pub struct Extras(Vec<ExtraName>);
 
 impl Extras {
-    /// The extras at the front of a text, as `[security,tests]`; none where no bracket stands there. What follows them is not
-    /// looked at (PEP 508, "Grammar").
+    /// The extras at the front of a text, as `[security,tests]`; none where no bracket stands there. What
+    /// follows them is not looked at (PEP 508, "Grammar").
     ///
     /// Linear in the extras; takes memory for them and for an error.
     pub fn parse<T: Pep508Url>(alloc: Global, text: &str) -> Result<Extras, Pep508Error<T>>

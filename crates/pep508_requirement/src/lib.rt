@@ -1,5 +1,5 @@
-//! Requirements of Python packages (PEP 508): a name, extras, and specifiers or a URL; and requirements that a URL alone
-//! names.
+//! Requirements of Python packages (PEP 508): a name, extras, and specifiers or a URL; and requirements that
+//! a URL alone names.
 #![tactic(auto)]
 
 mod extras;

@@ -22,14 +22,15 @@ use serde_json::Value;
 use std::alloc::{AllocError, Global};
 
 impl<T: Pep508Url> Requirement<T> {
-    /// Reads a requirement, as `requests[security]>=2.8.1,<3` or `pip @ https://example.org/pip.whl` (PEP 508, "Grammar"). A
-    /// URL that is a relative path stands in the absolute directory, where there is one.
+    /// Reads a requirement, as `requests[security]>=2.8.1,<3` or `pip @ https://example.org/pip.whl` (PEP
+    /// 508, "Grammar"). A URL that is a relative path stands in the absolute directory, where there is one.
     ///
-    /// A `;` that would begin a marker is refused as `UnsupportedRequirement`, since markers are not read yet, and so is a
-    /// URL, a path or an archive that stands where a name is wanted. A text that is no requirement otherwise is refused as
-    /// `String`, and one whose URL is none as `UrlError`.
+    /// A `;` that would begin a marker is refused as `UnsupportedRequirement`, since markers are not read
+    /// yet, and so is a URL, a path or an archive that stands where a name is wanted. A text that is no
+    /// requirement otherwise is refused as `String`, and one whose URL is none as `UrlError`.
     ///
-    /// Linear in the text, but for bringing specifiers in order; takes memory for what is read and for an error.
+    /// Linear in the text, but for bringing specifiers in order; takes memory for what is read and for an
+    /// error.
     pub fn parse(
         alloc: Global,
         interner: &mut Interner,
@@ -71,7 +72,8 @@ impl<T: Pep508Url> Requirement<T> {
         vars: &Vars,
         text: &str,
     ) -> Result<Self, Pep508Error<T>>
-        ensures answered { ReadsRequirement (λ url. T.reads vars.now url None) T.lacks_memory vars.now text.now result }
+        ensures answered { ReadsRequirement (λ url. T.reads vars.now url None) T.lacks_memory
+            vars.now text.now result }
         ensures nodes { interner.new ≡ interner.old }
     {
         Requirement::parse(alloc, interner, vars, text, None)
@@ -85,7 +87,8 @@ impl<T: Pep508Url> Requirement<T> {
         value: &Value,
     ) -> Result<Self, FromValueError<Pep508Error<T>>>
         ensures answered { ReadsText
-            (λ text read. ReadsRequirement (λ url. T.reads vars.now url None) T.lacks_memory vars.now text read)
+            (λ text read. ReadsRequirement (λ url. T.reads vars.now url None) T.lacks_memory
+            vars.now text read)
             (as_str (view value.now)) result }
         ensures nodes { interner.new ≡ interner.old }
     {

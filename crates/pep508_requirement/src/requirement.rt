@@ -10,8 +10,8 @@ use pep508_tree::MarkerTree;
 use pep508_url::{Pep508Url, VerbatimUrl};
 use std::alloc::{AllocError, Global};
 
-/// A package that is wanted: its name and extras, the versions or the URL that will do, and for which environments
-/// (PEP 508).
+/// A package that is wanted: its name and extras, the versions or the URL that will do, and for which
+/// environments (PEP 508).
 #[derive(Debug, PartialEq, Eq, Hash, Drop)]
 pub struct Requirement<T: Pep508Url = VerbatimUrl> {
     pub name: PackageName,

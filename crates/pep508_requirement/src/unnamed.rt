@@ -6,7 +6,8 @@ use pep508_name::{ExtraName, RequirementOrigin};
 use pep508_tree::MarkerTree;
 use pep508_url::{UnnamedRequirementUrl, VerbatimUrl};
 
-/// A package that is wanted, which a URL or a path alone names, as `pip` takes it beside PEP 508's requirements.
+/// A package that is wanted, which a URL or a path alone names, as `pip` takes it beside PEP 508's
+/// requirements.
 #[derive(Debug, PartialEq, Eq, Hash, Drop)]
 pub struct UnnamedRequirement<Url: UnnamedRequirementUrl = VerbatimUrl> {
     pub url: Url,

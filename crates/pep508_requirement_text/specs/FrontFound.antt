@@ -31,7 +31,8 @@ pub record IsFront (read : Front) (front : said.Front) : Type 0 where
   pub source : IsSource read.source front.source
 
 -- what was returned is the reading: what it says, and the place behind it, or a refusal for its reason
-abbrev pub ReadsAs : {X Y : Type 0} → Variables → (X → Y → Type 0) → Result (X × Cursor) Refusal → Reading Y → Type 0
+abbrev pub ReadsAs : {X Y : Type 0} → Variables → (X → Y → Type 0) → Result (X × Cursor) Refusal → Reading Y
+    → Type 0
 ReadsAs {X} {Y} vars IsSaid (Ok found) reading =
     (y : Y) × (reading ≡ Ok (y, behind found.1)) × IsSaid found.0 y
 ReadsAs vars IsSaid (Err refusal) reading = Tells vars refusal.kind reading

@@ -58,8 +58,10 @@ pub record IsAt (cursor : Cursor) (text : List ℕ) : Type 0 where
   pub rest_utf8 : IsUtf8 rest
 
 -- the same of specifiers, which stand by version
-abbrev pub ReadsSpecifiers : Result (List SpecifierRecord) Refusal → Result (List SpecifierRecord) Refused → Type 0
-ReadsSpecifiers (Ok list) reading = (given : List SpecifierRecord) × (reading ≡ Ok given) × IsInOrder given list
+abbrev pub ReadsSpecifiers : Result (List SpecifierRecord) Refusal → Result (List SpecifierRecord) Refused
+    → Type 0
+ReadsSpecifiers (Ok list) reading =
+    (given : List SpecifierRecord) × (reading ≡ Ok given) × IsInOrder given list
 ReadsSpecifiers (Err refusal) reading = (vars : Variables) → Tells vars refusal.kind reading
 
 -- a refusal is of the text of the place, unless it is want of memory

@@ -1,5 +1,5 @@
--- What there is to read at the front of a requirement's text, before its marker: a name, extras, and specifiers or
--- the text of a URL (PEP 508, "Grammar"); or why there is none.
+-- What there is to read at the front of a requirement's text, before its marker: a name, extras, and
+-- specifiers or the text of a URL (PEP 508, "Grammar"); or why there is none.
 use Rattle.std.specs.Prelude.{ℕ, ◌==◌, ◌||◌, nat_lt, not, Bool, false, if◌then◌else◌, List, [], ◌∷◌, length, drop, Option, Some, None, Result, Ok, Err, encode_utf8_all}
 use Rattle.std.specs.Char.{is_whitespace}
 use Rattle.std.specs.List.{before_first, after_first, position_or_len, slice_split}
@@ -11,8 +11,8 @@ use Rattle.pep440_specifier_list.specs.ListReading.{ListReading, list_reading}
 use Rattle.pep508_requirement_text.specs.Archives.{is_archive}
 use Rattle.pep508_requirement_text.specs.UrlEnds.{url_split}
 
--- what a name and its extras are asked for with: neither specifiers nor a URL, specifiers in the order given, or the
--- text of a URL
+-- what a name and its extras are asked for with: neither specifiers nor a URL, specifiers in the order given,
+-- or the text of a URL
 pub data Source : Type 0 where
   Any : Source
   Specifiers : List SpecifierRecord → Source
@@ -24,8 +24,8 @@ pub record Front : Type 0 where
   pub extras : List (List ℕ)
   pub source : Source
 
--- Why a text is no requirement: by the grammar; since this run of characters stands where a name, or what may follow
--- one, is wanted; or since the name alone is that of an archive.
+-- Why a text is no requirement: by the grammar; since this run of characters stands where a name, or what may
+-- follow one, is wanted; or since the name alone is that of an archive.
 pub data Refused : Type 0 where
   Malformed : Refused
   Nameless : List ℕ → Refused
@@ -125,8 +125,8 @@ begins_operator c = c == 60 || c == 61 || c == 62 || c == 126 || c == 33
 abbrev pub alone : List ℕ → List ℕ → Reading Source
 alone name cs = if is_archive name then Err Archive else Ok (Any, cs)
 
--- what follows the name and its extras in the text of these characters: `@` and a URL, a list in brackets, a list up to
--- a `;`, or nothing up to a `;`
+-- what follows the name and its extras in the text of these characters: `@` and a URL, a list in brackets, a
+-- list up to a `;`, or nothing up to a `;`
 abbrev pub source_at : List ℕ → List ℕ → List ℕ → Reading Source
 source_at whole name [] = alone name []
 source_at whole name (c ∷ cs) =

@@ -1,6 +1,7 @@
--- Where a URL ends in a requirement's text. PEP 508 ends it at white space ("Grammar", `urlspec`), which URLs and paths
--- that people write hold; so it goes on to a line break, to white space before the end, a `;` or a `#`, or to a `;` or
--- `#` before white space. Between the brackets of a URL without a name a line break alone ends it.
+-- Where a URL ends in a requirement's text. PEP 508 ends it at white space ("Grammar", `urlspec`), which URLs
+-- and paths that people write hold; so it goes on to a line break, to white space before the end, a `;` or a
+-- `#`, or to a `;` or `#` before white space. Between the brackets of a URL without a name a line break alone
+-- ends it.
 use Rattle.std.specs.Prelude.{◌≡◌, ◌≢◌, ◌⊎◌, ℕ, ◌+◌, ◌-◌, ◌==◌, ◌&&◌, ◌||◌, Bool, true, false, if◌then◌else◌, List, [], ◌∷◌, ◌++◌, fold, IsTrue}
 use Rattle.std.specs.Char.{is_whitespace}
 use Rattle.std.specs.Str.{skip_leading_whitespace}
@@ -72,4 +73,5 @@ pub record IsUrlBefore (brackets : Bool) (url rest : List ℕ) : Type 0 where
   pub some : url ≢ []
   pub starts : begins_with is_whitespace url ≡ false
   pub ends : EndsBetween brackets url rest
-  pub first : (front back : List ℕ) → url ≡ front ++ back → back ≢ [] → EndsBetween brackets front (back ++ rest) → ⊥
+  pub first : (front back : List ℕ) → url ≡ front ++ back → back ≢ []
+      → EndsBetween brackets front (back ++ rest) → ⊥

@@ -37,7 +37,8 @@ pub record EndsAt (brackets : Bool) (depth : ℕ) (text rest : List ℕ) : Type 
 pub record GoesOnAt (brackets : Bool) (depth : ℕ) (text : List ℕ) (later : ℕ) (rest : List ℕ) : Type 0 where
   pub front : List ℕ
   pub cut : IsCut text front rest
-  pub split : url_split brackets depth (chars text) ≡ onto (chars front) (url_split brackets later (chars rest))
+  pub split : url_split brackets depth (chars text)
+      ≡ onto (chars front) (url_split brackets later (chars rest))
   pub kept : depth_behind brackets later 32 ≡ later
   pub bound : later + length rest ≤ depth + length text
 

@@ -20,8 +20,8 @@ pub(crate) const ENDINGS: [&str; 12] = [
     ".tar.gz",
 ];
 
-/// Whether a text is the file name of an archive that pip installs from: something, and then `.whl`, `.tar.gz` or another
-/// of their endings, in lower case alone.
+/// Whether a text is the file name of an archive that pip installs from: something, and then `.whl`,
+/// `.tar.gz` or another of their endings, in lower case alone.
 ///
 /// Looks at the last nine bytes, and takes no memory.
 #[tactic(auto, unfolding(crate::specs::Archives::is_archive))]

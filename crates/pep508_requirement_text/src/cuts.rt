@@ -26,7 +26,8 @@ pub(crate) fn is_of_name(c: char) -> bool
 
 /// The characters of names at the front, and what follows them.
 pub(crate) fn split_name(text: &str) -> (&str, &str)
-    ensures parts { (result.0.now, chars result.1.now) ≡ cut_before (λ c. not (is_name_byte c)) (chars text.now) }
+    ensures parts { (result.0.now, chars result.1.now)
+        ≡ cut_before (λ c. not (is_name_byte c)) (chars text.now) }
     ensures whole { text.now ≡ result.0.now ++ result.1.now }
 {
     match text.find(|c: char| !is_of_name(c)) {

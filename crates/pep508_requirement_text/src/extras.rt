@@ -16,11 +16,11 @@ use pep508_error::{Cursor, Refusal};
 use pep508_name::{ExtraName, InvalidNameError, is_name};
 use std::alloc::{AllocError, Global};
 
-/// The extras at a place, as `[dev, test]`, in the order given, and the place behind them; none where no `[` follows (PEP
-/// 508, "Extras").
+/// The extras at a place, as `[dev, test]`, in the order given, and the place behind them; none where no `[`
+/// follows (PEP 508, "Extras").
 ///
-/// Linear in the text up to the `]`. Takes memory for the names, and none where no `[` follows. The refusal shows the
-/// first fault in the order in which the text is read.
+/// Linear in the text up to the `]`. Takes memory for the names, and none where no `[` follows. The refusal
+/// shows the first fault in the order in which the text is read.
 pub fn read_extras<'a>(
     alloc: Global,
     start: Cursor<'a>,

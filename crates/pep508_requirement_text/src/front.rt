@@ -35,11 +35,11 @@ pub struct Front<'a> {
 const PRECEDED_BY_URL: &str =
     "URL requirement must be preceded by a package name. Add the name of the package before the URL (e.g., `package_name @ https://...`).";
 
-/// The front of a requirement at a place, and the place behind it: a name, extras, and specifiers or the text of a URL
-/// (PEP 508, "Grammar").
+/// The front of a requirement at a place, and the place behind it: a name, extras, and specifiers or the text
+/// of a URL (PEP 508, "Grammar").
 ///
-/// Linear in the text, but for bringing specifiers in order; takes memory for the name, the extras and the specifiers. The
-/// refusal shows the part of the text at fault.
+/// Linear in the text, but for bringing specifiers in order; takes memory for the name, the extras and the
+/// specifiers. The refusal shows the part of the text at fault.
 #[tactic(auto, unfolding(crate::specs::FrontReading::front_reading))]
 pub fn read_front<'a>(
     alloc: Global,
@@ -73,7 +73,8 @@ fn read_source<'a>(
     vars: &Vars,
 ) -> Result<(Source<'a>, Cursor<'a>), Refusal<'a>>
     requires { IsBehind whole start }
-    ensures read { ReadsAs vars.now IsSource result (source_at (behind whole.entry) name.now (behind start.entry)) }
+    ensures read { ReadsAs vars.now IsSource result
+        (source_at (behind whole.entry) name.now (behind start.entry)) }
     ensures stays { StaysIn whole.entry (λ found. found.1) result }
     ensures url { IfOk result (λ found. IsUrlIn whole.entry found.0) }
 {

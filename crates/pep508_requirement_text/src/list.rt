@@ -53,7 +53,8 @@ pub(crate) fn read_enclosed<'a>(
     }
 }
 
-/// The refusal of a list whose bracket is not closed: the first fault before its last comma, or that no `)` follows.
+/// The refusal of a list whose bracket is not closed: the first fault before its last comma, or that no `)`
+/// follows.
 fn refuse_unclosed<'a>(alloc: Global, opening: Cursor<'a>, inner: Cursor<'a>) -> Refusal<'a>
     requires { IsBehind opening inner }
     ensures plain { IsPlain result.kind }

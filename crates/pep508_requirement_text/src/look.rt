@@ -10,8 +10,9 @@ use crate::archive::is_archive;
 use pep508_url::{Vars, expand_env_vars, split_extras, split_scheme};
 use std::alloc::{AllocError, Global};
 
-/// Whether a text looks like a URL or a path without a package's name: with the variables' values in it and without the
-/// extras at its end, it begins with `.`, or has a slash, a backslash or a scheme, or is the file name of an archive.
+/// Whether a text looks like a URL or a path without a package's name: with the variables' values in it and
+/// without the extras at its end, it begins with `.`, or has a slash, a backslash or a scheme, or is the file
+/// name of an archive.
 ///
 /// Linear in the text with its values; takes memory for a text with a `$` alone.
 pub fn looks_unnamed(alloc: Global, text: &str, vars: &Vars) -> Result<bool, AllocError>

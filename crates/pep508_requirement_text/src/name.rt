@@ -25,7 +25,8 @@ pub(crate) fn read_name<'a>(
     start: Cursor<'a>,
     vars: &Vars,
 ) -> Result<(&'a str, Cursor<'a>), Refusal<'a>>
-    ensures read { Reads vars.now (λ found. (found.0.now, behind found.1)) result (name_at (behind start.entry)) }
+    ensures read { Reads vars.now (λ found. (found.0.now, behind found.1)) result
+        (name_at (behind start.entry)) }
     ensures stays { StaysIn start.entry (λ found. found.1) result }
     ensures named { IfOk result (λ found. IsTrue (is_name found.0.now)) }
 {
@@ -79,7 +80,8 @@ fn refuse_nameless<'a>(alloc: Global, start: Cursor<'a>, vars: &Vars) -> Refusal
 #[tactic(auto, unfolding(pep508_name::specs::Name::name_of))]
 pub(crate) fn package_name<'a>(alloc: Global, name: &str) -> Result<PackageName, Refusal<'a>>
     requires { IsTrue (is_name name.now) }
-    ensures { MatchResult result (λ normal. normal ≡ normal_name name.now) (λ refusal. refusal.kind ≡ Memory) }
+    ensures { MatchResult result (λ normal. normal ≡ normal_name name.now)
+        (λ refusal. refusal.kind ≡ Memory) }
 {
     match PackageName::from_str(alloc, name) {
         Ok(name) => Ok(name),

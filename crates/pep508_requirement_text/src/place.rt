@@ -34,7 +34,8 @@ pub(crate) fn strip<'a>(cursor: Cursor<'a>, at: char) -> Option<Cursor<'a>>
 
 /// The characters of names at the place, and the place behind them.
 pub(crate) fn cut_name<'a>(cursor: Cursor<'a>) -> (&'a str, Cursor<'a>)
-    ensures parts { (result.0.now, behind result.1) ≡ cut_before (λ c. not (is_name_byte c)) (behind cursor.entry) }
+    ensures parts { (result.0.now, behind result.1)
+        ≡ cut_before (λ c. not (is_name_byte c)) (behind cursor.entry) }
     ensures at { IsAt cursor.entry result.0.now }
     ensures later { IsBehind cursor.entry result.1 }
 {
@@ -63,7 +64,8 @@ pub(crate) fn cut_run<'a>(cursor: Cursor<'a>) -> (&'a str, Cursor<'a>)
 
 /// The text before the first of a character and the place behind that, where there is one.
 pub(crate) fn cut_around<'a>(cursor: Cursor<'a>, at: char) -> Option<(&'a str, Cursor<'a>)>
-    ensures parts { option_map (λ found. (found.0.now, behind found.1)) result ≡ cut_around at (behind cursor.entry) }
+    ensures parts { option_map (λ found. (found.0.now, behind found.1)) result
+        ≡ cut_around at (behind cursor.entry) }
     ensures at { IfSome result (λ found. IsAt cursor.entry found.0.now) }
     ensures later { IfSome result (λ found. IsBehind cursor.entry found.1) }
 {

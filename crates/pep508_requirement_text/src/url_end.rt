@@ -14,8 +14,8 @@ pub(crate) enum Turn<'a> {
     GoesOn(&'a str, usize),
 }
 
-/// The URL at the front of a text, and what follows it; `brackets` where a URL has no name and so ends outside brackets,
-/// line breaks excepted.
+/// The URL at the front of a text, and what follows it; `brackets` where a URL has no name and so ends
+/// outside brackets, line breaks excepted.
 ///
 /// One pass over the text, which looks behind each run of white space once. Takes no memory.
 pub fn split_url(text: &str, brackets: bool) -> (&str, &str)

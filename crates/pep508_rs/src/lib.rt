@@ -1,6 +1,7 @@
 //! Requirements of Python packages, as PEP 508 has them: names, extras, specifiers, URLs and markers.
 //!
-//! The crates below hold the code; this one passes on what they offer, and versions and specifiers as `pep440_rs`.
+//! The crates below hold the code; this one passes on what they offer, and versions and specifiers as
+//! `pep440_rs`.
 #![tactic(auto)]
 
 pub use pep440_rs;

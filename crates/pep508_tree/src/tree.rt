@@ -5,8 +5,8 @@ ghost use Rattle.pep508_tree.specs.Tree.{Tree, always, never, negation};
 
 use std::marker::Model;
 
-/// A marker tree of an interner: for which environments and extras a requirement is meant (PEP 508, "Environment
-/// Markers").
+/// A marker tree of an interner: for which environments and extras a requirement is meant (PEP 508,
+/// "Environment Markers").
 ///
 /// Two trees of one interner are equal exactly where they are named alike.
 #[derive(Clone, Copy, Debug, PartialEq, Eq, Hash)]

@@ -1,4 +1,5 @@
-//! Answers questions on names, origins, URLs and requirements, one a line, whose answers are known from elsewhere.
+//! Answers questions on names, origins, URLs and requirements, one a line, whose answers are known from
+//! elsewhere.
 //!
 //! A question is a JSON list: what is asked, and the text that it is asked of. See docs/VECTORS.md.
 #![tactic(auto)]

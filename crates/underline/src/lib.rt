@@ -7,7 +7,8 @@ ghost use Rattle.underline.specs.Underline.{char_columns, columns, underlined};
 use std::fmt;
 use unicode_width::UnicodeWidthChar;
 
-/// How many columns a text takes in a terminal: the sum of its characters' widths, where a control takes none.
+/// How many columns a text takes in a terminal: the sum of its characters' widths, where a control takes
+/// none.
 pub fn columns(text: &str) -> usize
     ensures { result ≡ columns text.now }
 {
