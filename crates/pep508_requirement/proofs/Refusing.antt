@@ -40,11 +40,11 @@ Says (sources.UrlError error) kind = ⊥
 Says source kind = kind ≡ kind_of source
 
 module _ (T E : Type 0) where
-  abbrev source_in : Option (Fault T E) → Pep508ErrorSource T E
+  abbrev pub source_in : Option (Fault T E) → Pep508ErrorSource T E
   source_in None = sources.Memory
   source_in (Some fault) = fault.source
 
-  abbrev input_in : List ℕ → Option (Fault T E) → List ℕ
+  abbrev pub input_in : List ℕ → Option (Fault T E) → List ℕ
   input_in input None = input
   input_in input (Some fault) = fault.input
 
@@ -83,6 +83,11 @@ module _ (T E : Type 0) where
   said_input (Some fault) (kinds.UnsupportedRequirement message) input text start len of h =
       sym (ap (input_in input) h) ∙ of (λ e. cc)
   said_input (Some fault) kinds.NumberAtEnd input text start len of h = sym (ap (input_in input) h) ∙ of (λ e. cc)
+
+  pub moved : (told : Option (Fault T E)) (from to : List ℕ) → from ≡ to → IfSome told (λ fault. fault.input ≡ from)
+      → IfSome told (λ fault. fault.input ≡ to)
+  moved None from to e h = tt
+  moved (Some fault) from to e h = h ∙ e
 
 -- ---- causes
 
@@ -188,11 +193,6 @@ module _ {T E : Type 0} (Reads : List ℕ → Result T E → Type 0) (lacks : E 
   }
   url_cause piece front rest source e s h = absurd h
 
-  moved : (told : Option (Fault T E)) (from to : List ℕ) → from ≡ to → IfSome told (λ fault. fault.input ≡ from)
-      → IfSome told (λ fault. fault.input ≡ to)
-  moved None from to e h = tt
-  moved (Some fault) from to e h = h ∙ e
-
   -- the URL is refused
   pub url_error : (start : Cursor) (source : Source) (front : Front) (rest : List ℕ) (error : Pep508Error T E)
       → front_reading text ≡ Ok (front, rest) → IsSource source front.source
@@ -202,7 +202,7 @@ module _ {T E : Type 0} (Reads : List ℕ → Result T E → Type 0) (lacks : E 
   url_error start (read.Specifiers list) front rest error e s in_it at h = cc
   url_error start (read.Url piece) front rest error e s in_it at h = record {
     cause = url_cause piece front rest error.message e (url_source piece front.source s) h.cause;
-    input = moved (told_error error) piece.start.input.now text (in_it ∙ at) h.input;
+    input = moved T E (told_error error) piece.start.input.now text (in_it ∙ at) h.input;
   }
 
   -- something is left behind the front

@@ -6,7 +6,6 @@ use Rattle.pep508_error.specs.declared.error.Pep508Error.{Pep508Error}
 use Rattle.pep508_error.specs.declared.error.Pep508ErrorSource.{Pep508ErrorSource}
 use Rattle.pep508_error.specs.declared.error.Pep508ErrorSource.TheVariants as sources
 use Rattle.pep508_error.specs.Errors.{told_error}
-use Rattle.pep508_requirement_text.specs.declared.source.UrlPiece.{UrlPiece}
 use Rattle.pep508_requirement_text.specs.declared.source.Source.{Source}
 use Rattle.pep508_requirement_text.specs.declared.source.Source.TheVariants as read
 use Rattle.pep508_requirement.specs.declared.version_or_url.VersionOrUrl.{VersionOrUrl}
@@ -19,18 +18,18 @@ UrlRefusedBy Reads lacks text sources.Memory = Unit {0}
 UrlRefusedBy Reads lacks text (sources.UrlError error) = Reads text (Err error) × (lacks error ≡ false)
 UrlRefusedBy Reads lacks text source = ⊥
 
--- the URL's text is refused with this error, which shows it in its text, or memory ran out
+-- the URL's text is refused with this error, which shows it in the whole text, or memory ran out
 pub record IsUrlError {T E : Type 0} (Reads : List ℕ → Result T E → Type 0) (lacks : E → Bool)
-    (piece : UrlPiece)
+    (text whole : List ℕ)
     (error : Pep508Error T E) : Type 0 where
-  pub cause : UrlRefusedBy Reads lacks piece.text.now error.message
-  pub input : IfSome (told_error error) (λ fault. fault.input ≡ piece.start.input.now)
+  pub cause : UrlRefusedBy Reads lacks text error.message
+  pub input : IfSome (told_error error) (λ fault. fault.input ≡ whole)
 
 -- what was returned is what is read of the URL's text
-abbrev pub ReadsPiece : {T E : Type 0} → (List ℕ → Result T E → Type 0) → (E → Bool) → UrlPiece
+abbrev pub ReadsPiece : {T E : Type 0} → (List ℕ → Result T E → Type 0) → (E → Bool) → List ℕ → List ℕ
     → Result T (Pep508Error T E) → Type 0
-ReadsPiece Reads lacks piece (Ok url) = Reads piece.text.now (Ok url)
-ReadsPiece Reads lacks piece (Err error) = IsUrlError Reads lacks piece error
+ReadsPiece Reads lacks text whole (Ok url) = Reads text (Ok url)
+ReadsPiece Reads lacks text whole (Err error) = IsUrlError Reads lacks text whole error
 
 -- what is asked for by what was read at the front
 abbrev pub ReadsAsked : {T E : Type 0} → (List ℕ → Result T E → Type 0) → (E → Bool) → Source
@@ -40,7 +39,8 @@ ReadsAsked Reads lacks (read.Specifiers list) result = result ≡ Ok (Some (aske
 ReadsAsked Reads lacks (read.Url piece) (Ok None) = ⊥
 ReadsAsked Reads lacks (read.Url piece) (Ok (Some (asked.VersionSpecifier list))) = ⊥
 ReadsAsked Reads lacks (read.Url piece) (Ok (Some (asked.Url url))) = Reads piece.text.now (Ok url)
-ReadsAsked Reads lacks (read.Url piece) (Err error) = IsUrlError Reads lacks piece error
+ReadsAsked Reads lacks (read.Url piece) (Err error) =
+    IsUrlError Reads lacks piece.text.now piece.start.input.now error
 
 -- characters that are left are refused so: a `;` begins a marker, which is not read yet
 abbrev pub LeftRefusedBy : List ℕ → RefusalKind → Type 0
@@ -48,3 +48,10 @@ LeftRefusedBy left kinds.Memory = Unit {0}
 LeftRefusedBy left (kinds.UnsupportedRequirement message) = (more : List ℕ) × (left ≡ 59 ∷ more)
 LeftRefusedBy left (kinds.String message) = (c : ℕ) × (more : List ℕ) × (left ≡ c ∷ more) × (c ≢ 59)
 LeftRefusedBy left kinds.NumberAtEnd = ⊥
+
+-- a marker is refused so, or memory ran out
+abbrev pub IsMarkerRefusal : RefusalKind → Type 0
+IsMarkerRefusal kinds.Memory = Unit {0}
+IsMarkerRefusal (kinds.UnsupportedRequirement message) = Unit {0}
+IsMarkerRefusal (kinds.String message) = ⊥
+IsMarkerRefusal kinds.NumberAtEnd = ⊥

@@ -3,9 +3,12 @@
 #![tactic(auto)]
 
 mod extras;
+mod left;
 mod reading;
 mod requirement;
 mod unnamed;
+mod unnamed_reading;
+mod unnamed_url;
 mod version_or_url;
 
 pub use extras::Extras;

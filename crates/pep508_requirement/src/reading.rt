@@ -6,13 +6,14 @@ ghost use Rattle.serde_json.specs.Find.{as_str};
 ghost use Rattle.read_outcome.specs.Outcome.{ReadsText};
 ghost use Rattle.std.specs.Str.{skip_leading_whitespace};
 ghost use Rattle.pep508_url.specs.Vars.{IsAbsolute};
-ghost use Rattle.pep508_error.specs.Cursors.{rest_of, IsBehind};
-ghost use Rattle.pep508_requirement_text.specs.FrontOutcome.{IsOf, IsPlain};
+ghost use Rattle.pep508_error.specs.Cursors.{rest_of};
+ghost use Rattle.pep508_requirement_text.specs.FrontOutcome.{IsOf};
 ghost use Rattle.pep508_requirement.specs.Pieces.{ReadsAsked, ReadsPiece, LeftRefusedBy};
 ghost use Rattle.pep508_requirement.specs.RequirementReading.{ReadsRequirement};
 
+use crate::left::{last_mark, refuse_first, refuse_marker};
 use crate::{Requirement, VersionOrUrl};
-use pep508_error::{Cursor, Pep508Error, Refusal, RefusalKind};
+use pep508_error::{Cursor, Pep508Error, Refusal};
 use pep508_marker::{Reporter, Silent};
 use pep508_requirement_text::{Front, Source, UrlPiece, read_front};
 use pep508_tree::{Interner, MarkerTree};
@@ -168,7 +169,7 @@ fn read_piece<T: Pep508Url>(
 ) -> Result<T, Pep508Error<T>>
     requires { IfSome working_dir (λ directory. IsAbsolute directory.now) }
     ensures { ReadsPiece (λ url. T.reads vars.now url (option_copied working_dir.entry)) T.lacks_memory
-        piece.entry result }
+        piece.entry.text.now piece.entry.start.input.now result }
 {
     match T::parse_url(alloc, piece.text, vars, working_dir) {
         Ok(url) => Ok(url),
@@ -189,49 +190,16 @@ fn refuse_left<'a, T: Pep508Url>(
     let left = rest.after_whitespace();
     let first = left.peek()?;
     if first == ';' {
-        let message = String::from_str(alloc, "Markers are not read yet");
-        return Some(left.refuse_char(RefusalKind::unsupported(message)));
+        return Some(refuse_marker(alloc, left));
     }
-    Some(refuse_first(alloc, version_or_url, rest, left, first))
-}
-
-/// The refusal of the first character that is left, or of the last of a URL whose end isn't clear.
-fn refuse_first<'a, T: Pep508Url>(
-    alloc: Global,
-    version_or_url: &Option<VersionOrUrl<T>>,
-    rest: Cursor<'a>,
-    left: Cursor<'a>,
-    first: char,
-) -> Refusal<'a>
-    requires { IsBehind rest left }
-    ensures plain { IsPlain result.kind }
-    ensures of { IsOf rest.entry result }
-{
-    let mark = match unclear_end(alloc, version_or_url) {
-        Ok(mark) => mark,
-        Err(_) => return Refusal::memory(),
-    };
-    match mark {
-        Some(mark) => refuse_mark(alloc, rest, mark),
-        None => left.refuse_char(RefusalKind::string(format!(in alloc;
-            "Expected end of input or `;`, found `{first}`"
-        ))),
+    match printed_mark(alloc, version_or_url) {
+        Ok(mark) => Some(refuse_first(alloc, mark, rest, left, first)),
+        Err(_) => Some(Refusal::memory()),
     }
-}
-
-/// The refusal of the last character before a place.
-fn refuse_mark<'a>(alloc: Global, rest: Cursor<'a>, mark: char) -> Refusal<'a>
-    ensures plain { IsPlain result.kind }
-    ensures of { IsOf rest.entry result }
-{
-    let place = rest.before().unwrap_or(rest);
-    place.refuse_char(RefusalKind::string(format!(in alloc;
-        "Missing space before '{mark}', the end of the URL is ambiguous"
-    )))
 }
 
 /// The `;` or `#` with which the print of the URL ends, where there is one that does.
-fn unclear_end<T: Pep508Url>(
+fn printed_mark<T: Pep508Url>(
     alloc: Global,
     version_or_url: &Option<VersionOrUrl<T>>,
 ) -> Result<Option<char>, AllocError> {
@@ -239,9 +207,5 @@ fn unclear_end<T: Pep508Url>(
         return Ok(None);
     };
     let text = url.to_string(alloc)?;
-    Ok(
-        [';', '#']
-            .into_iter()
-            .find(|mark| text.as_str().ends_with(*mark)),
-    )
+    Ok(last_mark(text.as_str()))
 }

@@ -24,7 +24,7 @@ by_chars [] [] e h = h
 by_chars [] (b ∷ bs) e h = absurd (cc)
 by_chars (c ∷ cs) text e h = some_left c cs
 
-nothing : (text : List ℕ) → (length text == 0) ≡ true → text ≡ []
+pub nothing : (text : List ℕ) → (length text == 0) ≡ true → text ≡ []
 nothing [] h = refl
 nothing (b ∷ bs) h = absurd (cc (sym (some_left b bs) ∙ h))
 

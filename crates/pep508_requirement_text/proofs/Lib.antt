@@ -5,6 +5,7 @@ pub mod Outcomes
 pub mod ExtrasReading
 pub mod ListPlaces
 pub mod FrontParts
+pub mod UnnamedParts
 pub mod SourceCases
 pub mod Tests
 pub mod Decoded

@@ -6,3 +6,5 @@ pub mod FrontText
 pub mod UrlTurns
 pub mod FrontOutcome
 pub mod FrontFound
+pub mod UnnamedReading
+pub mod UnnamedFound

@@ -45,7 +45,7 @@ pub fn read_extras<'a>(
 
 /// The names between brackets, if they are names.
 #[tactic(auto, unfolding(crate::specs::FrontReading::extras_of))]
-fn read_inside(alloc: Global, inside: &str) -> Result<Option<Vec<ExtraName>>, AllocError>
+pub(crate) fn read_inside(alloc: Global, inside: &str) -> Result<Option<Vec<ExtraName>>, AllocError>
     ensures { IfOk result (λ names. option_map (λ v. v.items) names ≡ extras_of inside.now) }
 {
     if inside.trim().is_empty() {
@@ -81,7 +81,7 @@ fn read_extra(alloc: Global, piece: &str) -> Result<Option<ExtraName>, AllocErro
 }
 
 /// The refusal of extras: their first fault, or that no `]` follows.
-fn refuse_extras<'a>(alloc: Global, opening: Cursor<'a>) -> Refusal<'a>
+pub(crate) fn refuse_extras<'a>(alloc: Global, opening: Cursor<'a>) -> Refusal<'a>
     ensures plain { IsPlain result.kind }
     ensures of { IsOf opening.entry result }
 {

@@ -13,6 +13,7 @@ mod message;
 mod name;
 mod place;
 mod source;
+mod unnamed;
 mod url_cut;
 mod url_end;
 
@@ -21,4 +22,5 @@ pub use extras::read_extras;
 pub use front::{Front, read_front};
 pub use look::looks_unnamed;
 pub use source::{Source, UrlPiece};
+pub use unnamed::{Unnamed, read_unnamed};
 pub use url_end::split_url;

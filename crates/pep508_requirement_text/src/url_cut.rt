@@ -4,7 +4,7 @@ ghost use Rattle.std.specs.Prelude.{◌≡◌};
 ghost use Rattle.std.specs.Str.{chars, IsUtf8};
 ghost use Rattle.pep508_error.specs.Cursors.{IsBehind};
 ghost use Rattle.pep508_requirement_text.specs.UrlEnds.{url_split};
-ghost use Rattle.pep508_requirement_text.specs.FrontOutcome.{behind};
+ghost use Rattle.pep508_requirement_text.specs.FrontOutcome.{behind, IsAt};
 
 use crate::place::pass;
 use crate::source::UrlPiece;
@@ -15,6 +15,7 @@ use pep508_error::Cursor;
 pub(crate) fn cut_url<'a>(start: Cursor<'a>, brackets: bool) -> (UrlPiece<'a>, Cursor<'a>)
     ensures parts { (chars result.0.text.now, behind result.1) ≡ url_split brackets 0 (behind start.entry) }
     ensures utf8 { IsUtf8 result.0.text.now }
+    ensures at { IsAt result.0.start result.0.text.now }
     ensures start { result.0.start.input.now ≡ start.entry.input.now }
     ensures later { IsBehind start.entry result.1 }
 {

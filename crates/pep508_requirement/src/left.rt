@@ -1,0 +1,54 @@
+//! What is left of a text behind a requirement.
+
+ghost use Rattle.std.specs.Prelude.{◌≡◌};
+ghost use Rattle.pep508_error.specs.Cursors.{IsBehind};
+ghost use Rattle.pep508_requirement.specs.Pieces.{IsMarkerRefusal};
+ghost use Rattle.pep508_requirement_text.specs.FrontOutcome.{IsOf, IsPlain};
+
+use pep508_error::{Cursor, Refusal, RefusalKind};
+use std::alloc::Global;
+
+/// The refusal of a `;`, which begins a marker.
+pub(crate) fn refuse_marker<'a>(alloc: Global, left: Cursor<'a>) -> Refusal<'a>
+    ensures kind { IsMarkerRefusal result.kind }
+    ensures of { IsOf left.entry result }
+{
+    let message = String::from_str(alloc, "Markers are not read yet");
+    left.refuse_char(RefusalKind::unsupported(message))
+}
+
+/// The refusal of the first character that is left, or of the last of a URL whose end isn't clear.
+pub(crate) fn refuse_first<'a>(
+    alloc: Global,
+    mark: Option<char>,
+    rest: Cursor<'a>,
+    left: Cursor<'a>,
+    first: char,
+) -> Refusal<'a>
+    requires { IsBehind rest left }
+    ensures plain { IsPlain result.kind }
+    ensures of { IsOf rest.entry result }
+{
+    match mark {
+        Some(mark) => refuse_mark(alloc, rest, mark),
+        None => left.refuse_char(RefusalKind::string(format!(in alloc;
+            "Expected end of input or `;`, found `{first}`"
+        ))),
+    }
+}
+
+/// The refusal of the last character before a place.
+fn refuse_mark<'a>(alloc: Global, rest: Cursor<'a>, mark: char) -> Refusal<'a>
+    ensures plain { IsPlain result.kind }
+    ensures of { IsOf rest.entry result }
+{
+    let place = rest.before().unwrap_or(rest);
+    place.refuse_char(RefusalKind::string(format!(in alloc;
+        "Missing space before '{mark}', the end of the URL is ambiguous"
+    )))
+}
+
+/// The `;` or `#` with which a text ends, where it does.
+pub(crate) fn last_mark(text: &str) -> Option<char> {
+    [';', '#'].into_iter().find(|mark| text.ends_with(*mark))
+}

@@ -1,0 +1,24 @@
+-- What the reader of such a front returns, by what there is to read.
+use Rattle.std.specs.Prelude.{◌≡◌, ◌⊎◌, ℕ, List, Result, Ok, Err}
+use Rattle.pep508_error.specs.declared.cursor.Cursor.{Cursor}
+use Rattle.pep508_error.specs.declared.refusal.Refusal.{Refusal}
+use Rattle.pep508_error.specs.declared.refusal.RefusalKind.TheVariants.{Memory}
+use Rattle.pep508_requirement_text.specs.FrontReading.Refused.{Malformed}
+use Rattle.pep508_requirement_text.specs.FrontOutcome.{IsPlain, behind}
+use Rattle.pep508_requirement_text.specs.UnnamedReading.{UnnamedFront, IsUnnamedReading}
+use Rattle.pep508_requirement_text.specs.declared.unnamed.Unnamed.{Unnamed}
+
+-- a front as contracts see it
+abbrev pub seen : Unnamed → UnnamedFront
+seen found = record { url = found.url.text.now; extras = found.extras.items }
+
+-- what was returned is the reading, or want of memory
+abbrev pub ReadsUnnamed : Result (Unnamed × Cursor) Refusal → List ℕ → Type 0
+ReadsUnnamed (Ok found) text = IsUnnamedReading text (Ok (seen found.0, behind found.1))
+ReadsUnnamed (Err refusal) text =
+    IsPlain refusal.kind × ((refusal.kind ≡ Memory) ⊎ IsUnnamedReading text (Err Malformed))
+
+-- the URL stands in the text of the place, with its extras and without them
+pub record IsUnnamedIn (cursor : Cursor) (found : Unnamed) : Type 0 where
+  pub whole_input : found.whole.start.input.now ≡ cursor.input.now
+  pub url_input : found.url.start.input.now ≡ cursor.input.now
