@@ -6,7 +6,7 @@ ghost use Rattle.pep508_error.specs.declared.refusal.RefusalKind.TheVariants.{Me
 ghost use Rattle.pep508_error.specs.Cursors.{rest_of};
 ghost use Rattle.pep508_requirement_text.specs.FrontOutcome.{IsAt, IsOf, IsPlain, StaysIn};
 ghost use Rattle.pep508_requirement_text.specs.UnnamedReading.{HasExtras, url_at};
-ghost use Rattle.pep508_requirement_text.specs.UnnamedFound.{ReadsUnnamed, IsUnnamedIn};
+ghost use Rattle.pep508_requirement_text.specs.UnnamedFound.{ReadsUnnamed};
 
 use crate::extras::{read_inside, refuse_extras};
 use crate::message::plain;
@@ -40,7 +40,8 @@ pub fn read_unnamed<'a>(
 ) -> Result<(Unnamed<'a>, Cursor<'a>), Refusal<'a>>
     ensures read { ReadsUnnamed result (rest_of start.entry) }
     ensures stays { StaysIn start.entry (λ found. found.1) result }
-    ensures urls { IfOk result (λ found. IsUnnamedIn start.entry found.0) }
+    ensures placed { IfOk result (λ found. found.0.whole.start.input.now ≡ start.entry.input.now) }
+    ensures url { IfOk result (λ found. found.0.url.start.input.now ≡ start.entry.input.now) }
     ensures whole { IfOk result (λ found. found.0.whole.text.now ≡ encode_utf8_all (url_at (rest_of start.entry)).0) }
 {
     let place = start.after_whitespace();
