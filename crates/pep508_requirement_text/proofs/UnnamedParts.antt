@@ -100,7 +100,8 @@ same_front a b url extras rest = λ k. (record { url = url k; extras = extras k 
 pub one_reading : (text : List ℕ) (reading other : Reading UnnamedFront) → IsUnnamedReading text reading
     → IsUnnamedReading text other → reading ≡ other
 one_reading text (Ok a) (Ok b) h k =
-    let same = one_url (encode_utf8_all (url_at text).0) a.0.url b.0.url (Some a.0.extras) (Some b.0.extras) h.1 k.1 in
+    let same =
+    one_url (encode_utf8_all (url_at text).0) a.0.url b.0.url (Some a.0.extras) (Some b.0.extras) h.1 k.1 in
     let names : Some a.0.extras ≡ Some b.0.extras = same.1 in
     let extras : a.0.extras ≡ b.0.extras = cc in
     ap Ok (same_front a b same.0 extras (h.2 ∙ sym k.2))

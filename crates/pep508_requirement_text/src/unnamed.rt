@@ -29,11 +29,11 @@ pub struct Unnamed<'a> {
     pub extras: Vec<ExtraName>,
 }
 
-/// The front of a requirement without a name at a place, and the place behind it: a URL and, at its end, extras in
-/// brackets. Inside brackets a line break alone ends the URL.
+/// The front of a requirement without a name at a place, and the place behind it: a URL and, at its end, extras
+/// in brackets. Inside brackets a line break alone ends the URL.
 ///
-/// Linear in the text; takes memory for the extras and for a refusal's message. The refusal shows the part of the text at
-/// fault.
+/// Linear in the text; takes memory for the extras and for a refusal's message. The refusal shows the part of the
+/// text at fault.
 pub fn read_unnamed<'a>(
     alloc: Global,
     start: Cursor<'a>,
@@ -42,7 +42,8 @@ pub fn read_unnamed<'a>(
     ensures stays { StaysIn start.entry (λ found. found.1) result }
     ensures placed { IfOk result (λ found. found.0.whole.start.input.now ≡ start.entry.input.now) }
     ensures url { IfOk result (λ found. found.0.url.start.input.now ≡ start.entry.input.now) }
-    ensures whole { IfOk result (λ found. found.0.whole.text.now ≡ encode_utf8_all (url_at (rest_of start.entry)).0) }
+    ensures whole { IfOk result (λ found. found.0.whole.text.now
+        ≡ encode_utf8_all (url_at (rest_of start.entry)).0) }
 {
     let place = start.after_whitespace();
     let (whole, later) = cut_url(place, true);
@@ -59,7 +60,8 @@ fn read_parts<'a>(
     whole: UrlPiece<'a>,
 ) -> Result<(UrlPiece<'a>, Vec<ExtraName>), Refusal<'a>>
     requires { IsAt whole.start whole.text.now }
-    ensures read { MatchResult result (λ found. HasExtras whole.entry.text.now found.0.text.now (Some found.1.items))
+    ensures read { MatchResult result
+        (λ found. HasExtras whole.entry.text.now found.0.text.now (Some found.1.items))
         (λ refusal. IsPlain refusal.kind
         × ((refusal.kind ≡ Memory) ⊎ ((url : List ℕ) × HasExtras whole.entry.text.now url None))) }
     ensures of { IfErr result (IsOf whole.entry.start) }
@@ -78,7 +80,8 @@ fn read_parts<'a>(
 /// The URL before the extras at the end of a URL's text, and those.
 fn split_piece<'a>(whole: UrlPiece<'a>) -> Option<(UrlPiece<'a>, &'a str)>
     requires { IsAt whole.start whole.text.now }
-    ensures split { MatchOption result ((url extras : List ℕ) → IsExtrasSplit whole.entry.text.now url extras → ⊥)
+    ensures split { MatchOption result
+        ((url extras : List ℕ) → IsExtrasSplit whole.entry.text.now url extras → ⊥)
         (λ parts. IsExtrasSplit whole.entry.text.now parts.0.text.now parts.1.now) }
     ensures at { IfSome result (λ parts. IsAt parts.0.start parts.0.text.now) }
     ensures input { IfSome result (λ parts. parts.0.start.input.now ≡ whole.entry.start.input.now) }
