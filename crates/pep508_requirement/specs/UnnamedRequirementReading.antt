@@ -1,5 +1,5 @@
--- What reading a requirement without a name answers, by its URL and extras and by what is left behind them. `Reads` says
--- what may be returned for the text of a URL without its extras.
+-- What reading a requirement without a name answers, by its URL and extras and by what is left behind them.
+-- `Reads` says what may be returned for the text of a URL without its extras.
 use Rattle.std.specs.Prelude.{◌≡◌, ◌≢◌, ◌⊎◌, ℕ, Bool, false, List, [], ◌∷◌, Option, Some, None, Result, Ok, Err, IfSome}
 use Rattle.std.specs.Str.{skip_leading_whitespace}
 use Rattle.pep508_url.specs.Vars.{Variables}
@@ -13,14 +13,16 @@ use Rattle.pep508_requirement_text.specs.FrontReading.Refused.{Malformed}
 use Rattle.pep508_requirement_text.specs.UnnamedReading.{UnnamedFront, IsUnnamedReading}
 use Rattle.pep508_requirement.specs.declared.unnamed.UnnamedRequirement.{UnnamedRequirement}
 
--- what may be returned for a text: the URL that is read of it, its variables' values put in, given as the text
-abbrev pub ReadsGiven : {T E : Type 0} → (List ℕ → Result T E → Type 0) → (T → List ℕ → T → Type 0) → Variables
-    → List ℕ → Result T E → Type 0
+-- what may be returned for a text: the URL that is read of it, its variables' values put in, given as the
+-- text
+abbrev pub ReadsGiven : {T E : Type 0} → (List ℕ → Result T E → Type 0) → (T → List ℕ → T → Type 0)
+    → Variables → List ℕ → Result T E → Type 0
 ReadsGiven {T} {E} Reads IsGiven vars text (Ok url) =
     (read : T) × Reads (expanded vars text) (Ok read) × IsGiven read text url
 ReadsGiven Reads IsGiven vars text (Err error) = Reads (expanded vars text) (Err error)
 
--- the text is read as this requirement, and nothing is left: it holds always, and comes from no place that was told
+-- the text is read as this requirement, and nothing is left: it holds always, and comes from no place that
+-- was told
 pub record IsUnnamedRead {T E : Type 0} (Reads : List ℕ → Result T E → Type 0) (text : List ℕ)
     (r : UnnamedRequirement T E) : Type 0 where
   pub front : UnnamedFront

@@ -20,13 +20,13 @@ use pep508_url::{UnnamedRequirementUrl, Vars, expand_env_vars};
 use std::alloc::Global;
 
 impl<Url: UnnamedRequirementUrl> UnnamedRequirement<Url> {
-    /// Reads a requirement without a name, as `https://example.org/pip.whl` or `./pip[dev]`: a URL or a path, and extras at
-    /// its end. A relative path stands in the absolute directory, where there is one. The URL is given as its text, with
-    /// variables' names in place of their values, without the extras.
+    /// Reads a requirement without a name, as `https://example.org/pip.whl` or `./pip[dev]`: a URL or a path,
+    /// and extras at its end. A relative path stands in the absolute directory, where there is one. The URL
+    /// is given as its text, with variables' names in place of their values, without the extras.
     ///
-    /// A `;` that would begin a marker is refused as `UnsupportedRequirement`, since markers are not read yet. A text whose
-    /// URL is none is refused as `UrlError`, and any other that is no such requirement as `String`. The warnings of a marker
-    /// are reported; so far there are none.
+    /// A `;` that would begin a marker is refused as `UnsupportedRequirement`, since markers are not read
+    /// yet. A text whose URL is none is refused as `UrlError`, and any other that is no such requirement as
+    /// `String`. The warnings of a marker are reported; so far there are none.
     ///
     /// Linear in the text; takes memory for what is read and for an error.
     pub fn parse<R: Reporter>(
@@ -40,8 +40,9 @@ impl<Url: UnnamedRequirementUrl> UnnamedRequirement<Url> {
         requires directory { IfSome working_dir (λ directory. IsAbsolute directory.now) }
         requires can_report { R.can_report reporter.old }
         ensures answered { ReadsUnnamedRequirement
-            (ReadsGiven (ReadsUnnamed (λ path. Url.reads_path path (option_copied working_dir.entry)) Url.reads_url)
-                Url.is_given vars.now)
+            (ReadsGiven
+            (ReadsUnnamed (λ path. Url.reads_path path (option_copied working_dir.entry)) Url.reads_url)
+            Url.is_given vars.now)
             Url.lacks_memory text.now result }
         ensures nodes { interner.new ≡ interner.old }
         ensures warnings { reporter.new ≡ reporter.old }
@@ -49,7 +50,8 @@ impl<Url: UnnamedRequirementUrl> UnnamedRequirement<Url> {
         read_unnamed_requirement(alloc, vars, text, working_dir)
     }
 
-    /// Reads a requirement as `parse` does, with no directory, so that a relative path is refused, and reports nothing.
+    /// Reads a requirement as `parse` does, with no directory, so that a relative path is refused, and
+    /// reports nothing.
     pub fn from_str(
         alloc: Global,
         interner: &mut Interner,
@@ -75,7 +77,7 @@ fn read_unnamed_requirement<U: UnnamedRequirementUrl>(
     requires { IfSome working_dir (λ directory. IsAbsolute directory.now) }
     ensures { ReadsUnnamedRequirement
         (ReadsGiven (ReadsUnnamed (λ path. U.reads_path path (option_copied working_dir.entry)) U.reads_url)
-            U.is_given vars.now)
+        U.is_given vars.now)
         U.lacks_memory text.now result }
 {
     let (front, rest) = match read_unnamed(alloc, Cursor::new(text)) {
@@ -109,7 +111,7 @@ fn read_given<U: UnnamedRequirementUrl>(
     requires { IfSome working_dir (λ directory. IsAbsolute directory.now) }
     ensures { ReadsPiece
         (ReadsGiven (ReadsUnnamed (λ path. U.reads_path path (option_copied working_dir.entry)) U.reads_url)
-            U.is_given vars.now)
+        U.is_given vars.now)
         U.lacks_memory text.now whole.entry.start.input.now result }
 {
     let Ok(expanded) = expand_env_vars(alloc, text, vars) else {

@@ -7,8 +7,8 @@ ghost use Rattle.pep508_requirement.specs.UnnamedUrls.{ReadsUnnamed};
 use pep508_url::{Scheme, UnnamedRequirementUrl, normalize_url_path, split_scheme, strip_host};
 use std::alloc::{AllocError, Global};
 
-/// The URL of a text whose variables have their values, or why there is none. Want of memory before the text is read as a
-/// URL or a path is told apart.
+/// The URL of a text whose variables have their values, or why there is none. Want of memory before the text
+/// is read as a URL or a path is told apart.
 #[tactic(auto, unfolding(crate::specs::UnnamedUrls::ReadsUnnamed))]
 pub(crate) fn read_unnamed_url<U: UnnamedRequirementUrl>(
     alloc: Global,
@@ -17,7 +17,8 @@ pub(crate) fn read_unnamed_url<U: UnnamedRequirementUrl>(
 ) -> Result<Result<U, U::Err>, AllocError>
     requires { IfSome working_dir (λ directory. IsAbsolute directory.now) }
     ensures { IfOk result (λ outcome.
-        ReadsUnnamed (λ path. U.reads_path path (option_copied working_dir.entry)) U.reads_url text.now outcome) }
+        ReadsUnnamed (λ path. U.reads_path path (option_copied working_dir.entry)) U.reads_url
+        text.now outcome) }
 {
     let Some((scheme, rest)) = split_scheme(text) else {
         return Ok(read_path(alloc, text, working_dir));

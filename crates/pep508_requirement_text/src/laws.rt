@@ -58,8 +58,8 @@ pub fn a_url_is_split_where_it_ends()
         ↔ IsUrlBefore brackets url rest }
 {}
 
-/// At the front of a text there is at most one thing to read where no name is wanted: a URL with its extras, or
-/// why there is none.
+/// At the front of a text there is at most one thing to read where no name is wanted: a URL with its extras,
+/// or why there is none.
 pub fn a_text_has_one_unnamed_front()
     ensures { (text : List ℕ) (reading other : Reading UnnamedFront)
         → IsUnnamedReading text reading → IsUnnamedReading text other → reading ≡ other }

@@ -29,11 +29,11 @@ pub struct Unnamed<'a> {
     pub extras: Vec<ExtraName>,
 }
 
-/// The front of a requirement without a name at a place, and the place behind it: a URL and, at its end, extras
-/// in brackets. Inside brackets a line break alone ends the URL.
+/// The front of a requirement without a name at a place, and the place behind it: a URL and, at its end,
+/// extras in brackets. Inside brackets a line break alone ends the URL.
 ///
-/// Linear in the text; takes memory for the extras and for a refusal's message. The refusal shows the part of the
-/// text at fault.
+/// Linear in the text; takes memory for the extras and for a refusal's message. The refusal shows the part of
+/// the text at fault.
 pub fn read_unnamed<'a>(
     alloc: Global,
     start: Cursor<'a>,

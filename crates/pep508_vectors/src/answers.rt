@@ -1,6 +1,6 @@
 //! The answers.
 
-use crate::requirement::{picture, requirement};
+use crate::requirement::{picture, requirement, unnamed};
 use pep508_name::{InvalidNameError, PackageName, RequirementOrigin};
 use pep508_url::{
     Pep508Url, Scheme, Vars, VerbatimUrl, VerbatimUrlError, expand_env_vars, split_extras,
@@ -42,6 +42,7 @@ pub fn answer(alloc: Global, vars: &Vars, question: &str) -> Result<String, Allo
         "as-path" => as_path(alloc, text),
         "requirement" => requirement(alloc, vars, text, DIRECTORY),
         "picture" => picture(alloc, vars, text, DIRECTORY),
+        "unnamed" => unnamed(alloc, vars, text, DIRECTORY),
         _ => String::from_str(alloc, "no question"),
     }
 }

@@ -4,8 +4,8 @@ ghost use Rattle.pep508_url.specs.Vars.{IsAbsolute};
 
 use pep508_rs::pep440_rs::VersionSpecifiers;
 use pep508_rs::{
-    ExtraName, Interner, Pep508Error, Pep508ErrorSource, Requirement, Vars, VerbatimUrl,
-    VersionOrUrl,
+    ExtraName, Interner, Pep508Error, Pep508ErrorSource, Requirement, Silent, UnnamedRequirement,
+    Vars, VerbatimUrl, VersionOrUrl,
 };
 use std::alloc::{AllocError, Global};
 
@@ -22,6 +22,50 @@ pub fn requirement(
         Ok(requirement) => parts(alloc, &requirement),
         Err(error) => refused(alloc, &error),
     }
+}
+
+/// The URL and the extras that a text without a name is read as, or the span and the message of its refusal.
+pub fn unnamed(
+    alloc: Global,
+    vars: &Vars,
+    text: &str,
+    directory: &str,
+) -> Result<String, AllocError>
+    requires { IsAbsolute directory.now }
+{
+    match read_unnamed(alloc, vars, text, directory) {
+        Ok(requirement) => unnamed_parts(alloc, &requirement),
+        Err(error) => refused(alloc, &error),
+    }
+}
+
+fn read_unnamed(
+    alloc: Global,
+    vars: &Vars,
+    text: &str,
+    directory: &str,
+) -> Result<UnnamedRequirement<VerbatimUrl>, Pep508Error<VerbatimUrl>>
+    requires { IsAbsolute directory.now }
+{
+    let mut interner = Interner::new(alloc);
+    UnnamedRequirement::parse(
+        alloc,
+        &mut interner,
+        vars,
+        text,
+        Some(directory),
+        &mut Silent,
+    )
+}
+
+fn unnamed_parts(
+    alloc: Global,
+    requirement: &UnnamedRequirement<VerbatimUrl>,
+) -> Result<String, AllocError> {
+    let mut text = requirement.url.to_string(alloc)?;
+    push_extras(&mut text, &requirement.extras)?;
+    let given = requirement.url.given().unwrap_or("");
+    format!(in alloc; "{text} given {given}")
 }
 
 /// The print of a refusal, with the part of the text that is at fault.
