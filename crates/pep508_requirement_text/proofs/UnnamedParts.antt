@@ -1,15 +1,16 @@
 -- The parts of a front without a name.
 use Rattle.std.proofs.Common.{◌≡◌, ◌==◌, ◌<◌, ◌⊎◌, ℕ, true, false, List, [], ◌∷◌, ◌++◌, length, Option, Some, None, Ok, Err, inl, inr, refl, sym, ap, subst, ◌∙◌, arith}
-use Rattle.std.proofs.lemmas.List.{append_cancel_right}
+use Rattle.std.proofs.lemmas.List.{append_cancel_left, append_cancel_right}
 use Rattle.std.proofs.lemmas.Str.{chars-nil, encodes-chars}
 use Rattle.std.specs.Str.{chars, encode_utf8_all, IsUtf8}
 use Rattle.pep508_url.specs.Splits.{IsExtrasSplit}
 use Rattle.pep508_error.specs.declared.refusal.RefusalKind.{RefusalKind}
 use Rattle.pep508_error.specs.declared.refusal.RefusalKind.TheVariants.{Memory}
-use Rattle.pep508_requirement_text.specs.FrontReading.{extras_of}
+use Rattle.pep508_requirement_text.specs.FrontReading.{Reading, extras_of}
 use Rattle.pep508_requirement_text.specs.FrontReading.Refused.{Malformed}
 use Rattle.pep508_requirement_text.specs.FrontOutcome.{IsPlain}
 use Rattle.pep508_requirement_text.proofs.FrontParts.{nothing}
+use Rattle.pep508_requirement_text.proofs.Looks.{one_before}
 use Rattle.pep508_requirement_text.specs.UnnamedReading.{UnnamedFront, url_at, HasExtras, IsUnnamedReading}
 
 -- ---- extras
@@ -66,3 +67,44 @@ module _ (text url later : List ℕ) (at : (chars url, later) ≡ url_at text) w
         → IsPlain kind × ((kind ≡ Memory) ⊎ ((front : List ℕ) × HasExtras url front None))
         → IsPlain kind × ((kind ≡ Memory) ⊎ IsUnnamedReading text (Err Malformed))
     extras_stop kind h = (h.0, extras_told kind h.1)
+
+-- ---- a text has one reading
+
+one_url : (text url other : List ℕ) (names others : Option (List (List ℕ))) → HasExtras text url names
+    → HasExtras text other others → (url ≡ other) × (names ≡ others)
+one_url text url other names others (inl s) (inl t) =
+    let same : url ≡ other = one_before text url other (inl (s.0, s.1)) (inl (t.0, t.1)) in
+    let here : url ++ s.0 ≡ url ++ t.0 =
+    sym s.1.whole ∙ t.1.whole ∙ ap (λ (front : List ℕ). front ++ t.0) (sym same) in
+    let brackets : s.0 ≡ t.0 = append_cancel_left url s.0 t.0 here in
+    let inside : s.1.inside ≡ t.1.inside =
+    same_inside s.0 s.1.inside t.1.inside s.1.brackets (brackets ∙ t.1.brackets) in
+    (same, sym s.2 ∙ ap extras_of inside ∙ t.2)
+one_url text url other names others (inl s) (inr t) = absurd (t.2 url s.0 s.1)
+one_url text url other names others (inr s) (inl t) = absurd (s.2 other t.0 t.1)
+one_url text url other names others (inr s) (inr t) = (s.0 ∙ sym t.0, s.1 ∙ sym t.1)
+
+not_both : (text front : List ℕ) (names : List (List ℕ)) → 0 < length (url_at text).0
+    → HasExtras (encode_utf8_all (url_at text).0) front (Some names)
+    → ((url_at text).0 ≡ []) ⊎ ((url : List ℕ) × HasExtras (encode_utf8_all (url_at text).0) url None) → ⊥
+not_both text front names some h (inl none) =
+    absurd (omega (arith, some, ap length none))
+not_both text front names some h (inr k) =
+    let same : Some names ≡ None = (one_url _ front k.0 (Some names) None h k.1).1 in
+    absurd (cc)
+
+same_front : (a b : UnnamedFront × List ℕ) → a.0.url ≡ b.0.url → a.0.extras ≡ b.0.extras → a.1 ≡ b.1 → a ≡ b
+same_front a b url extras rest = λ k. (record { url = url k; extras = extras k }, rest k)
+
+-- what there is to read is one
+pub one_reading : (text : List ℕ) (reading other : Reading UnnamedFront) → IsUnnamedReading text reading
+    → IsUnnamedReading text other → reading ≡ other
+one_reading text (Ok a) (Ok b) h k =
+    let same =
+    one_url (encode_utf8_all (url_at text).0) a.0.url b.0.url (Some a.0.extras) (Some b.0.extras) h.1 k.1 in
+    let names : Some a.0.extras ≡ Some b.0.extras = same.1 in
+    let extras : a.0.extras ≡ b.0.extras = cc in
+    ap Ok (same_front a b same.0 extras (h.2 ∙ sym k.2))
+one_reading text (Ok a) (Err refused) h k = absurd (not_both text a.0.url a.0.extras h.0 h.1 k.1)
+one_reading text (Err refused) (Ok b) h k = absurd (not_both text b.0.url b.0.extras k.0 k.1 h.1)
+one_reading text (Err refused) (Err other) h k = ap Err (h.0 ∙ sym k.0)

@@ -17,8 +17,3 @@ abbrev pub ReadsUnnamed : Result (Unnamed × Cursor) Refusal → List ℕ → Ty
 ReadsUnnamed (Ok found) text = IsUnnamedReading text (Ok (seen found.0, behind found.1))
 ReadsUnnamed (Err refusal) text =
     IsPlain refusal.kind × ((refusal.kind ≡ Memory) ⊎ IsUnnamedReading text (Err Malformed))
-
--- the URL stands in the text of the place, with its extras and without them
-pub record IsUnnamedIn (cursor : Cursor) (found : Unnamed) : Type 0 where
-  pub whole_input : found.whole.start.input.now ≡ cursor.input.now
-  pub url_input : found.url.start.input.now ≡ cursor.input.now

@@ -15,8 +15,8 @@ pub record UnnamedFront : Type 0 where
 abbrev pub url_at : List ℕ → List ℕ × List ℕ
 url_at text = url_split true 0 (skip_leading_whitespace (chars text))
 
--- the text is a URL and extras at its end, and these are the names that their inside is read as; without such extras it
--- is the URL, and there are no names
+-- the text is a URL and extras at its end, and these are the names that their inside is read as; without such
+-- extras it is the URL, and there are no names
 abbrev pub HasExtras : List ℕ → List ℕ → Option (List (List ℕ)) → Type 0
 HasExtras text url names =
     ((brackets : List ℕ) × (split : IsExtrasSplit text url brackets) × (extras_of split.inside ≡ names))

@@ -3,8 +3,9 @@
 ghost use Rattle.std.specs.Prelude.{◌≡◌, ◌≢◌, ◌↔◌, ℕ, Bool, false, List, [], ◌++◌, Ok, Err};
 ghost use Rattle.std.specs.Char.{is_whitespace};
 ghost use Rattle.pep508_requirement_text.specs.UrlEnds.{begins_with, url_split, IsUrlBefore};
-ghost use Rattle.pep508_requirement_text.specs.FrontReading.{Front, Refused, front_reading};
+ghost use Rattle.pep508_requirement_text.specs.FrontReading.{Front, Refused, Reading, front_reading};
 ghost use Rattle.pep508_requirement_text.specs.FrontText.{IsFrontText, IsRequirementText};
+ghost use Rattle.pep508_requirement_text.specs.UnnamedReading.{UnnamedFront, IsUnnamedReading};
 
 use pep440_specifier::laws::specifier_text_is_read;
 
@@ -54,4 +55,11 @@ pub fn a_url_is_split_where_it_ends()
         → (url_split brackets 0 (url ++ rest) ≡ (url, rest)) × (url ≢ [])
         × (begins_with is_whitespace url ≡ false)
         ↔ IsUrlBefore brackets url rest }
+{}
+
+/// At the front of a text there is at most one thing to read where no name is wanted: a URL with its extras, or
+/// why there is none.
+pub fn a_text_has_one_unnamed_front()
+    ensures { (text : List ℕ) (reading other : Reading UnnamedFront)
+        → IsUnnamedReading text reading → IsUnnamedReading text other → reading ≡ other }
 {}

@@ -6,7 +6,7 @@ ghost use Rattle.pep508_error.specs.declared.refusal.RefusalKind.TheVariants.{Me
 ghost use Rattle.pep508_error.specs.Cursors.{rest_of};
 ghost use Rattle.pep508_requirement_text.specs.FrontOutcome.{IsAt, IsOf, IsPlain, StaysIn};
 ghost use Rattle.pep508_requirement_text.specs.UnnamedReading.{HasExtras, url_at};
-ghost use Rattle.pep508_requirement_text.specs.UnnamedFound.{ReadsUnnamed, IsUnnamedIn};
+ghost use Rattle.pep508_requirement_text.specs.UnnamedFound.{ReadsUnnamed};
 
 use crate::extras::{read_inside, refuse_extras};
 use crate::message::plain;
@@ -29,19 +29,21 @@ pub struct Unnamed<'a> {
     pub extras: Vec<ExtraName>,
 }
 
-/// The front of a requirement without a name at a place, and the place behind it: a URL and, at its end, extras in
-/// brackets. Inside brackets a line break alone ends the URL.
+/// The front of a requirement without a name at a place, and the place behind it: a URL and, at its end, extras
+/// in brackets. Inside brackets a line break alone ends the URL.
 ///
-/// Linear in the text; takes memory for the extras and for a refusal's message. The refusal shows the part of the text at
-/// fault.
+/// Linear in the text; takes memory for the extras and for a refusal's message. The refusal shows the part of the
+/// text at fault.
 pub fn read_unnamed<'a>(
     alloc: Global,
     start: Cursor<'a>,
 ) -> Result<(Unnamed<'a>, Cursor<'a>), Refusal<'a>>
     ensures read { ReadsUnnamed result (rest_of start.entry) }
     ensures stays { StaysIn start.entry (λ found. found.1) result }
-    ensures urls { IfOk result (λ found. IsUnnamedIn start.entry found.0) }
-    ensures whole { IfOk result (λ found. found.0.whole.text.now ≡ encode_utf8_all (url_at (rest_of start.entry)).0) }
+    ensures placed { IfOk result (λ found. found.0.whole.start.input.now ≡ start.entry.input.now) }
+    ensures url { IfOk result (λ found. found.0.url.start.input.now ≡ start.entry.input.now) }
+    ensures whole { IfOk result (λ found. found.0.whole.text.now
+        ≡ encode_utf8_all (url_at (rest_of start.entry)).0) }
 {
     let place = start.after_whitespace();
     let (whole, later) = cut_url(place, true);
@@ -58,7 +60,8 @@ fn read_parts<'a>(
     whole: UrlPiece<'a>,
 ) -> Result<(UrlPiece<'a>, Vec<ExtraName>), Refusal<'a>>
     requires { IsAt whole.start whole.text.now }
-    ensures read { MatchResult result (λ found. HasExtras whole.entry.text.now found.0.text.now (Some found.1.items))
+    ensures read { MatchResult result
+        (λ found. HasExtras whole.entry.text.now found.0.text.now (Some found.1.items))
         (λ refusal. IsPlain refusal.kind
         × ((refusal.kind ≡ Memory) ⊎ ((url : List ℕ) × HasExtras whole.entry.text.now url None))) }
     ensures of { IfErr result (IsOf whole.entry.start) }
@@ -77,7 +80,8 @@ fn read_parts<'a>(
 /// The URL before the extras at the end of a URL's text, and those.
 fn split_piece<'a>(whole: UrlPiece<'a>) -> Option<(UrlPiece<'a>, &'a str)>
     requires { IsAt whole.start whole.text.now }
-    ensures split { MatchOption result ((url extras : List ℕ) → IsExtrasSplit whole.entry.text.now url extras → ⊥)
+    ensures split { MatchOption result
+        ((url extras : List ℕ) → IsExtrasSplit whole.entry.text.now url extras → ⊥)
         (λ parts. IsExtrasSplit whole.entry.text.now parts.0.text.now parts.1.now) }
     ensures at { IfSome result (λ parts. IsAt parts.0.start parts.0.text.now) }
     ensures input { IfSome result (λ parts. parts.0.start.input.now ≡ whole.entry.start.input.now) }

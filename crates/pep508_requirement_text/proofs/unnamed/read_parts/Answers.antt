@@ -11,7 +11,10 @@ returns-in-Ok-Some-clause-read c =
 pub returns-in-Ok-None-clause-read : goal.returns-in-Ok-None-clause-read
 returns-in-Ok-None-clause-read c = (
   c.refuse_extras.ensures.plain,
-  inr (c.in-Some.url.text.now, has_extras c.args.whole.text.now c.in-Some.url.text.now c.in-Some.extras.now
-  c.inside.result.now None c.in-Some.ensures.split c.inside.ensures
-  (sym (rw c.in-Ok-None.field-0-is at c.in-Ok-None.ensures))),
+  inr (
+    c.in-Some.url.text.now,
+    has_extras c.args.whole.text.now c.in-Some.url.text.now c.in-Some.extras.now
+        c.inside.result.now None c.in-Some.ensures.split c.inside.ensures
+        (sym (rw c.in-Ok-None.field-0-is at c.in-Ok-None.ensures)),
+  ),
 )

@@ -10,8 +10,8 @@ pub returns-then-is_empty-clause-read : goal.returns-then-is_empty-clause-read
 returns-then-is_empty-clause-read c = (
   subst IsPlain (sym c.refuse_none.ensures.kind) c.plain.ensures,
   inr (nothing_read (rest_of c.args.start) c.cut_url.result.0.text.now (behind c.cut_url.result.1)
-  (c.cut_url.ensures.parts ∙ ap (url_split true 0) c.after_whitespace-place.ensures.rest)
-  (sym c.is_empty.ensures ∙ c.if-is_empty.true)),
+      (c.cut_url.ensures.parts ∙ ap (url_split true 0) c.after_whitespace-place.ensures.rest)
+      (sym c.is_empty.ensures ∙ c.if-is_empty.true)),
 )
 
 pub returns-in_err-url-clause-read : goal.returns-in_err-url-clause-read

@@ -1,4 +1,4 @@
-use Rattle.std.proofs.Common.{rules, ◌++◌, ap, sym, List, ℕ, ◌∙◌, append_assoc}
+use Rattle.std.proofs.Common.{rules, ◌++◌, ap, List, ℕ, ◌∙◌, append_assoc}
 use Rattle.std.specs.Str.{IsUtf8}
 use Rattle.std.proofs.lemmas.Str.{IsUtf8-append}
 use Rattle.pep508_requirement_text.proofs.unnamed.split_piece.Goals as goal
