@@ -1,5 +1,5 @@
 -- What an error says of a text is the reason for which the text is no requirement without a name.
-use Rattle.std.proofs.Common.{◌≡◌, ◌⊎◌, ℕ, Bool, true, false, List, ◌∷◌, Option, Some, None, Result, Ok, Err, IfSome, refl, sym, ap, subst, ◌∙◌, inl, inr, ⊎_elim}
+use Rattle.std.proofs.Common.{◌≡◌, ◌⊎◌, ℕ, Bool, true, false, List, Option, Some, None, Result, Ok, Err, IfSome, refl, sym, ap, subst, inl, inr, ⊎_elim}
 use Rattle.std.specs.Str.{skip_leading_whitespace}
 use Rattle.pep508_error.specs.declared.excerpt.Excerpt.{Excerpt}
 use Rattle.pep508_error.specs.declared.refusal.Refusal.{Refusal}
@@ -34,7 +34,7 @@ module _ {T E : Type 0} (Reads : List ℕ → Result T E → Type 0) (lacks : E 
   url_said (sources.UrlError e) error said lacking read = (
     subst (λ x. Reads text (Err x)) (same_error error e said) read,
     subst (λ x. lacks x ≡ false) (same_error error e said)
-    (not_lacking (lacks error) (sources.UrlError e) lacking (λ h. cc)),
+        (not_lacking (lacks error) (sources.UrlError e) lacking (λ h. cc)),
   )
   url_said (sources.String message) error said lacking read = cc
   url_said (sources.UnsupportedRequirement message) error said lacking read = cc
@@ -91,10 +91,10 @@ module _ {T E : Type 0} (Reads : List ℕ → Result T E → Type 0) (lacks : E 
       → IsUnnamedRefused Reads lacks text error
   unnamed_front_error error refusal told of h = record {
     cause =
-      front_cause error.message refusal.kind
-      (says T E error.message error.excerpt refusal.kind refusal.input.now refusal.start refusal.len told) h.0 h.1;
+        front_cause error.message refusal.kind
+        (says T E error.message error.excerpt refusal.kind refusal.input.now refusal.start refusal.len told) h.0 h.1;
     input =
-      said_input T E (told_error error) refusal.kind refusal.input.now text refusal.start refusal.len of told;
+        said_input T E (told_error error) refusal.kind refusal.input.now text refusal.start refusal.len of told;
   }
 
   module _ (front : UnnamedFront) (rest : List ℕ) (reading : IsUnnamedReading text (Ok (front, rest))) where
@@ -122,16 +122,16 @@ module _ {T E : Type 0} (Reads : List ℕ → Result T E → Type 0) (lacks : E 
     left_cause (sources.String message) kind read url said h =
         let at = subst (LeftRefusedBy (skip_leading_whitespace rest)) said h in
         inr (record {
-            front = front;
-            rest = rest;
-            reading = reading;
-            read = read;
-            url = url;
-            first = at.0;
-            left = at.1;
-            behind = at.2;
-            is = at.3;
-          })
+          front = front;
+          rest = rest;
+          reading = reading;
+          read = read;
+          url = url;
+          first = at.0;
+          left = at.1;
+          behind = at.2;
+          is = at.3;
+        })
     left_cause (sources.UnsupportedRequirement message) kind read url said h =
         let at = subst (LeftRefusedBy (skip_leading_whitespace rest)) said h in
         record {
@@ -153,8 +153,8 @@ module _ {T E : Type 0} (Reads : List ℕ → Result T E → Type 0) (lacks : E 
         → LeftRefusedBy (skip_leading_whitespace rest) refusal.kind → IsUnnamedRefused Reads lacks text error
     unnamed_left_error error refusal read url told of h = record {
       cause =
-        left_cause error.message refusal.kind read url
-        (says T E error.message error.excerpt refusal.kind refusal.input.now refusal.start refusal.len told) h;
+          left_cause error.message refusal.kind read url
+          (says T E error.message error.excerpt refusal.kind refusal.input.now refusal.start refusal.len told) h;
       input =
-        said_input T E (told_error error) refusal.kind refusal.input.now text refusal.start refusal.len of told;
+          said_input T E (told_error error) refusal.kind refusal.input.now text refusal.start refusal.len of told;
     }

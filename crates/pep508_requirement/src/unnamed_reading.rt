@@ -41,7 +41,7 @@ impl<Url: UnnamedRequirementUrl> UnnamedRequirement<Url> {
         requires can_report { R.can_report reporter.old }
         ensures answered { ReadsUnnamedRequirement
             (ReadsGiven (ReadsUnnamed (λ path. Url.reads_path path (option_copied working_dir.entry)) Url.reads_url)
-                Url.is_given vars.now)
+            Url.is_given vars.now)
             Url.lacks_memory text.now result }
         ensures nodes { interner.new ≡ interner.old }
         ensures warnings { reporter.new ≡ reporter.old }
@@ -75,7 +75,7 @@ fn read_unnamed_requirement<U: UnnamedRequirementUrl>(
     requires { IfSome working_dir (λ directory. IsAbsolute directory.now) }
     ensures { ReadsUnnamedRequirement
         (ReadsGiven (ReadsUnnamed (λ path. U.reads_path path (option_copied working_dir.entry)) U.reads_url)
-            U.is_given vars.now)
+        U.is_given vars.now)
         U.lacks_memory text.now result }
 {
     let (front, rest) = match read_unnamed(alloc, Cursor::new(text)) {
@@ -109,7 +109,7 @@ fn read_given<U: UnnamedRequirementUrl>(
     requires { IfSome working_dir (λ directory. IsAbsolute directory.now) }
     ensures { ReadsPiece
         (ReadsGiven (ReadsUnnamed (λ path. U.reads_path path (option_copied working_dir.entry)) U.reads_url)
-            U.is_given vars.now)
+        U.is_given vars.now)
         U.lacks_memory text.now whole.entry.start.input.now result }
 {
     let Ok(expanded) = expand_env_vars(alloc, text, vars) else {
