@@ -1,6 +1,6 @@
 -- What reading a requirement without a name answers, by its URL and extras and by what is left behind them.
 -- `Reads` says what may be returned for the text of a URL without its extras.
-use Rattle.std.specs.Prelude.{◌≡◌, ◌≢◌, ◌⊎◌, ℕ, Bool, false, List, [], ◌∷◌, Option, Some, None, Result, Ok, Err, IfSome}
+use Rattle.std.specs.Prelude.{◌≡◌, ◌≢◌, ◌⊎◌, ℕ, Bool, false, List, [], ◌∷◌, None, Result, Ok, Err, IfSome}
 use Rattle.std.specs.Str.{skip_leading_whitespace}
 use Rattle.pep508_url.specs.Vars.{Variables}
 use Rattle.pep508_url.specs.Expansion.{expanded}

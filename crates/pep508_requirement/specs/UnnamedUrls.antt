@@ -1,6 +1,6 @@
 -- What may be returned for the URL of a requirement without a name. It is the type of URLs that knows what is
 -- read of a path and of a URL's text.
-use Rattle.std.specs.Prelude.{ℕ, List, Option, Some, None, Result, Ok, Err}
+use Rattle.std.specs.Prelude.{ℕ, List, Option, Some, None}
 use Rattle.pep508_url.specs.declared.scheme.Scheme.{Scheme}
 use Rattle.pep508_url.specs.declared.scheme.Scheme.TheVariants.{File}
 use Rattle.pep508_url.specs.Paths.{decoded}

@@ -1,4 +1,4 @@
-use Rattle.std.proofs.Common.{◌≡◌, ◌⊎◌, Ok, Err, refl, subst, ◌∙◌}
+use Rattle.std.proofs.Common.{rules, ◌≡◌, ◌⊎◌, Ok, Err, refl, subst, ◌∙◌}
 use Rattle.pep508_error.specs.declared.refusal.RefusalKind.TheVariants.{Memory}
 use Rattle.pep508_requirement_text.specs.FrontReading.Refused.{Malformed}
 use Rattle.pep508_requirement_text.specs.FrontOutcome.{IsPlain, behind}
@@ -22,7 +22,8 @@ returns-in-Err-read_given g c =
     (subst (λ text. IsUnnamedReading text (Ok (seen c.in-Ok.found.0, behind c.in-Ok.found.1))) c.new.ensures.rest
     c.in-Ok.ensures.read)
     c.in-Err-read_given.error c.in-Ok.found.0.whole.start.input.now
-    (c.in-Ok.ensures.urls.whole_input ∙ c.new.ensures.input) c.in-Err-read_given.ensures
+    (let at : c.in-Ok.found.0.whole.start.input.now ≡ c.new.result.input.now = search rules in
+    at ∙ c.new.ensures.input) c.in-Err-read_given.ensures
 
 pub returns-in-Some : goal.returns-in-Some
 returns-in-Some g c =
