@@ -1,5 +1,7 @@
 use pep508_marker::Silent;
-use pep508_requirement::{Extras, Requirement, RequirementOrigin, UnnamedRequirement, VersionOrUrl, VersionOrUrlRef};
+use pep508_requirement::{
+    Extras, Requirement, RequirementOrigin, UnnamedRequirement, VersionOrUrl, VersionOrUrlRef,
+};
 use pep508_tree::Interner;
 use pep508_url::{Vars, VerbatimUrl};
 use read_outcome::FromValueError;
@@ -183,19 +185,31 @@ fn reads_requirements_without_a_name(rt: HostRuntime) -> Result<(), Fail> {
     for (text, url, given, extras) in [
         (" ./pkg[dev] ", "file:///w/pkg", "./pkg", 1),
         ("${R}/b[x,y]", "file:///a/b", "${R}/b", 2),
-        ("https://e.example/f.whl", "https://e.example/f.whl", "https://e.example/f.whl", 0),
+        (
+            "https://e.example/f.whl",
+            "https://e.example/f.whl",
+            "https://e.example/f.whl",
+            0,
+        ),
         ("file:///c/d", "file:///c/d", "file:///c/d", 0),
     ] {
-        let read = UnnamedRequirement::<VerbatimUrl>::parse(alloc, &mut interner, &vars, text, Some("/w"), &mut Silent)?;
+        let read = UnnamedRequirement::<VerbatimUrl>::parse(
+            alloc,
+            &mut interner,
+            &vars,
+            text,
+            Some("/w"),
+            &mut Silent,
+        )?;
         assert_eq!(rt; read.url.to_string(alloc)?.as_str(), url, "at {text}");
         assert_eq!(rt; read.url.given(), Some(given), "at {text}");
         assert_eq!(rt; read.extras.len(), extras, "at {text}");
     }
     for (text, start, len) in [
-        ("", 0, 1),
+        ("", 0, 0),
         ("./a[b-]", 5, 1),
         ("https://e.example/a[b] ; os_name == 'a'", 23, 1),
-        ("./a; b", 3, 1),
+        ("/a; b", 2, 1),
         ("../b[x]", 0, 7),
     ] {
         let read = UnnamedRequirement::<VerbatimUrl>::from_str(alloc, &mut interner, &vars, text);
