@@ -1,8 +1,6 @@
-//! Marker trees of Python packages (PEP 508, "Environment Markers"): so far the two constant ones.
-//!
-//! A tree is named by the place of its diagram in an `Interner` and by whether the diagram's leaves are
-//! turned, so that a negation takes no memory. Contracts see a `MarkerTree` as a `Tree`, and an `Interner` as
-//! the list of its nodes.
+//! Marker trees of Python packages (PEP 508, "Environment Markers"): so far the two constant ones. Contracts see
+//! a `MarkerTree` as a `Tree`, the place of its diagram in an `Interner` and whether the diagram's leaves are
+//! turned, so that a negation takes no memory; and an `Interner` as the list of its nodes.
 #![tactic(auto)]
 
 mod interner;
