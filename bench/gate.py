@@ -20,8 +20,8 @@ import time
 TOP = os.path.dirname(os.path.dirname(os.path.abspath(__file__)))
 TICKS = os.sysconf("SC_CLK_TCK")
 PAUSE = 0.2
-KINDS = ["proofs", "proofs of tests", "wrong edits", "builds", "runs of tests and programs", "command line",
-         "refused memory", "the rest"]
+KINDS = ["proofs", "proofs of tests", "wrong edits one by one", "wrong edits together", "builds",
+         "runs of tests and programs", "command line", "refused memory", "the rest"]
 
 
 class Unit:
@@ -83,7 +83,9 @@ def kind_of(process):
         return None
     crate = words[words.index("--crate-name") + 1]
     if os.path.basename(folder_of(process)).startswith("rt-edit-"):
-        return "wrong edits", crate
+        return "wrong edits one by one", crate
+    if any(it.startswith("--only") for it in words):
+        return "wrong edits together", crate
     if "--crate-checked" in words:
         return "builds", crate
     return "proofs of tests" if "--test" in words else "proofs", crate
@@ -140,8 +142,13 @@ def lines_of(crate):
 
 
 def edits_of(crate):
-    folder = os.path.join(TOP, "crates", crate, "must-fail")
-    return sum(it.endswith(".edit") for it in os.listdir(folder)) if os.path.isdir(folder) else 0
+    """How many wrong edits rt ci tries one by one, and how many the gate then tries together."""
+    folder, together = os.path.join(TOP, "crates", crate, "must-fail"), 0
+    with open(os.path.join(TOP, "tests", "wrong", "gate.txt"), encoding="utf-8") as file:
+        for line in file:
+            name, _, names = line.partition("#")[0].partition(":")
+            together += len(names.split()) * (name.strip() == crate)
+    return sum(it.endswith(".edit") for it in os.listdir(folder)) if os.path.isdir(folder) else 0, together
 
 
 def tell(units, wall, processor):
@@ -155,17 +162,17 @@ def tell(units, wall, processor):
         span = (f"{min(it.first for it in own):.0f} | {max(it.last for it in own):.0f}" if own else "- | -")
         most = max((it.memory for it in own), default=0)
         print(f"| {kind} | {len(own) or '-'} | {seconds:.0f} | {100 * seconds / processor:.0f} % | {most or '-'} | {span} |")
-    print("\n| Crate | lines | proof | a line | tests' proof | edits | an edit | builds |")
-    print("|---|---|---|---|---|---|---|---|")
+    print("\n| Crate | lines | proof | a line | tests' proof | edits one by one | each | edits together | each | builds |")
+    print("|---|---|---|---|---|---|---|---|---|---|")
     spent = {}
     for it in units:
         spent.setdefault(it.crate, {}).setdefault(it.kind, []).append(it.seconds)
     for crate in sorted(it for it in spent if it and os.path.isdir(os.path.join(TOP, "crates", it))):
         total = lambda kind, crate=crate: sum(spent[crate].get(kind, []))
-        lines, edits = lines_of(crate), edits_of(crate)
+        lines, (alone, together) = lines_of(crate), edits_of(crate)
         print(f"| {crate} | {lines} | {total('proofs'):.0f} | {total('proofs') / max(lines, 1):.2f} "
-              f"| {total('proofs of tests'):.0f} | {edits} | "
-              + (f"{total('wrong edits') / edits:.0f}" if edits else "-") + f" | {total('builds'):.0f} |")
+              f"| {total('proofs of tests'):.0f} | {alone} | {total('wrong edits one by one') / max(alone, 1):.0f} "
+              f"| {together} | {total('wrong edits together') / max(together, 1):.0f} | {total('builds'):.0f} |")
 
 
 def main():

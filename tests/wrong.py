@@ -1,17 +1,21 @@
 #!/usr/bin/env python3
 """Tries wrong edits: the prover has to refuse each.
 
-    wrong.py [--texts] [CRATE..]
+    wrong.py [--texts | --gate] [CRATE..]
 
-A crate C has wrong edits in crates/C/must-fail/, which the gate tries at each run, and in
-tests/wrong/C/, which are tried here alone. Both kinds are tried in a copy of the tree, as many crates
-side by side as there are processors and memory; all crates where none is named. With --texts nothing
-is proved: it is only seen that each edit still fits the files that it changes.
+A crate C has wrong edits in crates/C/must-fail/, which `rt ci` tries, and in tests/wrong/C/. Both
+kinds are tried in a copy of the tree, as many crates side by side as there are processors and memory;
+all crates where none is named. With --texts nothing is proved: it is only seen that each edit still
+fits the files that it changes.
 
 Edits of different functions stand together in one `rt check`, which tells of each function by
 itself: an edit is refused where the very function that it changes is told as not proved. An edit
 whose function isn't told so, or only since a proof file names what the edit took away, is tried
 alone by `rt must-fail`.
+
+With --gate the edits are those that tests/wrong/gate.txt names. They too stand together, but in a
+check of the functions that they change alone, over the libraries that `rt ci` has left in out/;
+none is tried alone, so one whose function isn't told so has failed.
 
 An edit that is refused has passed. One that is proved, doesn't compile or doesn't fit has failed,
 and a line names it. The last line is `N passed, M failed`; the status is 0 where M is 0, and
@@ -20,6 +24,7 @@ and a line names it. The last line is `N passed, M failed`; the status is 0 wher
 
 import difflib
 import fcntl
+import functools
 import os
 import re
 import shutil
@@ -31,6 +36,7 @@ import threading
 import time
 
 TOP = os.path.dirname(os.path.dirname(os.path.abspath(__file__)))
+GATE = os.path.join(TOP, "tests", "wrong", "gate.txt")
 PARTS = ("src", "specs", "proofs")
 # A group of edits begins with a check of the whole crate, so smaller groups cost more than they save.
 LEAST_GROUP = 20
@@ -45,9 +51,12 @@ NAME = re.compile(r"[A-Za-z0-9_-][A-Za-z0-9_.-]*\.edit")
 
 class Crate:
     def __init__(self, name, uses):
-        self.name, self.uses = name, uses
+        self.name, self.uses, self.of_kit = name, uses, []
         self.folder = os.path.join(TOP, "crates", name)
         self.edits, self.faults = {}, []
+
+    def library(self):
+        return os.path.join(self.folder, "out", "rlib", f"{self.name}.rlib")
 
     def text_files(self):
         for part in PARTS:
@@ -74,6 +83,7 @@ def read_crates():
                 crates[name.split()[0]] = Crate(name.split()[0], uses.split())
                 lines[name.split()[0]] = line
     for crate in crates.values():
+        crate.of_kit = ["std", *(it for it in crate.uses if it not in crates)]
         crate.uses = [it for it in crate.uses if it in crates]
     return crates, lines
 
@@ -101,6 +111,27 @@ def find_edits(crate):
                 crate.faults.append(f"{crate.name}/{name}: two edits have this name")
             else:
                 crate.edits[name] = path
+
+
+def keep_those_of_the_gate(crates, takes):
+    """Looks at tests/wrong/gate.txt and, where it takes them, leaves each crate the edits that it names alone.
+    Returns what is amiss in it."""
+    faults, chosen = [], {}
+    with open(GATE, encoding="utf-8") as file:
+        for line in file:
+            name, colon, names = line.partition("#")[0].partition(":")
+            if colon:
+                chosen[name.strip()] = [f"{it}.edit" for it in names.split()]
+    for name, edits in chosen.items():
+        if name not in crates:
+            faults.append(f"tests/wrong/gate.txt: crates.txt names no crate {name}")
+            continue
+        for it in edits:
+            if os.path.dirname(crates[name].edits.get(it, "")) != os.path.join(TOP, "tests", "wrong", name):
+                faults.append(f"tests/wrong/gate.txt: there is no tests/wrong/{name}/{it}")
+    for crate in crates.values() if takes else []:
+        crate.edits = {it: crate.edits[it] for it in chosen.get(crate.name, []) if it in crate.edits}
+    return faults
 
 
 def misfit(path, folder):
@@ -338,21 +369,27 @@ class Group:
                     left.remove(name)
             yield batch, texts
 
-    def refused_together(self, folder, runs):
-        """Tries the edits in batches, and returns those of which a check told that they are refused."""
+    def functions(self):
+        """The functions that each edit changes, none for one that doesn't fit."""
         fits = [it for it in self.names if not misfit(self.crate.edits[it], self.crate.folder)]
-        functions = {it: functions_of(self.crate.edits[it], self.crate.folder) if it in fits else [] for it in self.names}
-        status, said = runs.run(["rt", "check", "--jobs", "1"], folder)
-        refused = []
-        for batch, texts in self.batches(functions) if not status else []:
+        return {it: functions_of(self.crate.edits[it], self.crate.folder) if it in fits else [] for it in self.names}
+
+    def check(self, _functions, folder, runs):
+        return runs.run(["rt", "check", "--jobs", "1"], folder)
+
+    def try_together(self, folder, runs):
+        """Tries the edits in batches. Returns those of which a check told that they are refused, and what was said."""
+        functions, refused, said = self.functions(), [], {}
+        for batch, texts in self.batches(functions):
             for file, text in texts.items():
                 with open(os.path.join(folder, file), "w", encoding="utf-8") as it:
                     it.write(text)
-            _, said = runs.run(["rt", "check", "--jobs", "1"], folder)
-            refused += [it for it in batch if any(is_told_refused(at, said, self.crate.name) for at in functions[it])]
+            _, told = self.check(sorted(at for it in batch for at in functions[it]), folder, runs)
+            said.update({it: told for it in batch})
+            refused += [it for it in batch if any(is_told_refused(at, told, self.crate.name) for at in functions[it])]
             for file in texts:
                 shutil.copyfile(os.path.join(self.crate.folder, file), os.path.join(folder, file))
-        return refused
+        return refused, said
 
     def try_alone(self, room, folder, names, runs):
         """Has rt try edits one by one, and returns what it told of each."""
@@ -367,12 +404,48 @@ class Group:
 
     def outcomes(self, room, folder, runs):
         """What came of each edit: whether it was refused, and the words."""
-        refused = self.refused_together(folder, runs)
+        status, _ = self.check([], folder, runs)
+        refused = [] if status else self.try_together(folder, runs)[0]
         left = [it for it in self.names if it not in refused]
         alone = self.try_alone(room, folder, left, runs) if left else {}
         for name in self.names:
             words = alone.get(name, "refused")
             yield name, words.startswith("refused"), words
+
+
+class GateGroup(Group):
+    """Edits of a crate that the gate tries, in checks of the functions that they change, which need no kept work."""
+
+    def prepare(self, _base, room, crates, _lines):
+        own, kit = below(self.crate, crates), kit_folder()
+        folder = copy_texts(self.crate, room)
+        root = "src/main.rt" if os.path.isfile(os.path.join(folder, "src", "main.rt")) else "src/lib.rt"
+        words = [f"{kit}/bin/rattle", "check", "--crate-name", self.crate.name, root]
+        for it in self.crate.of_kit:
+            words += ["--extern", f"{it}={kit}/rlibs/{it}.rlib"]
+        for it in self.crate.uses:
+            words += ["--extern", f"{it}={crates[it].library()}"]
+        for it in [f"{kit}/rlibs", *(os.path.dirname(it.library()) for it in own)]:
+            words += ["-L", f"dependency={it}"]
+        words += ["--antt-project", f"{kit}/rattle/logic/antt-project.json", "--logic-built", f"{kit}/logic_built"]
+        self.words = words
+        return folder
+
+    def check(self, functions, folder, runs):
+        return runs.run([*self.words, *(f"--only={it}" for it in functions)], folder)
+
+    def outcomes(self, _room, folder, runs):
+        refused, said = self.try_together(folder, runs)
+        for name in self.names:
+            last = said.get(name, "").rstrip("\n").rpartition("\n")[2][:300]
+            words = f"its function isn't told as not proved; the last line is: {last}"
+            yield name, name in refused, "refused" if name in refused else words
+
+
+@functools.lru_cache
+def kit_folder():
+    """The folder of the toolchain, whose first page `rt doc` names."""
+    return os.path.dirname(subprocess.run(["rt", "doc"], capture_output=True, text=True, check=True).stdout.strip())
 
 
 def build_libraries(base, needed, lines, runs):
@@ -456,6 +529,7 @@ class Trial:
             self.turn.notify_all()
 
     def run(self, lanes):
+        """Tries all groups, and returns how many edits passed and failed."""
         threads, left = [], list(enumerate(self.groups))
         while left and not self.runs.is_over:
             with self.turn:
@@ -474,58 +548,80 @@ class Trial:
         return self.passed, self.failed
 
 
-def try_edits(tried, crates, lines, runs):
+def untried(crate, why):
+    print(f"FAILED: {crate.name}: its {len(crate.edits)} edits were not tried, since {why}")
+    return len(crate.edits)
+
+
+def groups_over_own_libraries(tried, crates, lines, base, runs):
+    """Builds the libraries below these crates in the base. Returns the edits' groups, and how many can't be tried."""
+    needed, failed = [], 0
+    for crate in tried:
+        needed += [it for it in below(crate, crates) if it not in needed]
+    os.mkdir(base)
+    lost = build_libraries(base, needed, lines, runs)
+    for crate in [it for it in tried if lost & {*it.uses}]:
+        failed += untried(crate, "a library below isn't proved")
+        tried = [it for it in tried if it is not crate]
+    return in_groups([it for it in tried if it.edits], len(os.sched_getaffinity(0))), failed
+
+
+def groups_of_the_gate(tried, crates):
+    """The groups of the gate's edits, a crate's in one, and how many edits can't be tried."""
+    groups, failed = [], 0
+    for crate in [it for it in tried if it.edits]:
+        lost = [it.name for it in below(crate, crates) if not os.path.isdir(it.library())]
+        if lost:
+            failed += untried(crate, f"rt ci has left no library {lost[0]} in out/")
+        else:
+            groups.append(GateGroup(crate, sorted(crate.edits)))
+    return sorted(groups, key=lambda it: -it.work), failed
+
+
+def try_edits(tried, crates, lines, runs, is_gate):
     """Tries the edits of these crates, and returns how many passed and failed."""
-    lanes = len(os.sched_getaffinity(0))
     failed = sum(len(it.faults) for it in tried)
     for crate in tried:
         for line in crate.faults:
             print(f"FAILED: {line}")
-    needed = []
-    for crate in tried:
-        needed += [it for it in below(crate, crates) if it not in needed]
     room = runs.room = tempfile.mkdtemp(prefix="reqs-wrong-")
+    base, rooms = os.path.join(room, "base"), os.path.join(room, "rooms")
     try:
-        base = os.path.join(room, "base")
-        os.mkdir(base)
-        lost = build_libraries(base, needed, lines, runs)
-        for crate in [it for it in tried if lost & {*it.uses}]:
-            print(f"FAILED: {crate.name}: its {len(crate.edits)} edits were not tried, since a library below isn't proved")
-            failed += len(crate.edits)
-            tried = [it for it in tried if it is not crate]
-        groups = in_groups([it for it in tried if it.edits], lanes)
-        trial = Trial(groups, base, os.path.join(room, "rooms"), crates, lines, runs)
-        good, bad = trial.run(lanes)
+        if is_gate:
+            groups, lost = groups_of_the_gate(tried, crates)
+        else:
+            groups, lost = groups_over_own_libraries(tried, crates, lines, base, runs)
+        good, bad = Trial(groups, base, rooms, crates, lines, runs).run(len(os.sched_getaffinity(0)))
     finally:
         # (what still runs is told to end first, so that nothing is written any more)
         runs.end()
         shutil.rmtree(room, ignore_errors=True)
-    return good, failed + bad
+    return good, failed + lost + bad
 
 
 def strays(crates):
     """Folders of tests/wrong/ that no crate has."""
     folder = os.path.join(TOP, "tests", "wrong")
     names = sorted(os.listdir(folder)) if os.path.isdir(folder) else []
-    return [it for it in names if it not in crates and not it.endswith(".md")]
+    return [it for it in names if it not in crates and it != "gate.txt" and not it.endswith(".md")]
 
 
 def main(words):
-    texts = words[:1] == ["--texts"]
-    names = words[1:] if texts else words
+    mode = words[0] if words[:1] in (["--texts"], ["--gate"]) else ""
+    names = words[1:] if mode else words
     crates, lines = read_crates()
     unknown = [it for it in names if it not in crates]
     if unknown:
         print(f"wrong: crates.txt names no crate {unknown[0]}", file=sys.stderr)
         return 2
     tried = [it for it in crates.values() if not names or it.name in names]
-    for crate in tried:
+    for crate in crates.values():
         find_edits(crate)
-    failed = 0
-    for it in strays(crates):
-        print(f"FAILED: tests/wrong/{it}: crates.txt names no such crate")
-        failed += 1
-    if texts:
+    told = [f"tests/wrong/{it}: crates.txt names no such crate" for it in strays(crates)]
+    told += keep_those_of_the_gate(crates, mode == "--gate")
+    for it in told:
+        print(f"FAILED: {it}")
+    if mode == "--texts":
         good, bad = try_texts(tried)
     else:
         runs = Runs()
@@ -537,11 +633,12 @@ def main(words):
         for it in (signal.SIGINT, signal.SIGTERM, signal.SIGHUP):
             signal.signal(it, stop)
         try:
-            good, bad = try_edits(tried, crates, lines, runs)
+            good, bad = try_edits(tried, crates, lines, runs, mode == "--gate")
         finally:
             runs.end()
-    print(f"{good} passed, {failed + bad} failed")
-    return 1 if failed + bad else 0
+    bad += len(told)
+    print(f"{good} passed, {bad} failed")
+    return 1 if bad else 0
 
 
 if __name__ == "__main__":
