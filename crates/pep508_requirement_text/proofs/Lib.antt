@@ -7,6 +7,7 @@ pub mod ListPlaces
 pub mod FrontParts
 pub mod UnnamedParts
 pub mod UnnamedTexts
+pub mod UnnamedReadings
 pub mod SourceCases
 pub mod Tests
 pub mod Decoded

@@ -66,6 +66,11 @@ pub fn a_text_has_one_unnamed_front()
         → IsUnnamedReading text reading → IsUnnamedReading text other → reading ≡ other }
 {}
 
+/// At the front of each text there is a URL with its extras to read, or why there is none.
+pub fn a_text_has_an_unnamed_reading()
+    ensures { (text : List ℕ) → (reading : Reading UnnamedFront) × IsUnnamedReading text reading }
+{}
+
 /// What is read at the front of a text where no name is wanted stands there as the grammar has it: white space,
 /// and a URL with extras at its end.
 pub fn a_read_unnamed_front_is_written()
