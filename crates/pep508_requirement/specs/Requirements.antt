@@ -2,6 +2,7 @@
 use Rattle.std.specs.Prelude.{◌≡◌, Option, Some, None, option_map}
 use Rattle.pep508_name.specs.Origin.{origin_of}
 use Rattle.pep508_requirement.specs.declared.requirement.Requirement.{Requirement}
+use Rattle.pep508_requirement.specs.declared.unnamed.UnnamedRequirement.{UnnamedRequirement}
 use Rattle.pep508_requirement.specs.declared.version_or_url.VersionOrUrl.{VersionOrUrl}
 use Rattle.pep508_requirement.specs.declared.version_or_url.VersionOrUrl.TheVariants as asked
 
@@ -16,5 +17,11 @@ pub record IsCopy {T E : Type 0} (copy original : Requirement T E) : Type 0 wher
   pub name : copy.name ≡ original.name
   pub extras : copy.extras.items ≡ original.extras.items
   pub version_or_url : copy.version_or_url ≡ original.version_or_url
+  pub marker : copy.marker ≡ original.marker
+  pub origin : option_map origin_of copy.origin ≡ option_map origin_of original.origin
+
+pub record IsUnnamedCopy {T E : Type 0} (copy original : UnnamedRequirement T E) : Type 0 where
+  pub url : copy.url ≡ original.url
+  pub extras : copy.extras.items ≡ original.extras.items
   pub marker : copy.marker ≡ original.marker
   pub origin : option_map origin_of copy.origin ≡ option_map origin_of original.origin

@@ -33,6 +33,13 @@ impl Extras {
     {
         self.0.as_slice()
     }
+
+    /// A copy, in memory of its own.
+    pub fn try_clone(&self, alloc: Global) -> Result<Self, AllocError>
+        ensures { IfOk result (λ copy. copy.0.items ≡ self.now.0.items) }
+    {
+        Ok(Extras(copy_names(alloc, &self.0)?))
+    }
 }
 
 pub(crate) fn copy_names(alloc: Global, names: &[ExtraName]) -> Result<Vec<ExtraName>, AllocError>

@@ -1,6 +1,7 @@
 //! Requirements.
 
-ghost use Rattle.std.specs.Prelude.{◌≡◌, Some, IfOk};
+ghost use Rattle.std.specs.Prelude.{◌≡◌, Some, IfOk, option_map};
+ghost use Rattle.pep508_name.specs.Origin.{origin_of};
 ghost use Rattle.pep508_requirement.specs.Requirements.{without_url, IsCopy};
 
 use crate::VersionOrUrl;
@@ -55,16 +56,24 @@ impl Requirement<VerbatimUrl> {
             None => None,
             Some(wanted) => Some(wanted.try_clone(alloc)?),
         };
-        let origin = match &self.origin {
-            None => None,
-            Some(origin) => Some(origin.try_clone(alloc)?),
-        };
         Ok(Requirement {
             name: self.name.try_clone(alloc)?,
             extras: copy_names(alloc, &self.extras)?,
             version_or_url,
             marker: self.marker,
-            origin,
+            origin: copy_origin(alloc, &self.origin)?,
         })
+    }
+}
+
+pub(crate) fn copy_origin(
+    alloc: Global,
+    origin: &Option<RequirementOrigin>,
+) -> Result<Option<RequirementOrigin>, AllocError>
+    ensures { IfOk result (λ copy. option_map origin_of copy ≡ option_map origin_of origin.now) }
+{
+    match origin {
+        None => Ok(None),
+        Some(origin) => Ok(Some(origin.try_clone(alloc)?)),
     }
 }

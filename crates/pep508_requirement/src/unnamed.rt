@@ -1,10 +1,14 @@
 //! Requirements without a name.
 
-ghost use Rattle.std.specs.Prelude.{◌≡◌, Some};
+ghost use Rattle.std.specs.Prelude.{◌≡◌, Some, IfOk};
+ghost use Rattle.pep508_requirement.specs.Requirements.{IsUnnamedCopy};
 
+use crate::extras::copy_names;
+use crate::requirement::copy_origin;
 use pep508_name::{ExtraName, RequirementOrigin};
 use pep508_tree::MarkerTree;
 use pep508_url::{UnnamedRequirementUrl, VerbatimUrl};
+use std::alloc::{AllocError, Global};
 
 /// A package that is wanted, which a URL or a path alone names, as `pip` takes it beside PEP 508's
 /// requirements.
@@ -28,5 +32,19 @@ impl<Url: UnnamedRequirementUrl> UnnamedRequirement<Url> {
             origin: Some(origin),
             ..self
         }
+    }
+}
+
+impl UnnamedRequirement<VerbatimUrl> {
+    /// A copy, in memory of its own.
+    pub fn try_clone(&self, alloc: Global) -> Result<Self, AllocError>
+        ensures { IfOk result (λ copy. IsUnnamedCopy copy self.now) }
+    {
+        Ok(UnnamedRequirement {
+            url: self.url.try_clone(alloc)?,
+            extras: copy_names(alloc, &self.extras)?,
+            marker: self.marker,
+            origin: copy_origin(alloc, &self.origin)?,
+        })
     }
 }

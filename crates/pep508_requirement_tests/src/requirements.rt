@@ -1,5 +1,6 @@
+use pep508_error::Pep508ErrorSource;
 use pep508_requirement::{
-    Extras, Requirement, RequirementOrigin, UnnamedRequirement, VersionOrUrlRef,
+    Extras, Requirement, RequirementOrigin, UnnamedRequirement, VersionOrUrl, VersionOrUrlRef,
 };
 use pep508_tree::Interner;
 use pep508_url::{Vars, VerbatimUrl};
@@ -7,6 +8,7 @@ use read_outcome::FromValueError;
 use serde_json::Value;
 use std::alloc::{AllocError, Global};
 use std::test::Fail;
+use url::Url;
 
 /// The print of what is asked for, nothing for any version.
 fn asked(alloc: Global, requirement: &Requirement<VerbatimUrl>) -> Result<String, AllocError> {
@@ -76,6 +78,30 @@ fn reads_values_and_extras(rt: HostRuntime) -> Result<(), Fail> {
     );
     let extras = Extras::parse::<VerbatimUrl>(alloc, "[b,a]>=1")?;
     assert_eq!(rt; extras.as_slice().len(), 2);
+    assert!(rt; extras.try_clone(alloc)? == extras);
+    Ok(())
+}
+
+#[test]
+fn reads_requirements_of_plain_urls(rt: HostRuntime) -> Result<(), Fail> {
+    let alloc = rt.alloc();
+    let vars = Vars::new(alloc, &[("V", "1")], "/root")?;
+    let mut interner = Interner::new(alloc);
+    let text = "foo @ https://e.example/${V}.whl";
+    let read = Requirement::<Url>::from_str(alloc, &mut interner, &vars, text)?;
+    match &read.version_or_url {
+        Some(VersionOrUrl::Url(url)) => {
+            assert_eq!(rt; url.as_str(), "https://e.example/$%7BV%7D.whl");
+        }
+        _ => assert!(rt; false, "the URL is kept"),
+    }
+    let path = Requirement::<Url>::parse(alloc, &mut interner, &vars, "foo @ ./a", Some("/w"));
+    match path {
+        Err(error) => {
+            assert!(rt; matches!(error.message(), Pep508ErrorSource::UrlError(_)));
+        }
+        Ok(_) => assert!(rt; false, "a path is no such URL"),
+    }
     Ok(())
 }
 
@@ -88,6 +114,9 @@ fn reads_requirements_without_a_name(rt: HostRuntime) -> Result<(), Fail> {
     let read = UnnamedRequirement::<VerbatimUrl>::from_str(alloc, &mut interner, &vars, text)?;
     assert_eq!(rt; read.url.given(), Some("${R}/b"));
     assert_eq!(rt; read.extras.len(), 2);
+    let copy = read.try_clone(alloc)?;
+    assert!(rt; copy == read);
+    assert_eq!(rt; copy.url.given(), read.url.given());
     let placed = read.with_origin(RequirementOrigin::Workspace);
     assert!(rt; placed.origin == Some(RequirementOrigin::Workspace));
     Ok(())

@@ -10,11 +10,11 @@ use Rattle.pep508_requirement_text.specs.FrontReading.{Refused, Malformed, Namel
 use Rattle.pep508_requirement_text.specs.FrontReading.{cut_around, run_of, if_name, name_at, extras_of}
 use Rattle.pep508_requirement_text.specs.FrontReading.{if_there}
 use Rattle.pep508_requirement_text.specs.FrontReading.{bracketed, extras_at}
-use Rattle.pep508_requirement_text.specs.FrontText.{IsExtrasText}
+use Rattle.pep508_requirement_text.specs.FrontText.{IsInside, IsExtrasText}
 use Rattle.pep508_requirement_text.proofs.Tests.{the_same}
 use Rattle.pep508_requirement_text.proofs.CharacterCuts.{Ends, cut_again, cut_found, cut_is, around_again}
 use Rattle.pep508_requirement_text.proofs.CharacterCuts.{around_found}
-use Rattle.pep508_requirement_text.proofs.Names.{AreNameBytes, IsInside, named, mapped, name_encoded}
+use Rattle.pep508_requirement_text.proofs.Names.{AreNameBytes, named, mapped, name_encoded}
 use Rattle.pep508_requirement_text.proofs.Names.{inside_found, inside_again, unbracketed}
 
 -- ---- answers

@@ -6,11 +6,14 @@ pub mod ExtrasReading
 pub mod ListPlaces
 pub mod FrontParts
 pub mod UnnamedParts
+pub mod UnnamedTexts
+pub mod UnnamedReadings
 pub mod SourceCases
 pub mod Tests
 pub mod Decoded
 pub mod CharacterCuts
 pub mod UrlLaws
+pub mod EncodedCuts
 pub mod Pieces
 pub mod Names
 pub mod ExtrasTexts

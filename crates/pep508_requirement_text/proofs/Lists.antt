@@ -1,7 +1,7 @@
 -- The list of specifiers behind a name: what is read is what the grammar gives.
 use Rattle.std.proofs.Common.{◌≡◌, ◌↔◌, ℕ, ◌<◌, ◌==◌, Bool, true, false, cond, if◌then◌else◌, List}
 use Rattle.std.proofs.Common.{[], ◌∷◌, length, map, Option, Some, None, Ok, Err}
-use Rattle.std.proofs.Common.{refl, ap, sym, subst, ◌∙◌, arith}
+use Rattle.std.proofs.Common.{refl, ap, sym, subst, ◌∙◌, arith, lit<}
 use Rattle.std.proofs.lemmas.Bool.Decides.{nat_tests}
 use Rattle.std.proofs.lemmas.List.Splits.{join_with_byte-slice_split, slice_split-cons_no}
 use Rattle.std.proofs.lemmas.Str.{chars-nil}
@@ -25,7 +25,8 @@ use Rattle.pep508_requirement_text.proofs.Tests.{the_same}
 use Rattle.pep508_requirement_text.proofs.CharacterCuts.{NonePasses}
 use Rattle.pep508_requirement_text.proofs.Pieces.{is_comma, split_encoded}
 use Rattle.pep508_requirement_text.proofs.Pieces.{split_joined}
-use Rattle.pep508_requirement_text.proofs.Pieces.{some_piece, encoded_apart, encoded_pieces}
+use Rattle.pep508_requirement_text.proofs.Pieces.{some_piece, encoded_pieces}
+use Rattle.pep508_requirement_text.proofs.EncodedCuts.{encoded_apart}
 
 -- ---- by pieces
 
@@ -127,8 +128,8 @@ none_passes (c ∷ cs) h = (h.0, none_passes cs h.1)
 apart : (piece : List ℕ) (member : SpecifierRecord) → IsSpecifierText (encode_utf8_all piece) member
     → NonePasses is_comma (encode_utf8_all piece)
 apart piece member h =
-    encoded_apart piece (subst (NonePasses is_comma) (decoded piece) (none_passes (chars (encode_utf8_all piece))
-    (specifier (encode_utf8_all piece) member h)))
+    encoded_apart 44 (lit< tt) piece (subst (NonePasses is_comma) (decoded piece)
+    (none_passes (chars (encode_utf8_all piece)) (specifier (encode_utf8_all piece) member h)))
 
 all_apart : (pieces : List (List ℕ)) (given : List SpecifierRecord)
     → AllZip IsSpecifierText (map encode_utf8_all pieces) given

@@ -1,5 +1,5 @@
 -- Names with white space around them, and the extras in brackets.
-use Rattle.std.proofs.Common.{◌≡◌, ◌≢◌, ◌⊎◌, ℕ, ◌<◌, ◌-◌, ◌==◌, ◌&&◌, Bool, true, false, if◌then◌else◌, List}
+use Rattle.std.proofs.Common.{◌≡◌, ◌≢◌, ℕ, ◌<◌, ◌-◌, ◌==◌, ◌&&◌, Bool, true, false, if◌then◌else◌, List}
 use Rattle.std.proofs.Common.{[], ◌∷◌, ◌++◌, length, map, Option, Some, None, inl, inr, refl, ap, sym}
 use Rattle.std.proofs.Common.{subst, ◌∙◌, arith, append_assoc}
 use Rattle.std.proofs.lemmas.Bool.Decides.{nat_tests}
@@ -14,7 +14,7 @@ use Rattle.pep440_specifier.specs.SpecifierText.{AreSpaces}
 use Rattle.pep508_name.specs.Name.{is_name, is_name_byte, is_alphanumeric_at, name_of, normal_name}
 use Rattle.pep508_requirement_text.specs.FrontReading.{with_name}
 use Rattle.pep508_requirement_text.specs.FrontReading.{names_of, extras_of}
-use Rattle.pep508_requirement_text.specs.FrontText.{IsSpacedName, AreNames}
+use Rattle.pep508_requirement_text.specs.FrontText.{IsSpacedName, IsInside}
 use Rattle.pep508_requirement_text.proofs.Tests.{another, and_parts}
 use Rattle.pep508_requirement_text.proofs.CharacterCuts.{behind_front, some_same, Unspaced, NonePasses, none_joined}
 use Rattle.pep508_requirement_text.proofs.CharacterCuts.{spaces_found, spaces_again, only_spaces}
@@ -250,9 +250,6 @@ none_in_names k n (p ∷ q ∷ ps) h =
     none_joined (λ c. c == k) p (44 ∷ join_with_byte 44 (q ∷ ps)) h.0 (n, none_in_names k n (q ∷ ps) h.1)
 
 -- ---- the inside of the brackets
-
-abbrev pub IsInside : List ℕ → List (List ℕ) → Type 0
-IsInside inside names = (AreSpaces inside × (names ≡ [])) ⊎ AreNames inside names
 
 inside_by : (inside : List ℕ) (names : List (List ℕ)) (t : Bool)
     → (length (trim (encode_utf8_all inside)) == 0) ≡ t

@@ -1,9 +1,9 @@
 -- Characters and their bytes: what is cut at commas, and white space around a piece.
-use Rattle.std.proofs.Common.{◌≡◌, ℕ, zero, suc, ◌<◌, ◌==◌, ◌&&◌, Bool, true, false, cond, List, []}
-use Rattle.std.proofs.Common.{◌∷◌, ◌++◌, length, get_or, map, refl, ap, sym, subst, ◌∙◌, arith, lit<}
+use Rattle.std.proofs.Common.{◌≡◌, ℕ, ◌<◌, ◌==◌, ◌&&◌, Bool, true, false, cond, List, []}
+use Rattle.std.proofs.Common.{◌∷◌, ◌++◌, length, map, refl, ap, sym, subst, ◌∙◌, arith, lit<}
 use Rattle.std.proofs.lemmas.List.{append-nil}
 use Rattle.std.proofs.lemmas.List.Splits.{length-slice_split, slice_split-cons_yes, slice_split-cons_no}
-use Rattle.std.proofs.lemmas.Str.{inside_one, encode_ascii, length-le-encodes}
+use Rattle.std.proofs.lemmas.Str.{encode_ascii, length-le-encodes}
 use Rattle.std.specs.Char.{is_whitespace, encode_utf8}
 use Rattle.std.specs.List.{AllByRecursion, slice_split, onto_first, join_with_byte}
 use Rattle.std.specs.Str.{encode_utf8_all, skip_leading_whitespace, trim, trim_start, trim_end}
@@ -11,7 +11,8 @@ use Rattle.std.specs.Str.{drop_trailing_whitespace}
 use Rattle.pep440_specifier.specs.SpecifierText.{AreSpaces}
 use Rattle.pep508_requirement_text.proofs.Decoded.{decoded}
 use Rattle.pep508_requirement_text.proofs.Tests.{the_same, and_parts}
-use Rattle.pep508_requirement_text.proofs.CharacterCuts.{NonePasses, none_joined}
+use Rattle.pep508_requirement_text.proofs.CharacterCuts.{NonePasses}
+use Rattle.pep508_requirement_text.proofs.EncodedCuts.{apart_char, around}
 
 -- ---- cutting at commas
 
@@ -34,29 +35,6 @@ before_first_piece : (front piece : List ℕ) (pieces : List (List ℕ))
 before_first_piece [] piece pieces = refl
 before_first_piece (c ∷ cs) piece pieces = ap (onto_first c) (before_first_piece cs piece pieces)
 
-pub by_places : (xs : List ℕ) (test : ℕ → Bool) → ((k : ℕ) → k < length xs → test (get_or xs k 0) ≡ false)
-    → NonePasses test xs
-by_places [] test h = tt
-by_places (x ∷ xs) test h = (h zero (omega arith), by_places xs test (λ k l. h (suc k) (omega arith)))
-
-other_than : (b c : ℕ) (t : Bool) → (b == c) ≡ t → (b ≡ c → ⊥) → t ≡ false
-other_than b c true e h = absurd (h (the_same b c e))
-other_than b c false e h = refl
-
--- the bytes of another character have no comma
-no_comma : (c : ℕ) → is_comma c ≡ false → NonePasses is_comma (encode_utf8 c)
-no_comma c h = by_places (encode_utf8 c) is_comma (λ k l.
-    other_than (get_or (encode_utf8 c) k 0) 44 (get_or (encode_utf8 c) k 0 == 44) refl (λ e.
-    (let same : c ≡ get_or (encode_utf8 c) k 0 =
-    inside_one c [] (encode_utf8 c) k (sym (append-nil (encode_utf8 c))) l (subst (λ n. n < 128) (sym e) (lit< tt)) in
-    let comma : is_comma c ≡ true = ap is_comma (same ∙ e) in
-    absurd (cc))))
-
-pub encoded_apart : (cs : List ℕ) → NonePasses is_comma cs → NonePasses is_comma (encode_utf8_all cs)
-encoded_apart [] h = tt
-encoded_apart (c ∷ cs) h =
-    none_joined is_comma (encode_utf8 c) (encode_utf8_all cs) (no_comma c h.0) (encoded_apart cs h.1)
-
 with_encoded : (c : ℕ) (pieces : List (List ℕ)) → 0 < length pieces
     → before_pieces (encode_utf8 c) (map encode_utf8_all pieces) ≡ map encode_utf8_all (onto_first c pieces)
 with_encoded c [] h = absurd (omega arith)
@@ -73,7 +51,7 @@ encoded_by c cs true e h =
     ∙ ap (λ pieces. [] ∷ pieces) h
     ∙ ap (map encode_utf8_all) (sym (slice_split-cons_yes is_comma c cs e))
 encoded_by c cs false e h =
-    split_front (encode_utf8 c) (encode_utf8_all cs) (no_comma c e)
+    split_front (encode_utf8 c) (encode_utf8_all cs) (apart_char 44 (lit< tt) c e)
     ∙ ap (before_pieces (encode_utf8 c)) h
     ∙ with_encoded c (slice_split is_comma cs) (some_piece cs)
     ∙ ap (map encode_utf8_all) (sym (slice_split-cons_no is_comma c cs e))
@@ -99,76 +77,12 @@ split_joined (p ∷ q ∷ ps) some h =
 
 -- ---- pieces of an encoding
 
-record Past (xs more front rest : List ℕ) : Type 0 where
-  left : List ℕ
-  front_is : front ≡ xs ++ left
-  more_is : more ≡ left ++ 44 ∷ rest
-
--- what has no comma stands before the first one
-past : (xs more front rest : List ℕ) → NonePasses is_comma xs → xs ++ more ≡ front ++ 44 ∷ rest → Past xs more front rest
-past [] more front rest h e = record { left = front; front_is = refl; more_is = e }
-past (x ∷ xs) more [] rest h e =
-    let same : x ≡ 44 = cc in
-    let comma : is_comma x ≡ true = ap is_comma same in
-    let none : is_comma x ≡ false = h.0 in
-    absurd (cc)
-past (x ∷ xs) more (y ∷ ys) rest h e =
-    let same : x ≡ y = cc in
-    let tail : xs ++ more ≡ ys ++ 44 ∷ rest = cc in
-    let p = past xs more ys rest h.1 tail in
-    record {
-      left = p.left;
-      front_is = ap (λ z. z ∷ ys) (sym same) ∙ ap (λ zs. x ∷ zs) p.front_is;
-      more_is = p.more_is;
-    }
-
--- both sides of a comma of an encoding are encodings
-record AroundComma (front rest : List ℕ) : Type 0 where
-  before : List ℕ
-  behind : List ℕ
-  front_is : front ≡ encode_utf8_all before
-  rest_is : rest ≡ encode_utf8_all behind
-
-around_by : (c : ℕ) (cs front rest : List ℕ) (t : Bool) → is_comma c ≡ t → encode_utf8_all (c ∷ cs) ≡ front ++ 44 ∷ rest
-    → ((later : List ℕ) → encode_utf8_all cs ≡ later ++ 44 ∷ rest → AroundComma later rest) → AroundComma front rest
-around_by c cs [] rest true k e more =
-    let one : encode_utf8 c ≡ 44 ∷ [] = ap encode_utf8 (the_same c 44 k) ∙ encode_ascii 44 (lit< tt) in
-    let split : 44 ∷ encode_utf8_all cs ≡ 44 ∷ rest = ap (λ bs. bs ++ encode_utf8_all cs) (sym one) ∙ e in
-    record { before = []; behind = cs; front_is = refl; rest_is = cc }
-around_by c cs (y ∷ ys) rest true k e more =
-    let one : encode_utf8 c ≡ 44 ∷ [] = ap encode_utf8 (the_same c 44 k) ∙ encode_ascii 44 (lit< tt) in
-    let split : 44 ∷ encode_utf8_all cs ≡ y ∷ (ys ++ 44 ∷ rest) = ap (λ bs. bs ++ encode_utf8_all cs) (sym one) ∙ e in
-    let tail : encode_utf8_all cs ≡ ys ++ 44 ∷ rest = cc in
-    let same : y ≡ 44 = cc in
-    let a = more ys tail in
-    record {
-      before = c ∷ a.before;
-      behind = a.behind;
-      front_is = ap (λ z. z ∷ ys) same ∙ ap (λ zs. 44 ∷ zs) a.front_is ∙ ap (λ bs. bs ++ encode_utf8_all a.before) (sym one);
-      rest_is = a.rest_is;
-    }
-around_by c cs front rest false k e more =
-    let p = past (encode_utf8 c) (encode_utf8_all cs) front rest (no_comma c k) e in
-    let a = more p.left p.more_is in
-    record {
-      before = c ∷ a.before;
-      behind = a.behind;
-      front_is = p.front_is ∙ ap (λ bs. encode_utf8 c ++ bs) a.front_is;
-      rest_is = a.rest_is;
-    }
-
-around_comma : (cs front rest : List ℕ) → encode_utf8_all cs ≡ front ++ 44 ∷ rest → AroundComma front rest
-around_comma [] [] rest e = absurd (cc)
-around_comma [] (x ∷ xs) rest e = absurd (cc)
-around_comma (c ∷ cs) front rest e =
-    around_by c cs front rest (is_comma c) refl e (λ later k. around_comma cs later rest k)
-
 pub encoded_pieces : (cs : List ℕ) (pieces : List (List ℕ)) → 0 < length pieces
     → encode_utf8_all cs ≡ join_with_byte 44 pieces → (parts : List (List ℕ)) × (pieces ≡ map encode_utf8_all parts)
 encoded_pieces cs [] some e = absurd (omega arith)
 encoded_pieces cs (p ∷ []) some e = (cs ∷ [], ap (λ q. q ∷ []) (sym e))
 encoded_pieces cs (p ∷ q ∷ ps) some e =
-    let a = around_comma cs p (join_with_byte 44 (q ∷ ps)) e in
+    let a = around 44 (lit< tt) cs p (join_with_byte 44 (q ∷ ps)) e in
     let more = encoded_pieces a.behind (q ∷ ps) (omega arith) (sym a.rest_is) in
     (a.before ∷ more.0, ap (λ x. x ∷ q ∷ ps) a.front_is ∙ ap (λ xs. encode_utf8_all a.before ∷ xs) more.1)
 

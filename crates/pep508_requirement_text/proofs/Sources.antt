@@ -1,7 +1,7 @@
 -- What a name is asked for with: what is read is what the grammar gives.
-use Rattle.std.proofs.Common.{◌≡◌, ◌≢◌, ℕ, zero, suc, ◌<◌, ◌==◌, ◌||◌, Bool, true, false, if◌then◌else◌, List}
+use Rattle.std.proofs.Common.{◌≡◌, ◌≢◌, ℕ, ◌<◌, ◌==◌, ◌||◌, Bool, true, false, if◌then◌else◌, List}
 use Rattle.std.proofs.Common.{[]}
-use Rattle.std.proofs.Common.{◌∷◌, ◌++◌, length, get_or, All, Some, Ok, Err, IsTrue, inl, inr, refl}
+use Rattle.std.proofs.Common.{◌∷◌, ◌++◌, length, Some, Ok, Err, IsTrue, inl, inr, refl}
 use Rattle.std.proofs.Common.{ap, sym, subst, ◌∙◌, arith, append_assoc}
 use Rattle.std.proofs.lemmas.Bool.Decides.{nat_tests}
 use Rattle.std.specs.Char.{is_whitespace}
@@ -24,7 +24,8 @@ use Rattle.pep508_requirement_text.proofs.Tests.{the_same, or_cases, another}
 use Rattle.pep508_requirement_text.proofs.CharacterCuts.{behind_front, NonePasses, Ends, none_joined, spaces_found}
 use Rattle.pep508_requirement_text.proofs.CharacterCuts.{spaces_again, skipped_front}
 use Rattle.pep508_requirement_text.proofs.CharacterCuts.{cut_again, cut_found, cut_is, around_again, around_found}
-use Rattle.pep508_requirement_text.proofs.Pieces.{by_places, trimmed_start}
+use Rattle.pep508_requirement_text.proofs.EncodedCuts.{at_places, from_places}
+use Rattle.pep508_requirement_text.proofs.Pieces.{trimmed_start}
 use Rattle.pep508_requirement_text.proofs.Names.{none_in_spaces}
 use Rattle.pep508_requirement_text.proofs.ExtrasTexts.{answer, ok_same, in_steps, there}
 use Rattle.pep508_requirement_text.proofs.Lists.{TextLaw, list_by_pieces, pieces_by_list, skipped_list, given_found}
@@ -41,20 +42,6 @@ found_as : (name cs : List ℕ) (made found : Source × List ℕ) → made ≡ f
     → SourceFound name cs made.0 made.1
     → SourceFound name cs found.0 found.1
 found_as name cs made found e h = subst (λ (p : Source × List ℕ). SourceFound name cs p.0 p.1) e h
-
--- ---- characters, place by place
-
-at_place : (test : ℕ → Bool) (xs : List ℕ) → NonePasses test xs → (k d : ℕ) → k < length xs
-    → test (get_or xs k d) ≡ false
-at_place test [] h k d within = absurd (omega arith)
-at_place test (x ∷ xs) h zero d within = h.0
-at_place test (x ∷ xs) h (suc k) d within = at_place test xs h.1 k d (omega arith)
-
-at_places : (test : ℕ → Bool) (xs : List ℕ) → NonePasses test xs → All (λ c. test c ≡ false) xs
-at_places test xs h = λ k d within. at_place test xs h k d within
-
-from_places : (test : ℕ → Bool) (xs : List ℕ) → All (λ c. test c ≡ false) xs → NonePasses test xs
-from_places test xs h = by_places xs test (λ k within. h k 0 within)
 
 -- ---- a name alone
 

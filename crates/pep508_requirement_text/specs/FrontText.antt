@@ -29,12 +29,14 @@ pub record AreNames (cs : List ℕ) (names : List (List ℕ)) : Type 0 where
   pub are_names : AllZip IsSpacedName pieces names
   pub nonempty : 0 < length pieces
 
--- extras: nothing at all, or brackets with names or white space between them
+-- what stands between the brackets of extras: names, or white space alone
+abbrev pub IsInside : List ℕ → List (List ℕ) → Type 0
+IsInside inside names = (AreSpaces inside × (names ≡ [])) ⊎ AreNames inside names
+
+-- extras: nothing at all, or brackets
 abbrev pub IsExtrasText : List ℕ → List (List ℕ) → Type 0
 IsExtrasText cs names =
-    ((cs ≡ []) × (names ≡ []))
-    ⊎ ((inside : List ℕ) × (cs ≡ 91 ∷ (inside ++ 93 ∷ []))
-    × ((AreSpaces inside × (names ≡ [])) ⊎ AreNames inside names))
+    ((cs ≡ []) × (names ≡ [])) ⊎ ((inside : List ℕ) × (cs ≡ 91 ∷ (inside ++ 93 ∷ [])) × IsInside inside names)
 
 -- nothing follows, or a `;`
 abbrev pub IsBeforeMarker : List ℕ → Type 0

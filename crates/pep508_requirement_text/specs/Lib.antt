@@ -8,3 +8,4 @@ pub mod FrontOutcome
 pub mod FrontFound
 pub mod UnnamedReading
 pub mod UnnamedFound
+pub mod UnnamedText

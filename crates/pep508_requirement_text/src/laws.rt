@@ -7,6 +7,7 @@ ghost use Rattle.pep508_requirement_text.specs.UrlEnds.{begins_with, url_split, 
 ghost use Rattle.pep508_requirement_text.specs.FrontReading.{Front, Refused, Reading, front_reading};
 ghost use Rattle.pep508_requirement_text.specs.FrontText.{IsFrontText, IsRequirementText};
 ghost use Rattle.pep508_requirement_text.specs.UnnamedReading.{UnnamedFront, IsUnnamedReading};
+ghost use Rattle.pep508_requirement_text.specs.UnnamedText.{IsUnnamedText, IsUnnamedRequirementText};
 
 use pep440_specifier::laws::specifier_text_is_read;
 
@@ -64,3 +65,37 @@ pub fn a_text_has_one_unnamed_front()
     ensures { (text : List ℕ) (reading other : Reading UnnamedFront)
         → IsUnnamedReading text reading → IsUnnamedReading text other → reading ≡ other }
 {}
+
+/// At the front of each text there is a URL with its extras to read, or why there is none.
+pub fn a_text_has_an_unnamed_reading()
+    ensures { (text : List ℕ) → (reading : Reading UnnamedFront) × IsUnnamedReading text reading }
+{}
+
+/// What is read at the front of a text where no name is wanted stands there as the grammar has it: white space,
+/// and a URL with extras at its end.
+pub fn a_read_unnamed_front_is_written()
+    ensures { (text : List ℕ) (front : UnnamedFront) (rest : List ℕ)
+        → IsUnnamedReading text (Ok (front, rest)) → IsUnnamedText text front rest }
+{}
+
+/// A URL with extras at its end that stands at the front of a text, as the grammar has it, is read there.
+pub fn a_written_unnamed_front_is_read()
+    ensures { (text : List ℕ) (front : UnnamedFront) (rest : List ℕ)
+        → IsUnnamedText text front rest → IsUnnamedReading text (Ok (front, rest)) }
+{}
+
+/// A text is that of at most one requirement without a name and without a marker.
+pub fn a_text_has_one_unnamed_requirement()
+    ensures { (text : List ℕ) (front other : UnnamedFront)
+        → IsUnnamedRequirementText text front → IsUnnamedRequirementText text other → front ≡ other }
+{
+    a_written_unnamed_front_is_read();
+}
+
+/// A text whose front without a name is refused is that of no requirement without a name.
+pub fn a_refused_text_is_no_unnamed_requirement()
+    ensures { (text : List ℕ) (refused : Refused) → IsUnnamedReading text (Err refused)
+        → (front : UnnamedFront) → IsUnnamedRequirementText text front → ⊥ }
+{
+    a_written_unnamed_front_is_read();
+}

@@ -1,0 +1,5 @@
+use Rattle.pep508_requirement_text.proofs.UnnamedTexts.{one_requirement}
+use Rattle.pep508_requirement_text.proofs.laws.a_text_has_one_unnamed_requirement.Goals as goal
+
+pub returns : goal.returns
+returns c = one_requirement c.a_written_unnamed_front_is_read.ensures
