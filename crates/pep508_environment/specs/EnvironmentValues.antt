@@ -1,10 +1,11 @@
--- What keys read in an environment, when environments are equal, and what they feed a hash.
-use Rattle.std.specs.Prelude.{ℕ, Bool, List, [], ◌∷◌, ◌++◌}
+-- What keys read in an environment, its JSON value, when environments are equal, and what they feed a hash.
+use Rattle.std.specs.Prelude.{ℕ, Bool, List, [], ◌∷◌, ◌++◌, codes}
 use Rattle.std.specs.Cmp.Lexicographic.{pointwise}
 use Rattle.std.specs.Hash as fed
 use Rattle.std.specs.List.{flat_map}
 use Rattle.std.specs.Ordering.{on, eq_of_both}
 use Rattle.std.specs.Str.{bytes_eq}
+use Rattle.serde_json.specs.Data.{Data, string, object, no_members, member}
 use Rattle.pep440_rs.specs.Record.{VersionRecord}
 use Rattle.pep440_rs.specs.Order.{version_eq, key_of, fed_key}
 use Rattle.pep508_marker.specs.declared.keys.MarkerValueVersion.{MarkerValueVersion}
@@ -36,6 +37,21 @@ text_in environment PlatformVersion = environment.platform_version
 text_in environment PlatformVersionDeprecated = environment.platform_version
 text_in environment SysPlatform = environment.sys_platform
 text_in environment SysPlatformDeprecated = environment.sys_platform
+
+-- an environment as a JSON value: an object with the eleven texts
+abbrev pub environment_value : EnvironmentRecord → Data
+environment_value e = object (
+    member (codes "implementation_name") (string e.implementation_name) (
+    member (codes "implementation_version") (string e.implementation_version_text) (
+    member (codes "os_name") (string e.os_name) (
+    member (codes "platform_machine") (string e.platform_machine) (
+    member (codes "platform_python_implementation") (string e.platform_python_implementation) (
+    member (codes "platform_release") (string e.platform_release) (
+    member (codes "platform_system") (string e.platform_system) (
+    member (codes "platform_version") (string e.platform_version) (
+    member (codes "python_full_version") (string e.python_full_version_text) (
+    member (codes "python_version") (string e.python_version_text) (
+    member (codes "sys_platform") (string e.sys_platform) no_members)))))))))))
 
 -- the eleven texts of an environment, in the order of its members
 abbrev pub texts_of : EnvironmentRecord → List (List ℕ)

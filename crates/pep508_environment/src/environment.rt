@@ -131,7 +131,11 @@ impl MarkerEnvironment {
         }
         Ok(MarkerEnvironment {
             implementation_name: text(alloc, value, EnvironmentMember::ImplementationName)?,
-            implementation_version: version(alloc, value, EnvironmentMember::ImplementationVersion)?,
+            implementation_version: version(
+                alloc,
+                value,
+                EnvironmentMember::ImplementationVersion,
+            )?,
             os_name: text(alloc, value, EnvironmentMember::OsName)?,
             platform_machine: text(alloc, value, EnvironmentMember::PlatformMachine)?,
             platform_python_implementation: text(

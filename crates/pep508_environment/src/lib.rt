@@ -11,12 +11,15 @@ use std::alloc::AllocError;
 use std::error::Error;
 use std::fmt;
 
+mod builder;
 mod comparing;
 mod environment;
 mod floats;
 mod members;
 mod string_version;
+mod value;
 
+pub use builder::{EnvironmentBuildError, MarkerEnvironmentBuilder};
 pub use environment::MarkerEnvironment;
 pub use string_version::StringVersion;
 
