@@ -1,2 +1,2 @@
-pub mod Environment
+pub mod Keys
 pub mod Warnings

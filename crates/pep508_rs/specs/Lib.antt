@@ -20,5 +20,9 @@ pub use Rattle.pep508_requirement_text.specs.FrontOutcome
 pub use Rattle.pep508_requirement.specs.Asked
 pub use Rattle.pep508_requirement.specs.Requirements
 pub use Rattle.pep508_requirement.specs.RequirementReading
-pub use Rattle.pep508_marker.specs.Environment
+pub use Rattle.pep508_environment.specs.Environment
+pub use Rattle.pep508_environment.specs.EnvironmentValues
+pub use Rattle.pep508_environment.specs.EnvironmentLaws
+pub use Rattle.pep508_environment.specs.Building
+pub use Rattle.pep508_marker.specs.Keys
 pub use Rattle.pep508_marker.specs.Warnings

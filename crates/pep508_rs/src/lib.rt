@@ -6,8 +6,12 @@
 
 pub use pep440_rs;
 pub use pep508_error::{Pep508Error, Pep508ErrorSource};
+pub use pep508_environment::{
+    EnvironmentBuildError, EnvironmentError, EnvironmentMember, MarkerEnvironment,
+    MarkerEnvironmentBuilder, StringVersion,
+};
 pub use pep508_marker::{
-    EnvironmentError, EnvironmentMember, MarkerEnvironment, MarkerWarningKind, Reporter, Silent,
+    MarkerValueString, MarkerValueVersion, MarkerWarningKind, Reporter, Silent,
 };
 pub use pep508_name::{ExtraName, InvalidNameError, PackageName, RequirementOrigin};
 pub use pep508_requirement::{

@@ -1,4 +1,4 @@
-use pep508_marker::{EnvironmentError, EnvironmentMember, MarkerEnvironment};
+use pep508_environment::{EnvironmentError, EnvironmentMember, MarkerEnvironment};
 use serde_json::Value;
 use std::alloc::{AllocError, Global};
 use std::test::Fail;
@@ -15,7 +15,7 @@ fn reads_an_environment(rt: HostRuntime) -> Result<(), Fail> {
     let value = Value::from_str(rt.alloc(), GOOD)?;
     let environment = MarkerEnvironment::from_value(rt.alloc(), &value)?;
     let version = environment.python_full_version();
-    assert_eq!(rt; version.release(), [3, 11, 4].as_slice());
+    assert_eq!(rt; version.version.release(), [3, 11, 4].as_slice());
     Ok(())
 }
 
@@ -30,7 +30,7 @@ fn full_version(alloc: Global, text: &str) -> Result<String, Fail> {
     let given = with_full_version(alloc, text)?;
     let value = Value::from_str(alloc, given.as_str())?;
     let environment = MarkerEnvironment::from_value(alloc, &value)?;
-    Ok(environment.python_full_version().to_string(alloc)?)
+    Ok(environment.python_full_version().version.to_string(alloc)?)
 }
 
 // Each text of a version is one that PEP 440 normalizes, or has white space around it.

@@ -5,9 +5,9 @@ use Rattle.std.specs.Str.Lossy.{utf8_valid_len}
 use Rattle.serde_json.specs.Data.{Data}
 use Rattle.serde_json.specs.Read.{read}
 use Rattle.pep508_name.specs.Name.{is_name}
-use Rattle.pep508_marker.specs.declared.EnvironmentError.{EnvironmentError}
-use Rattle.pep508_marker.specs.declared.EnvironmentError.TheVariants as environments
-use Rattle.pep508_marker.specs.Environment.{environment_of}
+use Rattle.pep508_environment.specs.declared.EnvironmentError.{EnvironmentError}
+use Rattle.pep508_environment.specs.declared.EnvironmentError.TheVariants as environments
+use Rattle.pep508_environment.specs.Environment.{environment_of}
 use Rattle.reqtable_lines.specs.declared.requirements.RequirementsError.{RequirementsError}
 use Rattle.reqtable_lines.specs.declared.requirements.RequirementsError.TheVariants as requirements
 use Rattle.reqtable_lines.specs.declared.candidates.CandidatesError.{CandidatesError}

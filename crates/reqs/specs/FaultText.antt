@@ -1,7 +1,7 @@
 -- What is said of a fault, by the paths of the inputs.
 use Rattle.std.specs.Prelude.{ℕ, List, [], ◌++◌, get_or, codes}
 use Rattle.std.specs.Fmt.{decimal}
-use Rattle.pep508_marker.specs.Environment.{member_name}
+use Rattle.pep508_environment.specs.Environment.{member_name}
 use Rattle.reqtable_lines.specs.declared.candidates.CandidateFault.{CandidateFault}
 use Rattle.reqtable_lines.specs.declared.candidates.CandidateFault.TheVariants as causes
 use Rattle.reqs.specs.declared.fault.Input.{Input}

@@ -1,8 +1,8 @@
 -- Faults: which of them the inputs decide, and which may happen at any time.
 use Rattle.std.specs.Prelude.{◌≡◌, ℕ, Option, Some, None, Result, Ok, Err}
 use Rattle.read_outcome.specs.Outcome.{Tells}
-use Rattle.pep508_marker.specs.declared.EnvironmentError.{EnvironmentError}
-use Rattle.pep508_marker.specs.declared.EnvironmentError.TheVariants as environments
+use Rattle.pep508_environment.specs.declared.EnvironmentError.{EnvironmentError}
+use Rattle.pep508_environment.specs.declared.EnvironmentError.TheVariants as environments
 use Rattle.reqs_io.specs.declared.ReadFault.{ReadFault}
 use Rattle.reqs_io.specs.declared.ReadFault.TheVariants as ends
 use Rattle.reqtable_lines.specs.declared.requirements.RequirementsError.{RequirementsError}

@@ -6,7 +6,7 @@ use Rattle.std.specs.Str.Lossy.{utf8_valid_len}
 use Rattle.serde_json.specs.Data.{Data}
 use Rattle.serde_json.specs.Read.{read}
 use Rattle.pep508_name.specs.Name.{is_name}
-use Rattle.pep508_marker.specs.Environment.{EnvironmentRecord, environment_of}
+use Rattle.pep508_environment.specs.Environment.{EnvironmentRecord, environment_of}
 use Rattle.reqtable_lines.specs.declared.requirement.RequirementLine.{RequirementLine}
 use Rattle.reqtable_lines.specs.declared.candidates.Candidate.{Candidate}
 use Rattle.reqtable_lines.specs.Requirements.{requirements_of}

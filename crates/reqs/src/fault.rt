@@ -1,11 +1,11 @@
 //! How a command ends: its statuses, its refusals and their texts.
 
 ghost use Rattle.std.specs.Prelude.{◌≡◌, length, map, string_bytes, IfOk};
-ghost use Rattle.pep508_marker.specs.Environment.{member_name};
+ghost use Rattle.pep508_environment.specs.Environment.{member_name};
 ghost use Rattle.reqs.specs.Faults.{status_of, of_reading, of_requirements, of_environment, of_candidates};
 ghost use Rattle.reqs.specs.FaultText.{path_of, cause_text, input_text, line_text, member_text, fault_text};
 
-use pep508_marker::{EnvironmentError, EnvironmentMember};
+use pep508_environment::{EnvironmentError, EnvironmentMember};
 use reqs_io::ReadFault;
 use reqtable::{CandidateFault, CandidatesError, RequirementsError};
 use std::alloc::{AllocError, Global};

@@ -9,7 +9,7 @@ ghost use Rattle.reqs.specs.Faults.{told_run};
 ghost use Rattle.reqs.specs.Inputs.{ReadsInput, extras_of, environment_in, environment_from};
 
 use crate::fault::{Input, RefusedWord, RunFault};
-use pep508_marker::MarkerEnvironment;
+use pep508_environment::MarkerEnvironment;
 use pep508_name::is_name;
 use reqs_io::{ASK_LIMIT, INPUT_LIMIT, read_whole};
 use serde_json::Value;

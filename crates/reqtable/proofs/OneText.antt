@@ -10,7 +10,7 @@ use Rattle.std.proofs.lemmas.Cmp.{nat_list_cmp_total}
 use Rattle.std.proofs.lemmas.Map.Lookups.{btree_set_from_contains, exact_bytes}
 use Rattle.std.proofs.lemmas.Map.Text.{is_eq-slice_cmp}
 use Rattle.pep440_rs.specs.Record.{VersionRecord}
-use Rattle.pep508_marker.specs.Environment.{EnvironmentRecord}
+use Rattle.pep508_environment.specs.Environment.{EnvironmentRecord}
 use Rattle.reqtable_lines.specs.declared.requirement.RequirementLine.{RequirementLine}
 use Rattle.reqtable_lines.specs.declared.candidates.Candidate.{Candidate}
 use Rattle.reqtable.specs.Answer.{AreThePackages, IsCheckText, package_answer, row_text}

@@ -10,7 +10,7 @@ use Rattle.pep440_rs.specs.Record.{VersionRecord}
 use Rattle.pep440_rs.specs.Order.{version_cmp}
 use Rattle.pep440_rs.specs.Print.{version_text}
 use Rattle.pep440_rs.specs.Matching.{matches}
-use Rattle.pep508_marker.specs.Environment.{EnvironmentRecord}
+use Rattle.pep508_environment.specs.Environment.{EnvironmentRecord}
 use Rattle.reqtable_lines.specs.declared.requirement.RequirementLine.{RequirementLine}
 use Rattle.reqtable_lines.specs.declared.candidates.Candidate.{Candidate}
 use Rattle.reqtable.specs.Applies.{applies}

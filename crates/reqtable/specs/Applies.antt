@@ -3,7 +3,7 @@ use Rattle.std.specs.Prelude.{Bool, true, not, Option, Some, None}
 use Rattle.std.specs.Ordering.{is_lt}
 use Rattle.pep440_rs.specs.Record.{VersionRecord}
 use Rattle.pep440_rs.specs.Order.{version_cmp, version_eq}
-use Rattle.pep508_marker.specs.Environment.{EnvironmentRecord}
+use Rattle.pep508_environment.specs.Environment.{EnvironmentRecord}
 use Rattle.reqtable_lines.specs.declared.requirement.Comparator.{Comparator}
 use Rattle.reqtable_lines.specs.declared.requirement.Comparator.TheVariants.{Equal, GreaterThanEqual}
 use Rattle.reqtable_lines.specs.declared.requirement.Comparison.{Comparison}

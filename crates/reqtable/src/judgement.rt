@@ -13,7 +13,8 @@ ghost use Rattle.std.specs.BTreeMap.{get_by};
 
 use crate::answer::{Answer, Outcome, Row};
 use pep440_rs::Version;
-use pep508_marker::MarkerEnvironment;
+use pep508_environment::MarkerEnvironment;
+use pep508_marker::MarkerValueVersion;
 use reqtable_lines::{
     Candidate, Candidates, Comparator, Comparison, RequirementLine, Requirements,
 };
@@ -165,7 +166,9 @@ fn applies(environment: &MarkerEnvironment, line: &RequirementLine) -> bool
 {
     match &line.marker {
         None => true,
-        Some(comparison) => compares(environment.python_full_version(), comparison),
+        Some(comparison) => {
+            compares(environment.get_version(MarkerValueVersion::PythonFullVersion), comparison)
+        },
     }
 }
 

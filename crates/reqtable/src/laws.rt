@@ -1,7 +1,7 @@
 //! Laws over the definitions of the answer.
 
 ghost use Rattle.std.specs.Prelude.{◌≡◌, ℕ, List};
-ghost use Rattle.pep508_marker.specs.Environment.{EnvironmentRecord};
+ghost use Rattle.pep508_environment.specs.Environment.{EnvironmentRecord};
 ghost use Rattle.reqtable_lines.specs.declared.requirement.RequirementLine.{RequirementLine};
 ghost use Rattle.reqtable_lines.specs.declared.candidates.Candidate.{Candidate};
 ghost use Rattle.reqtable.specs.Answer.{IsCheckText};

@@ -9,7 +9,7 @@ pub mod laws;
 pub use answer::{Answer, Outcome, Row};
 pub use judgement::judge;
 pub use pep440_rs;
-pub use pep508_marker::{EnvironmentError, EnvironmentMember, MarkerEnvironment};
+pub use pep508_environment::{EnvironmentError, EnvironmentMember, MarkerEnvironment};
 pub use pep508_name::{ExtraName, InvalidNameError, PackageName};
 pub use reqtable_lines::{
     Candidate, CandidateFault, Candidates, CandidatesError, Comparator, Comparison,

@@ -1,7 +1,7 @@
 use Rattle.std.proofs.Common.{◌≡◌, drop}
 use Rattle.serde_json.specs.Written.{items_have_float, members_have_float}
 use Rattle.serde_json.specs.View.{items_view, members_view}
-use Rattle.pep508_marker.proofs.floats.+float.Given as goal
+use Rattle.pep508_environment.proofs.floats.+float.Given as goal
 
 -- what is left has a float where the whole has one
 abbrev pub invariant-items_have_float-loop-item : goal.invariant-items_have_float-loop-item

@@ -6,14 +6,27 @@ use Rattle.serde_json.specs.Find.{get, as_str, as_object}
 use Rattle.serde_json.specs.Written.{has_float}
 use Rattle.pep440_rs.specs.Record.{VersionRecord}
 use Rattle.pep440_rs.specs.Reading.{version_of}
-use Rattle.pep508_marker.specs.declared.EnvironmentMember.{EnvironmentMember}
-use Rattle.pep508_marker.specs.declared.EnvironmentMember.TheVariants.{ImplementationName, ImplementationVersion, OsName, PlatformMachine, PlatformPythonImplementation, PlatformRelease, PlatformSystem, PlatformVersion, PythonFullVersion, PythonVersion, SysPlatform}
-use Rattle.pep508_marker.specs.declared.EnvironmentError.{EnvironmentError}
-use Rattle.pep508_marker.specs.declared.EnvironmentError.TheVariants.{Float, Shape, Member, Version, Memory}
+use Rattle.pep508_environment.specs.declared.EnvironmentMember.{EnvironmentMember}
+use Rattle.pep508_environment.specs.declared.EnvironmentMember.TheVariants.{ImplementationName, ImplementationVersion, OsName, PlatformMachine, PlatformPythonImplementation, PlatformRelease, PlatformSystem, PlatformVersion, PythonFullVersion, PythonVersion, SysPlatform}
+use Rattle.pep508_environment.specs.declared.EnvironmentError.{EnvironmentError}
+use Rattle.pep508_environment.specs.declared.EnvironmentError.TheVariants.{Float, Shape, Member, Version, Memory}
 
--- an environment: so far the version of Python that is looked at (PEP 508, "Environment Markers")
+-- an environment (PEP 508, "Environment Markers"): texts, and versions with the texts that they were read of
 pub record EnvironmentRecord : Type 0 where
+  pub implementation_name : List ℕ
+  pub implementation_version : VersionRecord
+  pub implementation_version_text : List ℕ
+  pub os_name : List ℕ
+  pub platform_machine : List ℕ
+  pub platform_python_implementation : List ℕ
+  pub platform_release : List ℕ
+  pub platform_system : List ℕ
+  pub platform_version : List ℕ
   pub python_full_version : VersionRecord
+  pub python_full_version_text : List ℕ
+  pub python_version : VersionRecord
+  pub python_version_text : List ℕ
+  pub sys_platform : List ℕ
 
 -- the name under which a member stands
 abbrev pub member_name : EnvironmentMember → List ℕ
@@ -70,12 +83,50 @@ member_fault value member =
 abbrev pub faults : Data → List EnvironmentError
 faults value = filter_map (member_fault value) members
 
--- the first fault, or the environment; a version that is missing is a fault of its member
-abbrev pub first_fault_or : List EnvironmentError → Option VersionRecord
+infixl 10 ◌>>=◌
+abbrev ◌>>=◌ : {A B : Type 0} → Option A → (A → Option B) → Option B
+none >>= f = option_and_then f none
+
+-- the environment of the members' texts, if all are there and those that have to be versions are
+abbrev pub environment_in : Data → Option EnvironmentRecord
+environment_in value = do
+  implementation_name ← member_text value ImplementationName
+  implementation_version_text ← member_text value ImplementationVersion
+  implementation_version ← version_of implementation_version_text
+  os_name ← member_text value OsName
+  platform_machine ← member_text value PlatformMachine
+  platform_python_implementation ← member_text value PlatformPythonImplementation
+  platform_release ← member_text value PlatformRelease
+  platform_system ← member_text value PlatformSystem
+  platform_version ← member_text value PlatformVersion
+  python_full_version_text ← member_text value PythonFullVersion
+  python_full_version ← version_of python_full_version_text
+  python_version_text ← member_text value PythonVersion
+  python_version ← version_of python_version_text
+  sys_platform ← member_text value SysPlatform
+  Some (record {
+    implementation_name = implementation_name;
+    implementation_version = implementation_version;
+    implementation_version_text = implementation_version_text;
+    os_name = os_name;
+    platform_machine = platform_machine;
+    platform_python_implementation = platform_python_implementation;
+    platform_release = platform_release;
+    platform_system = platform_system;
+    platform_version = platform_version;
+    python_full_version = python_full_version;
+    python_full_version_text = python_full_version_text;
+    python_version = python_version;
+    python_version_text = python_version_text;
+    sys_platform = sys_platform;
+  })
+
+-- the first fault, or the environment, which is there where no member is wrong
+abbrev pub first_fault_or : List EnvironmentError → Option EnvironmentRecord
     → Result EnvironmentRecord EnvironmentError
-first_fault_or (fault ∷ others) version = Err fault
-first_fault_or [] (Some version) = Ok (record { python_full_version = version })
-first_fault_or [] None = Err (Version PythonFullVersion)
+first_fault_or (fault ∷ others) environment = Err fault
+first_fault_or [] (Some environment) = Ok environment
+first_fault_or [] None = Err Shape
 
 -- the environment that a value is, or the first that is wrong: a float anywhere, then the shape, then
 -- the members
@@ -84,7 +135,7 @@ environment_of value =
     if has_float value then Err Float
     else (if not (is_some (as_object value))
     then Err Shape
-    else first_fault_or (faults value) (member_version value PythonFullVersion))
+    else first_fault_or (faults value) (environment_in value))
 
 -- the text of this member is looked at: there is an object without floats, the members before this one
 -- are right, and it is a text

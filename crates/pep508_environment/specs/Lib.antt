@@ -1,0 +1,4 @@
+pub mod Environment
+pub mod EnvironmentValues
+pub mod EnvironmentLaws
+pub mod Building
