@@ -1,7 +1,7 @@
 -- Decision diagrams: a leaf, or a question with what follows where it is answered by yes and where by no. The
 -- questions stand in an order, in which those of one variable are neighbours; a variable is asked whether it
 -- lies below one place, then below a later one, and so on.
-use Rattle.std.specs.Prelude.{◌≡◌, Bool, true, false, not, cond, ⊥}
+use Rattle.std.specs.Prelude.{◌≡◌, Bool, true, false, not, cond}
 use Rattle.std.specs.Ordering.{is_lt}
 use Rattle.std.specs.Cmp.{IsTotalOrder}
 use Rattle.std.specs.declared.cmp.Ordering.{Ordering}
