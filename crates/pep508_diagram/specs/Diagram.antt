@@ -1,7 +1,7 @@
 -- Decision diagrams: a leaf, or a question with what follows where it is answered by yes and where by no. The
 -- questions stand in an order, in which those of one variable are neighbours; a variable is asked whether it
 -- lies below one place, then below a later one, and so on.
-use Rattle.std.specs.Prelude.{◌≡◌, Bool, true, false, not, cond, ⊥}
+use Rattle.std.specs.Prelude.{◌≡◌, Bool, true, false, not, cond}
 use Rattle.std.specs.Ordering.{is_lt}
 use Rattle.std.specs.Cmp.{IsTotalOrder}
 use Rattle.std.specs.declared.cmp.Ordering.{Ordering}
@@ -44,37 +44,37 @@ module _ {Q V : Type 0} (ask : Asking Q V) where
   -- the truth of a diagram under a valuation
   abbrev pub truth_by : Diagram Q → V → Bool
   truth_by (Leaf b) v = b
-  truth_by (Test q yes no) v = cond (ask.answer v q) (truth_by yes v) (truth_by no v)
+  truth_by (Test q low high) v = cond (ask.answer v q) (truth_by low v) (truth_by high v)
 
   -- the diagrams are one, up to the order's equality of questions
   abbrev pub IsAlike : Diagram Q → Diagram Q → Type 0
   IsAlike (Leaf b) (Leaf c) = b ≡ c
-  IsAlike (Leaf b) (Test r yes no) = ⊥
-  IsAlike (Test q yes no) (Leaf c) = ⊥
-  IsAlike (Test q yes no) (Test r other_yes other_no) =
-      (ask.cmp q r ≡ Equal) × IsAlike yes other_yes × IsAlike no other_no
+  IsAlike (Leaf b) (Test r low high) = ⊥
+  IsAlike (Test q low high) (Leaf c) = ⊥
+  IsAlike (Test q low high) (Test r other_low other_high) =
+      (ask.cmp q r ≡ Equal) × IsAlike low other_low × IsAlike high other_high
 
   -- a diagram asks first of a variable behind that of the question
   abbrev pub RootAbove : Q → Diagram Q → Type 0
   RootAbove q (Leaf b) = Unit {0}
-  RootAbove q (Test r yes no) = (ask.cmp q r ≡ Less) × (ask.shares q r ≡ false)
+  RootAbove q (Test r low high) = (ask.cmp q r ≡ Less) × (ask.shares q r ≡ false)
 
   -- a diagram asks first something behind the question
   abbrev pub RootAfter : Q → Diagram Q → Type 0
   RootAfter q (Leaf b) = Unit {0}
-  RootAfter q (Test r yes no) = ask.cmp q r ≡ Less
+  RootAfter q (Test r low high) = ask.cmp q r ≡ Less
 
   -- what a diagram is where the question's variable lies below all places that it asks for
   abbrev pub front_by : Q → Diagram Q → Diagram Q
   front_by q (Leaf b) = Leaf b
-  front_by q (Test r yes no) = cond (ask.shares q r) yes (Test r yes no)
+  front_by q (Test r low high) = cond (ask.shares q r) low (Test r low high)
 
   -- the questions rise along each path, and none is asked in vain
   abbrev pub IsCanonicalBy : Diagram Q → Type 0
   IsCanonicalBy (Leaf b) = Unit {0}
-  IsCanonicalBy (Test q yes no) =
-      IsCanonicalBy yes × IsCanonicalBy no × RootAbove q yes × RootAfter q no
-      × (IsAlike yes (front_by q no) → ⊥)
+  IsCanonicalBy (Test q low high) =
+      IsCanonicalBy low × IsCanonicalBy high × RootAbove q low × RootAfter q high
+      × (IsAlike low (front_by q high) → ⊥)
 
   -- canonical diagrams with one truth under every valuation are one diagram
   abbrev pub OneDiagramBy : Type 0
