@@ -13,9 +13,11 @@ use std::fmt;
 
 mod environment;
 mod floats;
+mod keys;
 mod warnings;
 
 pub use environment::MarkerEnvironment;
+pub use keys::{MarkerValueString, MarkerValueVersion};
 pub use warnings::{MarkerWarningKind, Reporter, Silent};
 
 /// A member of an environment (PEP 508, "Environment Markers"). Prints as the name under which it stands.
