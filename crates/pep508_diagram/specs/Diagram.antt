@@ -1,11 +1,12 @@
 -- Decision diagrams: a leaf, or a question with what follows where it is answered by yes and where by no. The
 -- questions stand in an order, in which those of one variable are neighbours; a variable is asked whether it
 -- lies below one place, then below a later one, and so on.
-use Rattle.std.specs.Prelude.{◌≡◌, Bool, true, false, not, cond}
+use Rattle.std.specs.Prelude.{◌≡◌, Bool, true, false, cond}
 use Rattle.std.specs.Ordering.{is_lt}
 use Rattle.std.specs.Cmp.{IsTotalOrder}
 use Rattle.std.specs.declared.cmp.Ordering.{Ordering}
 use Rattle.std.specs.declared.cmp.Ordering.TheVariants.{Less, Equal}
+use Rattle.version_ranges.specs.Turns.{flips}
 
 -- a diagram; the first branch is taken where the question is answered by yes
 pub data Diagram (Q : Type 0) : Type 0 where
@@ -80,3 +81,13 @@ module _ {Q V : Type 0} (ask : Asking Q V) where
   abbrev pub OneDiagramBy : Type 0
   OneDiagramBy = (d e : Diagram Q) → IsCanonicalBy d → IsCanonicalBy e →
       ((v : V) → truth_by d v ≡ truth_by e v) → IsAlike d e
+
+-- the diagram with each leaf turned, where the flag is set
+abbrev pub turned_by : {Q : Type 0} → Bool → Diagram Q → Diagram Q
+turned_by turned (Leaf b) = Leaf (flips turned b)
+turned_by turned (Test q low high) = Test q (turned_by turned low) (turned_by turned high)
+
+-- the leaf that is reached where each question is answered by yes
+abbrev pub leftmost : {Q : Type 0} → Diagram Q → Bool
+leftmost (Leaf b) = b
+leftmost (Test q low high) = leftmost low
