@@ -1,8 +1,8 @@
 -- The variables of questions: what two orderings joined say, and which variables have one place.
-use Rattle.std.proofs.Common.{◌≡◌, ℕ, ◌+◌, ◌<◌, ◌==◌, Bool, true, false, cond, not, List, [], ◌∷◌, refl, sym, ap, ap₂, ◌∙◌, true≢false, arith, Ordering, Less, Equal, Greater, is_eq, is_lt, is_gt, nat_cmp}
+use Rattle.std.proofs.Common.{◌≡◌, ℕ, ◌<◌, ◌==◌, true, false, cond, List, [], ◌∷◌, refl, sym, ap, ap₂, ◌∙◌, true≢false, arith, Ordering, Less, Equal, Greater, is_eq, is_lt, is_gt, nat_cmp}
 use Rattle.std.specs.Ordering.{ordering_then, then_cmp, eq_by_cmp}
-use Rattle.std.specs.Cmp.{IsTotalOrder, unsigned_Decides, unsigned_tied, alike_right}
-use Rattle.std.proofs.lemmas.Cmp.{ranked, eq_by_cmp_equiv}
+use Rattle.std.specs.Cmp.{IsTotalOrder, alike_right}
+use Rattle.std.proofs.lemmas.Cmp.{ranked}
 use Rattle.pep508_marker.specs.declared.keys.MarkerValueString.{MarkerValueString}
 use Rattle.pep508_marker.specs.declared.keys.MarkerValueString.TheVariants.{ImplementationName, OsName, OsNameDeprecated, PlatformMachine, PlatformMachineDeprecated, PlatformPythonImplementation, PlatformPythonImplementationDeprecated}
 use Rattle.pep508_marker.specs.declared.keys.MarkerValueString.TheVariants.{PythonImplementationDeprecated, PlatformRelease, PlatformSystem, PlatformVersion, PlatformVersionDeprecated, SysPlatform, SysPlatformDeprecated}
@@ -68,7 +68,7 @@ texts_same [] [] e = refl
 texts_same [] (y ∷ ys) e = absurd (not_less (sym e))
 texts_same (x ∷ xs) [] e = absurd (true≢false (ap is_gt e))
 texts_same (x ∷ xs) (y ∷ ys) e =
-    let parts : (nat_cmp x y ≡ Equal) × (text_cmp xs ys ≡ Equal) = both_equal (nat_cmp x y) (text_cmp xs ys) e in
+    let parts = both_equal (nat_cmp x y) (text_cmp xs ys) e in
     ap₂ (λ n ns. n ∷ ns) (numbers_same x y parts.0) (texts_same xs ys parts.1)
 
 -- ---- keys and flags
@@ -134,6 +134,6 @@ flags_same (Arbitrary t) (Arbitrary u) e same = ap Arbitrary same
 
 pub flag_from_place : (f g : Flag) → text_cmp (flag_place f) (flag_place g) ≡ Equal → f ≡ g
 flag_from_place f g e =
-    let parts : (nat_cmp (flag_rank f) (flag_rank g) ≡ Equal) × (text_cmp (flag_text f) (flag_text g) ≡ Equal) =
-        both_equal (nat_cmp (flag_rank f) (flag_rank g)) (text_cmp (flag_text f) (flag_text g)) e in
-    flags_same f g (numbers_same (flag_rank f) (flag_rank g) parts.0) (texts_same (flag_text f) (flag_text g) parts.1)
+    let parts = both_equal (nat_cmp (flag_rank f) (flag_rank g)) (text_cmp (flag_text f) (flag_text g)) e in
+    flags_same f g (numbers_same (flag_rank f) (flag_rank g) parts.0)
+    (texts_same (flag_text f) (flag_text g) parts.1)

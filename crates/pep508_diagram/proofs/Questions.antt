@@ -1,6 +1,6 @@
 -- Questions about markers obey the laws of questions.
-use Rattle.std.proofs.Common.{◌≡◌, ℕ, ◌+◌, ◌<◌, ◌==◌, Bool, true, false, cond, not, List, [], ◌∷◌, refl, sym, ap, ◌∙◌, inl, inr, true≢false, arith, Ordering, Less, Equal, Greater, is_eq, is_lt, is_gt, nat_cmp}
-use Rattle.std.specs.Ordering.{ordering_then, ordering_reverse, then_cmp, on, eq_by_cmp}
+use Rattle.std.proofs.Common.{◌≡◌, ℕ, ◌+◌, ◌<◌, ◌==◌, Bool, true, false, cond, not, List, [], refl, sym, ap, ◌∙◌, inl, inr, true≢false, arith, Ordering, Less, Equal, Greater, is_eq, is_lt, is_gt, nat_cmp}
+use Rattle.std.specs.Ordering.{ordering_then, ordering_reverse, then_cmp, on}
 use Rattle.std.specs.Cmp.{IsTotalOrder, unsigned_tied, unsigned_Decides, upto, then_total, on_total, tied_itself, eq_by_cmp_equiv, IsEquivalence}
 use Rattle.std.specs.Cmp.Lexicographic.{slice_cmp, lists_total, nat_list_cmp_total}
 use Rattle.std.proofs.lemmas.Bool.{cases_Bool}
@@ -19,7 +19,7 @@ use Rattle.pep508_diagram.specs.declared.variable.Flag.{Flag}
 use Rattle.pep508_diagram.specs.Text.{text_cmp}
 use Rattle.pep508_diagram.specs.Diagram.{IsAsking}
 use Rattle.pep508_diagram.specs.Question.{Question, VersionBelow, TextBelow, IsSet, Valuation, version_rank, text_rank, flag_rank, flag_text, flag_place, place_of, version_boundaries, text_boundaries, question_cmp, shares_variable, lies_below, answer, below_all, at_place, marker, OneDiagram}
-use Rattle.pep508_diagram.proofs.Places.{both_equal, not_less, then_equal, apart_then, equal_from, neighbours, numbers_same, versions_same, text_keys_same, version_rank_below, rank_below, flag_rank_from, flag_from_place}
+use Rattle.pep508_diagram.proofs.Places.{both_equal, not_less, then_equal, apart_then, equal_from, neighbours, versions_same, text_keys_same, version_rank_below, rank_below, flag_rank_from, flag_from_place}
 use Rattle.pep508_diagram.proofs.Canonical.{one_diagram}
 
 -- ---- points and boundaries of one variable
@@ -43,15 +43,15 @@ module _ {T : Type 0} {cmp : T → T → Ordering} (total : IsTotalOrder cmp) wh
   below_equal p b c e =
       ap (λ o. not (not (is_gt o))) ((points_total cmp total).congr (point_of b) (point_of c) p e)
 
-  pub below_next : (p : Point T) (b c : Boundary T) → boundary_cmp cmp b c ≡ Less → lies_below cmp p b ≡ true →
-      lies_below cmp p c ≡ true
+  pub below_next : (p : Point T) (b c : Boundary T) → boundary_cmp cmp b c ≡ Less →
+      lies_below cmp p b ≡ true → lies_below cmp p c ≡ true
   below_next p b c less below = elim (cases_Bool (lies_below cmp p c)) [
     | inl so ↦ so
     | inr over ↦
         let reached : is_gt (point_cmp cmp (point_of c) p) ≡ false =
-            sym (not_not (is_gt (point_cmp cmp (point_of c) p))) ∙ over in
+        sym (not_not (is_gt (point_cmp cmp (point_of c) p))) ∙ over in
         let sooner : is_gt (point_cmp cmp (point_of b) p) ≡ false =
-            upto (points_total cmp total) (point_of b) (point_of c) p (ap is_gt less) reached in
+        upto (points_total cmp total) (point_of b) (point_of c) p (ap is_gt less) reached in
         absurd (true≢false (sym below ∙ not_not (is_gt (point_cmp cmp (point_of b) p)) ∙ sooner))
   ]
 
@@ -61,7 +61,8 @@ module _ {T : Type 0} {cmp : T → T → Ordering} (total : IsTotalOrder cmp) wh
       ∙ greater_back (boundary_cmp cmp b c)
 
   -- what a moved variable answers
-  pub moved : (same : Bool) (p q : Point T) (c : Boundary T) (b : Bool) → (same ≡ true → lies_below cmp p c ≡ b) →
+  pub moved : (same : Bool) (p q : Point T) (c : Boundary T) (b : Bool) →
+      (same ≡ true → lies_below cmp p c ≡ b) →
       lies_below cmp (cond same p q) c ≡ cond same b (lies_below cmp q c)
   moved true p q c b so = so refl
   moved false p q c b so = refl
@@ -147,8 +148,8 @@ pub versions_order : (k j : VersionVariable) (b c : Boundary VersionRecord) →
     question_cmp (VersionBelow k b) (VersionBelow j c) ≡ boundary_cmp version_cmp b c
 unfolding question_cmp
 versions_order k j b c e =
-    ap (λ o. ordering_then (ordering_then o Equal) (ordering_then (ordering_then (boundary_cmp version_cmp b c) Equal) Equal))
-    (tied_numbers (version_rank k) (version_rank j) e)
+    let inner = ordering_then (ordering_then (boundary_cmp version_cmp b c) Equal) Equal in
+    ap (λ o. ordering_then (ordering_then o Equal) inner) (tied_numbers (version_rank k) (version_rank j) e)
     ∙ level (boundary_cmp version_cmp b c)
 
 pub texts_order : (k j : MarkerValueString) (b c : Boundary (List ℕ)) →
@@ -162,7 +163,7 @@ texts_order k j b c e =
 
 pub places_share : (q r : Question) → question_cmp q r ≡ Equal → shares_variable q r ≡ true
 unfolding question_cmp shares_variable
-places_share q r e = ap is_eq (both_equal (text_cmp (place_of q) (place_of r)) (ordering_then (slice_cmp (boundary_cmp version_cmp) (version_boundaries q) (version_boundaries r)) (slice_cmp (boundary_cmp text_cmp) (text_boundaries q) (text_boundaries r))) e).0
+places_share q r e = ap is_eq (both_equal (text_cmp (place_of q) (place_of r)) _ e).0
 
 pub share_equiv : IsEquivalence shares_variable
 unfolding shares_variable
@@ -182,12 +183,14 @@ questions_apart =
 pub version_keys : (k j : VersionVariable) (b c : Boundary VersionRecord) →
     shares_variable (VersionBelow k b) (VersionBelow j c) ≡ true → k ≡ j
 version_keys k j b c shared =
-    versions_same k j ((unsigned_Decides (version_rank k) (version_rank j)).0 (sym (versions_share k j b c) ∙ shared))
+    let same : (version_rank k == version_rank j) ≡ true = sym (versions_share k j b c) ∙ shared in
+    versions_same k j ((unsigned_Decides (version_rank k) (version_rank j)).0 same)
 
 pub text_keys : (k j : MarkerValueString) (b c : Boundary (List ℕ)) →
     shares_variable (TextBelow k b) (TextBelow j c) ≡ true → k ≡ j
 text_keys k j b c shared =
-    text_keys_same k j ((unsigned_Decides (text_key_rank k) (text_key_rank j)).0 (sym (texts_share k j b c) ∙ shared))
+    let same : (text_key_rank k == text_key_rank j) ≡ true = sym (texts_share k j b c) ∙ shared in
+    text_keys_same k j ((unsigned_Decides (text_key_rank k) (text_key_rank j)).0 same)
 
 pub flags_shared : (f g : Flag) → shares_variable (IsSet f) (IsSet g) ≡ true → f ≡ g
 unfolding shares_variable
@@ -196,22 +199,23 @@ flags_shared f g shared = flag_from_place f g (equal_from (text_cmp (flag_place 
 pub flags_order : (f g : Flag) → shares_variable (IsSet f) (IsSet g) ≡ true →
     question_cmp (IsSet f) (IsSet g) ≡ Equal
 flags_order f g shared =
-    ap (λ h. question_cmp (IsSet f) (IsSet h)) (sym (flags_shared f g shared)) ∙ tied_itself questions_total (IsSet f)
+    ap (λ h. question_cmp (IsSet f) (IsSet h)) (sym (flags_shared f g shared))
+    ∙ tied_itself questions_total (IsSet f)
 
 pub answers_equal : (v : Valuation) (q r : Question) → question_cmp q r ≡ Equal → answer v q ≡ answer v r
 unfolding answer
 answers_equal v (VersionBelow k b) (VersionBelow j c) e =
     let shared : shares_variable (VersionBelow k b) (VersionBelow j c) ≡ true =
-        places_share (VersionBelow k b) (VersionBelow j c) e in
+    places_share (VersionBelow k b) (VersionBelow j c) e in
     let order : boundary_cmp version_cmp b c ≡ Equal =
-        sym (versions_order k j b c (sym (versions_share k j b c) ∙ shared)) ∙ e in
+    sym (versions_order k j b c (sym (versions_share k j b c) ∙ shared)) ∙ e in
     ap (λ key. lies_below version_cmp (v.version key) b) (version_keys k j b c shared)
     ∙ below_equal version_cmp_total (v.version j) b c order
 answers_equal v (TextBelow k b) (TextBelow j c) e =
     let shared : shares_variable (TextBelow k b) (TextBelow j c) ≡ true =
-        places_share (TextBelow k b) (TextBelow j c) e in
+    places_share (TextBelow k b) (TextBelow j c) e in
     let order : boundary_cmp text_cmp b c ≡ Equal =
-        sym (texts_order k j b c (sym (texts_share k j b c) ∙ shared)) ∙ e in
+    sym (texts_order k j b c (sym (texts_share k j b c) ∙ shared)) ∙ e in
     ap (λ key. lies_below text_cmp (v.text key) b) (text_keys k j b c shared)
     ∙ below_equal nat_list_cmp_total (v.text j) b c order
 answers_equal v (IsSet f) (IsSet g) e = ap v.flag (flags_shared f g (places_share (IsSet f) (IsSet g) e))
@@ -222,15 +226,15 @@ pub below_later : (v : Valuation) (q r : Question) → shares_variable q r ≡ t
 unfolding answer
 below_later v (VersionBelow k b) (VersionBelow j c) shared less below =
     let order : boundary_cmp version_cmp b c ≡ Less =
-        sym (versions_order k j b c (sym (versions_share k j b c) ∙ shared)) ∙ less in
+    sym (versions_order k j b c (sym (versions_share k j b c) ∙ shared)) ∙ less in
     let here : lies_below version_cmp (v.version j) b ≡ true =
-        sym (ap (λ key. lies_below version_cmp (v.version key) b) (version_keys k j b c shared)) ∙ below in
+    sym (ap (λ key. lies_below version_cmp (v.version key) b) (version_keys k j b c shared)) ∙ below in
     below_next version_cmp_total (v.version j) b c order here
 below_later v (TextBelow k b) (TextBelow j c) shared less below =
     let order : boundary_cmp text_cmp b c ≡ Less =
-        sym (texts_order k j b c (sym (texts_share k j b c) ∙ shared)) ∙ less in
+    sym (texts_order k j b c (sym (texts_share k j b c) ∙ shared)) ∙ less in
     let here : lies_below text_cmp (v.text j) b ≡ true =
-        sym (ap (λ key. lies_below text_cmp (v.text key) b) (text_keys k j b c shared)) ∙ below in
+    sym (ap (λ key. lies_below text_cmp (v.text key) b) (text_keys k j b c shared)) ∙ below in
     below_next nat_list_cmp_total (v.text j) b c order here
 below_later v (IsSet f) (IsSet g) shared less below =
     absurd (not_less (sym (flags_order f g shared) ∙ less))
@@ -261,32 +265,30 @@ pub moved_at : (v : Valuation) (q r : Question) →
     answer (at_place v q) r ≡ cond (shares_variable q r) (is_lt (question_cmp q r)) (answer v r)
 unfolding answer at_place shares_variable
 moved_at v (VersionBelow k b) (VersionBelow j c) =
-    moved version_cmp_total (version_rank k == version_rank j) (point_of b) (v.version j) c
-    (is_lt (question_cmp (VersionBelow k b) (VersionBelow j c)))
+    let later : Bool = is_lt (question_cmp (VersionBelow k b) (VersionBelow j c)) in
+    moved version_cmp_total (version_rank k == version_rank j) (point_of b) (v.version j) c later
     (λ same. below_at version_cmp_total b c ∙ ap is_lt (sym (versions_order k j b c same)))
-    ∙ ap (λ same. cond same (is_lt (question_cmp (VersionBelow k b) (VersionBelow j c))) (lies_below version_cmp (v.version j) c))
-      (sym (versions_share k j b c))
+    ∙ ap (λ same. cond same later (lies_below version_cmp (v.version j) c)) (sym (versions_share k j b c))
 moved_at v (TextBelow k b) (TextBelow j c) =
-    moved nat_list_cmp_total (text_key_rank k == text_key_rank j) (point_of b) (v.text j) c
-    (is_lt (question_cmp (TextBelow k b) (TextBelow j c)))
+    let later : Bool = is_lt (question_cmp (TextBelow k b) (TextBelow j c)) in
+    moved nat_list_cmp_total (text_key_rank k == text_key_rank j) (point_of b) (v.text j) c later
     (λ same. below_at nat_list_cmp_total b c ∙ ap is_lt (sym (texts_order k j b c same)))
-    ∙ ap (λ same. cond same (is_lt (question_cmp (TextBelow k b) (TextBelow j c))) (lies_below text_cmp (v.text j) c))
-      (sym (texts_share k j b c))
+    ∙ ap (λ same. cond same later (lies_below text_cmp (v.text j) c)) (sym (texts_share k j b c))
 moved_at v (IsSet f) (IsSet g) = flag_moved v f g (shares_variable (IsSet f) (IsSet g)) refl
 moved_at v q r = ap (λ same. cond same (is_lt (question_cmp q r)) (answer v r)) (sym (mixed_apart q r tt))
 
 pub asks : IsAsking marker
 asks = record {
-    total = questions_total;
-    equal_share = places_share;
-    shares_turned = share_equiv.symm;
-    shares_on = share_equiv.congr;
-    apart = questions_apart;
-    answers_equal = answers_equal;
-    below_later = below_later;
-    moved_below = moved_below;
-    moved_at = moved_at
-  }
+  total = questions_total;
+  equal_share = places_share;
+  shares_turned = share_equiv.symm;
+  shares_on = share_equiv.congr;
+  apart = questions_apart;
+  answers_equal = answers_equal;
+  below_later = below_later;
+  moved_below = moved_below;
+  moved_at = moved_at;
+}
 
 -- a valuation: each variable below all of its boundaries
 pub lowest : Valuation
