@@ -18,7 +18,8 @@ module _ {Q V : Type 0} {ask : Asking Q V} (laws : IsAsking ask) where
   alike_back (Leaf b) (Leaf c) a = sym a
   alike_back (Leaf b) (Test r m k) a = a
   alike_back (Test q l h) (Leaf c) a = a
-  alike_back (Test q l h) (Test r m k) a = (tied_back laws.total q r a.0, alike_back l m a.1, alike_back h k a.2)
+  alike_back (Test q l h) (Test r m k) a =
+      (tied_back laws.total q r a.0, alike_back l m a.1, alike_back h k a.2)
 
   pub alike_on : (d e f : Diagram Q) → IsAlike ask d e → IsAlike ask e f → IsAlike ask d f
   alike_on (Leaf b) (Leaf c) (Leaf a) s t = s ∙ t

@@ -4,7 +4,7 @@ use Rattle.std.proofs.lemmas.Bool.{cases_Bool}
 use Rattle.std.proofs.lemmas.Cmp.{tied_itself}
 use Rattle.pep508_diagram.specs.Diagram.{Diagram, Leaf, Test, Asking, IsAsking, OneDiagramBy, truth_by, IsAlike, RootAbove, RootAfter, front_by, IsCanonicalBy}
 use Rattle.pep508_diagram.proofs.Alike.{three_ways, alike_truth, alike_back, alike_on, after_equal, above_equal}
-use Rattle.pep508_diagram.proofs.Moved.{skip, front_where_yes, at_low, at_high, at_between, below_differs, at_differs, above_shared}
+use Rattle.pep508_diagram.proofs.Moved.{skip_below, skip_at, front_where_yes, at_low, at_high, at_between, above_shared}
 
 pub size : {Q : Type 0} → Diagram Q → ℕ
 size (Leaf b) = 1
@@ -26,10 +26,11 @@ size_high q l h = omega arith
 module _ {Q V : Type 0} {ask : Asking Q V} (laws : IsAsking ask) where
   pub size_front : (q : Q) (d : Diagram Q) → size (front_by ask q d) ≤ size d
   size_front q (Leaf b) = omega arith
-  size_front q (Test r l h) = elim (ask.shares q r) as (λ b. size (cond b l (Test r l h)) ≤ size (Test r l h)) [
-    | true ↦ omega (arith, size_low r l h)
-    | false ↦ omega arith
-  ]
+  size_front q (Test r l h) =
+      elim (ask.shares q r) as (λ b. size (cond b l (Test r l h)) ≤ size (Test r l h)) [
+        | true ↦ omega (arith, size_low r l h)
+        | false ↦ omega arith
+      ]
 
   pub front_canonical : (q : Q) (d : Diagram Q) → IsCanonicalBy ask d → IsCanonicalBy ask (front_by ask q d)
   front_canonical q (Leaf b) c = tt
@@ -65,8 +66,8 @@ module _ {Q V : Type 0} {ask : Asking Q V} (laws : IsAsking ask) where
         RootAbove ask q d → Agree (Test q l h) d → ⊥
     not_asked d small cd above agree =
         no_such d (omega (arith, size_low q l h)) (omega (arith, size_high q l h)) cd
-        (λ v. sym (low_is v) ∙ agree (ask.below_all v q) ∙ skip laws d q v (ask.below_all v q) (below_differs laws q v) cd above)
-        (λ v. sym (high_is v) ∙ agree (ask.at_place v q) ∙ skip laws d q v (ask.at_place v q) (at_differs laws q v) cd above)
+        (λ v. sym (low_is v) ∙ agree (ask.below_all v q) ∙ skip_below laws d q v cd above)
+        (λ v. sym (high_is v) ∙ agree (ask.at_place v q) ∙ skip_at laws d q v cd above)
 
     module _ (r : Q) (m k : Diagram Q) (e : IsCanonicalBy ask (Test r m k)) where
       -- nor do questions about one variable at two places
@@ -74,7 +75,8 @@ module _ {Q V : Type 0} {ask : Asking Q V} (laws : IsAsking ask) where
           ask.shares q r ≡ true → Agree (Test q l h) (Test r m k) → ⊥
       not_two small less shared agree =
           let above : RootAbove ask q m = above_shared laws q r m less shared e.2 in
-          no_such m (omega (arith, size_low q l h, size_low r m k)) (omega (arith, size_high q l h, size_low r m k)) e.0
+          no_such m (omega (arith, size_low q l h, size_low r m k))
+          (omega (arith, size_high q l h, size_low r m k)) e.0
           (λ v. sym (low_is v) ∙ agree (ask.below_all v q) ∙ at_low laws q r m k v shared e.0 above)
           (λ v. sym (high_is v) ∙ agree (ask.at_place v q) ∙ at_between laws q r m k v shared less e.0 above)
 
@@ -101,14 +103,18 @@ module _ {Q V : Type 0} {ask : Asking Q V} (laws : IsAsking ask) where
       pub same_low : ask.cmp q r ≡ Equal → Agree (Test q l h) (Test r m k) → Agree l m
       same_low same agree v =
           let above : RootAbove ask q m = above_equal laws q r m same e.2 in
-          sym (low_is v) ∙ agree (ask.below_all v q) ∙ at_low laws q r m k v (laws.equal_share q r same) e.0 above
+          sym (low_is v) ∙ agree (ask.below_all v q)
+          ∙ at_low laws q r m k v (laws.equal_share q r same) e.0 above
 
       pub same_roots : size (Test q l h) + size (Test r m k) ≤ suc n → ask.cmp q r ≡ Equal →
           Agree (Test q l h) (Test r m k) → IsAlike ask (Test q l h) (Test r m k)
       same_roots small same agree =
           let lows : size l + size m ≤ n = omega (arith, size_low q l h, size_low r m k) in
-          let highs : size h + size k ≤ n = omega (arith, size_high q l h, size_high r m k) in
-          (same, smaller l m lows c.0 e.0 (same_low same agree), smaller h k highs c.1 e.1 (same_high same agree))
+          let highs : size h + size k ≤ n = omega (arith, size_high q l h, size_high r m k) in (
+            same,
+            smaller l m lows c.0 e.0 (same_low same agree),
+            smaller h k highs c.1 e.1 (same_high same agree),
+          )
 
   pub turned_round : (d e : Diagram Q) → Agree d e → Agree e d
   turned_round d e agree v = sym (agree v)
@@ -117,7 +123,8 @@ module _ {Q V : Type 0} {ask : Asking Q V} (laws : IsAsking ask) where
   by_size some zero d e small cd ce agree = absurd (omega (arith, size_positive d))
   by_size some (suc n) (Leaf b) (Leaf c) small cd ce agree = agree some
   by_size some (suc n) (Leaf b) (Test r m k) small cd ce agree =
-      not_asked n (by_size some n) r m k ce (Leaf b) (omega arith) tt tt (turned_round (Leaf b) (Test r m k) agree)
+      not_asked n (by_size some n) r m k ce (Leaf b) (omega arith) tt tt
+      (turned_round (Leaf b) (Test r m k) agree)
   by_size some (suc n) (Test q l h) (Leaf c) small cd ce agree =
       not_asked n (by_size some n) q l h cd (Leaf c) small tt tt agree
   by_size some (suc n) (Test q l h) (Test r m k) small cd ce agree = elim (three_ways (ask.cmp q r)) [
@@ -125,7 +132,8 @@ module _ {Q V : Type 0} {ask : Asking Q V} (laws : IsAsking ask) where
     | inr (inl same) ↦ same_roots n (by_size some n) q l h cd r m k ce small same agree
     | inr (inr more) ↦
         let less : ask.cmp r q ≡ Less = laws.total.antisymm r q ∙ rw more refl in
-        absurd (less_roots n (by_size some n) r m k ce q l h cd (omega arith) less (turned_round (Test q l h) (Test r m k) agree))
+        let back : Agree (Test r m k) (Test q l h) = turned_round (Test q l h) (Test r m k) agree in
+        absurd (less_roots n (by_size some n) r m k ce q l h cd (omega arith) less back)
   ]
 
 pub one_diagram : (Q V : Type 0) (ask : Asking Q V) → IsAsking ask → V → OneDiagramBy ask
@@ -133,6 +141,7 @@ one_diagram Q V ask laws some d e cd ce agree =
     by_size laws some (size d + size e) d e (omega arith) cd ce agree
 
 -- canonical diagrams are alike exactly where they mean the same
-pub alike_exactly : (Q V : Type 0) (ask : Asking Q V) → IsAsking ask → V → (d e : Diagram Q) → IsCanonicalBy ask d →
+pub alike_exactly : (Q V : Type 0) (ask : Asking Q V) → IsAsking ask → V → (d e : Diagram Q) →
+    IsCanonicalBy ask d →
     IsCanonicalBy ask e → IsAlike ask d e ↔ ((v : V) → truth_by ask d v ≡ truth_by ask e v)
 alike_exactly Q V ask laws some d e cd ce = (alike_truth laws d e, one_diagram Q V ask laws some d e cd ce)

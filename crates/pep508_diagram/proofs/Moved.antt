@@ -16,7 +16,8 @@ module _ {Q V : Type 0} {ask : Asking Q V} (laws : IsAsking ask) where
   pub above_on : (q r : Q) (d : Diagram Q) → ask.cmp q r ≡ Less → ask.shares q r ≡ false →
       RootAfter ask r d → RootAbove ask q d
   above_on q r (Leaf b) less free after = tt
-  above_on q r (Test s l h) less free after = (laws.total.trans q r s less after, laws.apart q r s less free after)
+  above_on q r (Test s l h) less free after =
+      (laws.total.trans q r s less after, laws.apart q r s less free after)
 
   pub above_shared : (q r : Q) (d : Diagram Q) → ask.cmp q r ≡ Less → ask.shares q r ≡ true →
       RootAbove ask r d → RootAbove ask q d
@@ -44,7 +45,8 @@ module _ {Q V : Type 0} {ask : Asking Q V} (laws : IsAsking ask) where
       IsCanonicalBy ask d → RootAfter ask q d → truth_by ask d w ≡ truth_by ask (front_by ask q d) v
   at_front (Leaf b) q v w same below c after = refl
   at_front (Test r l h) q v w same below c after = elim (cases_Bool (ask.shares q r)) [
-    | inl shared ↦ rw (shared, below r shared after) (skip l q v w same c.0 (above_shared q r l after shared c.2))
+    | inl shared ↦
+        rw (shared, below r shared after) (skip l q v w same c.0 (above_shared q r l after shared c.2))
     | inr free ↦ rw free (skip (Test r l h) q v w same c (after, free))
   ]
 
@@ -56,7 +58,8 @@ module _ {Q V : Type 0} {ask : Asking Q V} (laws : IsAsking ask) where
 
   pub at_answer : (q r : Q) (v : V) → ask.shares q r ≡ true →
       ask.answer (ask.at_place v q) r ≡ is_lt (ask.cmp q r)
-  at_answer q r v shared = laws.moved_at v q r ∙ ap (λ b. cond b (is_lt (ask.cmp q r)) (ask.answer v r)) shared
+  at_answer q r v shared =
+      laws.moved_at v q r ∙ ap (λ b. cond b (is_lt (ask.cmp q r)) (ask.answer v r)) shared
 
   pub at_below : (q : Q) (v : V) → IsBelowLater ask q (ask.at_place v q)
   at_below q v r shared less = at_answer q r v shared ∙ ap is_lt less
@@ -67,13 +70,21 @@ module _ {Q V : Type 0} {ask : Asking Q V} (laws : IsAsking ask) where
   front_where_yes d q v below c after =
       at_front d q v v (λ r free. refl) (λ r shared less. laws.below_later v q r shared less below) c after
 
+  pub skip_below : (d : Diagram Q) (q : Q) (v : V) → IsCanonicalBy ask d → RootAbove ask q d →
+      truth_by ask d (ask.below_all v q) ≡ truth_by ask d v
+  skip_below d q v c above = skip d q v (ask.below_all v q) (below_differs q v) c above
+
+  pub skip_at : (d : Diagram Q) (q : Q) (v : V) → IsCanonicalBy ask d → RootAbove ask q d →
+      truth_by ask d (ask.at_place v q) ≡ truth_by ask d v
+  skip_at d q v c above = skip d q v (ask.at_place v q) (at_differs q v) c above
+
   -- below all places the first branch speaks
   pub at_low : (q r : Q) (l h : Diagram Q) (v : V) → ask.shares q r ≡ true → IsCanonicalBy ask l →
       RootAbove ask q l → truth_by ask (Test r l h) (ask.below_all v q) ≡ truth_by ask l v
   at_low q r l h v shared c above =
       let test : ask.answer (ask.below_all v q) r ≡ true =
       laws.moved_below v q r ∙ ap (λ b. cond b true (ask.answer v r)) shared in
-      rw test (skip l q v (ask.below_all v q) (below_differs q v) c above)
+      rw test (skip_below l q v c above)
 
   -- at an equal question's place the front of the second branch speaks
   pub at_high : (q r : Q) (l h : Diagram Q) (v : V) → ask.cmp q r ≡ Equal → IsCanonicalBy ask h →
@@ -85,6 +96,7 @@ module _ {Q V : Type 0} {ask : Asking Q V} (laws : IsAsking ask) where
 
   -- at an earlier place of the variable the first branch speaks
   pub at_between : (q r : Q) (l h : Diagram Q) (v : V) → ask.shares q r ≡ true → ask.cmp q r ≡ Less →
-      IsCanonicalBy ask l → RootAbove ask q l → truth_by ask (Test r l h) (ask.at_place v q) ≡ truth_by ask l v
+      IsCanonicalBy ask l → RootAbove ask q l →
+      truth_by ask (Test r l h) (ask.at_place v q) ≡ truth_by ask l v
   at_between q r l h v shared less c above =
-      rw (at_below q v r shared less) (skip l q v (ask.at_place v q) (at_differs q v) c above)
+      rw (at_below q v r shared less) (skip_at l q v c above)

@@ -24,7 +24,8 @@ pub turned_not : {Q : Type 0} (d : Diagram Q) → turned_by false d ≡ d
 turned_not (Leaf b) = refl
 turned_not (Test q l h) = rw (turned_not l, turned_not h) refl
 
-pub leftmost_turned : {Q : Type 0} (t : Bool) (d : Diagram Q) → leftmost (turned_by t d) ≡ flips t (leftmost d)
+pub leftmost_turned : {Q : Type 0} (t : Bool) (d : Diagram Q) →
+    leftmost (turned_by t d) ≡ flips t (leftmost d)
 leftmost_turned t (Leaf b) = refl
 leftmost_turned t (Test q l h) = leftmost_turned t l
 
@@ -33,13 +34,15 @@ module _ {Q V : Type 0} (ask : Asking Q V) where
       truth_by ask (turned_by t d) v ≡ flips t (truth_by ask d v)
   turned_truth t (Leaf b) v = refl
   turned_truth t (Test q l h) v =
-      rw (turned_truth t l v, turned_truth t h v) (along (ask.answer v q) (truth_by ask l v) (truth_by ask h v))
+      rw (turned_truth t l v, turned_truth t h v)
+      (along (ask.answer v q) (truth_by ask l v) (truth_by ask h v))
     where
       along : (b x y : Bool) → cond b (flips t x) (flips t y) ≡ flips t (cond b x y)
       along true x y = refl
       along false x y = refl
 
-  pub alike_turned : (t : Bool) (d e : Diagram Q) → IsAlike ask d e → IsAlike ask (turned_by t d) (turned_by t e)
+  pub alike_turned : (t : Bool) (d e : Diagram Q) → IsAlike ask d e →
+      IsAlike ask (turned_by t d) (turned_by t e)
   alike_turned t (Leaf b) (Leaf c) a = ap (flips t) a
   alike_turned t (Leaf b) (Test r m k) a = a
   alike_turned t (Test q l h) (Leaf c) a = a
@@ -53,7 +56,8 @@ module _ {Q V : Type 0} (ask : Asking Q V) where
   alike_turned_back t (Test q l h) (Test r m k) a =
       (a.0, alike_turned_back t l m a.1, alike_turned_back t h k a.2)
 
-  pub front_turned : (t : Bool) (q : Q) (d : Diagram Q) → front_by ask q (turned_by t d) ≡ turned_by t (front_by ask q d)
+  pub front_turned : (t : Bool) (q : Q) (d : Diagram Q) →
+      front_by ask q (turned_by t d) ≡ turned_by t (front_by ask q d)
   front_turned t q (Leaf b) = refl
   front_turned t q (Test r l h) = along (ask.shares q r) l (Test r l h)
     where
