@@ -1,0 +1,13 @@
+//! Decision diagrams over environment markers (PEP 508, "Environment Markers"): definitions and laws.
+#![tactic(auto)]
+
+mod branch;
+pub mod laws;
+mod text;
+mod value;
+mod variable;
+
+pub use branch::{Branch, branch_at, paired};
+pub use text::MarkerText;
+pub use value::NodeValue;
+pub use variable::{Flag, VersionVariable};
