@@ -3,7 +3,9 @@
 #![tactic(auto)]
 
 mod keys;
+mod operators;
 mod warnings;
 
 pub use keys::{MarkerValueString, MarkerValueVersion};
+pub use operators::{ExtraOperator, MarkerOperator, MarkerTextError};
 pub use warnings::{MarkerWarningKind, Reporter, Silent};
