@@ -1,5 +1,5 @@
 -- What stands between rising boundaries.
-use Rattle.std.proofs.Common.{◌≡◌, ◌⊎◌, inl, inr, ℕ, zero, suc, ◌+◌, ◌<◌, ◌≤◌, Bool, true, false, not, cond, List, [], ◌∷◌, ◌++◌, map, length, get_or, refl, sym, ap, subst, ◌∙◌, arith}
+use Rattle.std.proofs.Common.{◌≡◌, inl, inr, ℕ, zero, suc, ◌<◌, Bool, true, false, not, cond, List, [], ◌∷◌, ◌++◌, map, length, get_or, refl, sym, ap, subst, ◌∙◌, arith}
 use Rattle.std.proofs.lemmas.Bool.{cases_Bool}
 use Rattle.std.specs.List.{AllByRecursion}
 use Rattle.std.specs.List.Sorted.{IsPartitionedBy, IsPartitionPoint}
@@ -12,7 +12,7 @@ use Rattle.version_ranges.specs.declared.boundary.Boundary.TheVariants as bounda
 use Rattle.version_ranges.specs.Point.{Point, BelowAll, point_cmp}
 use Rattle.version_ranges.specs.Boundaries.{point_of, boundary_cmp}
 use Rattle.version_ranges.specs.OrderLaws.{points_total, boundaries_total}
-use Rattle.version_ranges.specs.Turns.{reaches, Rising}
+use Rattle.version_ranges.specs.Turns.{reaches}
 use Rattle.version_ranges.proofs.Membership.{past_less, before_less, reached_itself, not_later}
 use Rattle.pep508_diagram.specs.declared.branch.Branch.{Branch}
 use Rattle.pep508_diagram.specs.Branches.{RisingBranches, branch_at, AllBranches}
@@ -149,9 +149,9 @@ module _ {T C : Type 0} (cmp : T → T → Ordering) where
   branch_at_below first [] = refl
   branch_at_below first (branch ∷ later) = elim branch.boundary as (λ b.
       cond (reaches (point_cmp cmp) (point_of b) BelowAll) (branch_at cmp branch.child later BelowAll) first ≡ first) [
-    | boundary.At v ↦ refl
-    | boundary.JustAbove v ↦ refl
-  ]
+        | boundary.At v ↦ refl
+        | boundary.JustAbove v ↦ refl
+      ]
 
 module _ {T C : Type 0} {cmp : T → T → Ordering} (o : IsTotalOrder cmp) where
   none_at_own : (t : Boundary T) (later : List (Branch T C)) → Before cmp t later → NoneReached cmp (point_of t) later
@@ -191,8 +191,7 @@ module _ {T C : Type 0} {cmp : T → T → Ordering} (o : IsTotalOrder cmp) wher
     none_reached cmp first (branch ∷ later) (point_of t) (none_at_own t (branch ∷ later) before) ∙ sym is,
   )
   point_from t first (branch ∷ later) c before rising (inr is) =
-      let found = point_from branch.boundary branch.child later c rising.0 rising.1 is in
-      (
+      let found = point_from branch.boundary branch.child later c rising.0 rising.1 is in (
         found.0,
         past_less (point_cmp cmp) (points_total cmp o) (point_of t) (point_of branch.boundary) found.0
             (point_cmp cmp (point_of branch.boundary) found.0) refl before.0

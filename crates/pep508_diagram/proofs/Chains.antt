@@ -1,11 +1,9 @@
 -- Branches of a key of versions or of texts, and flags, as diagrams of markers.
-use Rattle.std.proofs.Common.{◌≡◌, ℕ, ◌==◌, Bool, true, List, [], ◌∷◌, refl, sym, ap, ◌∙◌}
+use Rattle.std.proofs.Common.{◌≡◌, ℕ, ◌==◌, true, List, [], ◌∷◌, refl, ap, ◌∙◌}
 use Rattle.std.specs.Ordering.{ordering_then, is_eq}
 use Rattle.std.specs.Cmp.{unsigned_Decides}
 use Rattle.std.specs.Cmp.Lexicographic.{slice_cmp, nat_list_cmp_total}
-use Rattle.std.specs.declared.cmp.Ordering.{Ordering}
-use Rattle.std.specs.declared.cmp.Ordering.TheVariants.{Less, Equal}
-use Rattle.version_ranges.specs.declared.boundary.Boundary.{Boundary}
+use Rattle.std.specs.declared.cmp.Ordering.TheVariants.{Less}
 use Rattle.version_ranges.specs.Boundaries.{boundary_cmp}
 use Rattle.pep440_rs.specs.Record.{VersionRecord}
 use Rattle.pep440_rs.specs.Order.{version_cmp}
@@ -24,6 +22,8 @@ use Rattle.pep508_diagram.proofs.Pairing.{weaker_branches}
 use Rattle.pep508_diagram.proofs.Places.{both_equal, less_from, texts_same}
 use Rattle.pep508_diagram.proofs.Questions.{asks, versions_order, texts_order, versions_share, texts_share, places_share, no_mixed, version_keys, text_keys, flags_shared}
 use Rattle.pep508_diagram.proofs.Keyed.{IsKey, IsAboveAll, truth_chain, canonical_test, canonical_chain, chain_one}
+pub use Rattle.pep508_diagram.proofs.Branching.{all_children, branch_at_child, branch_at_below, branch_at_own, child_point}
+pub use Rattle.pep508_diagram.proofs.Turns.{turns_held, turns_rise, turns_differ}
 
 pub versions_key : (key : VersionVariable) → IsKey marker version_cmp (VersionBelow key) (λ v. v.version key)
 unfolding answer
