@@ -1,3 +1,2 @@
 pub mod Tree
 pub mod Meaning
-pub mod Comparisons

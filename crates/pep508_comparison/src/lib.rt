@@ -1,0 +1,2 @@
+//! Which versions the comparisons of environment markers hold (PEP 508, "Environment Markers").
+#![tactic(auto)]
