@@ -200,6 +200,10 @@ def function_at(file, text, at):
     if not blocks:
         return None
     block, of = blocks[-1], None
+    at_types = re.fullmatch(r"\s+(\w+)<([^<>]+)>\s*", block)
+    if at_types:
+        types = [it.strip() for it in at_types[2].split(",") if not it.strip().startswith("'")]
+        return "::".join(["+".join([at_types[1], *types]), header[2]])
     while of != block:
         of, block = block, re.sub(r"<[^<>]*>", "", block)
     names = [it.strip().rpartition("::")[2] for it in block.partition(" where ")[0].split(" for ")]

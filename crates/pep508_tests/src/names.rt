@@ -4,50 +4,29 @@ use serde_json::Value;
 use std::hash::{DefaultHasher, Hash, Hasher};
 use std::test::Fail;
 
-const NAMES: [(&str, &str); 5] = [
-    ("FrIeNdLy-._.-bArD", "friendly-bard"),
-    ("friendly--bard", "friendly-bard"),
-    ("1okay", "1okay"),
-    ("A", "a"),
-    ("a_.-b.C--d", "a-b-c-d"),
-];
-
-const OTHERS: [&str; 6] = [" a", "-a", "a-", "a!", "alpha-α", ""];
-
+// What comes of which text is asked by `pep508_vectors`; here each call is made once.
 #[test]
 fn reads_names_of_packages(rt: HostRuntime) -> Result<(), Fail> {
-    for (text, want) in NAMES {
-        let name = PackageName::from_str(rt.alloc(), text)?;
-        assert_eq!(rt; name.as_str(), want);
-        assert_eq!(rt; name.to_string(rt.alloc())?.as_str(), want);
-        assert!(rt; name.try_clone(rt.alloc())? == name);
-        assert!(rt; is_name(text));
-    }
+    let name = PackageName::from_str(rt.alloc(), "A.b")?;
+    assert_eq!(rt; name.as_str(), "a-b");
+    assert!(rt; name.try_clone(rt.alloc())? == name);
     Ok(())
 }
 
 #[test]
 fn reads_names_of_extras(rt: HostRuntime) -> Result<(), Fail> {
-    for (text, want) in NAMES {
-        let name = ExtraName::from_str(rt.alloc(), text)?;
-        assert_eq!(rt; name.as_str(), want);
-        assert_eq!(rt; name.to_string(rt.alloc())?.as_str(), want);
-        assert!(rt; name.try_clone(rt.alloc())? == name);
-    }
+    let name = ExtraName::from_str(rt.alloc(), "A.b")?;
+    assert_eq!(rt; name.as_str(), "a-b");
+    assert_eq!(rt; name.to_string(rt.alloc())?.as_str(), "a-b");
+    assert!(rt; name.try_clone(rt.alloc())? == name);
     Ok(())
 }
 
 #[test]
-fn refuses_other_texts(rt: HostRuntime) -> Result<(), Fail> {
-    for text in OTHERS {
-        match PackageName::from_str(rt.alloc(), text) {
-            Ok(_) => assert!(rt; false, "taken: {text}"),
-            Err(error) => assert_eq!(rt; error.as_str(), text),
-        }
-        assert!(rt; ExtraName::from_str(rt.alloc(), text).is_err());
-        assert!(rt; !is_name(text), "a name: {text}");
-    }
-    Ok(())
+fn refuses_other_texts(rt: HostRuntime) {
+    let error = ExtraName::from_str(rt.alloc(), "a-").err();
+    assert!(rt; matches!(&error, Some(InvalidNameError::InvalidName(_))));
+    assert!(rt; is_name("A.b") && !is_name("a-"));
 }
 
 #[test]
@@ -95,18 +74,19 @@ fn compares_names(rt: HostRuntime) -> Result<(), Fail> {
 #[test]
 fn reads_owned_texts(rt: HostRuntime) -> Result<(), Fail> {
     let alloc = rt.alloc();
-    for (text, want) in NAMES {
-        let package = PackageName::new(alloc, String::from_str(alloc, text)?)?;
-        assert_eq!(rt; package.as_str(), want);
-        let extra = ExtraName::new(alloc, String::from_str(alloc, text)?)?;
-        assert_eq!(rt; extra.as_str(), want);
-    }
-    for text in OTHERS {
-        match PackageName::new(alloc, String::from_str(alloc, text)?) {
-            Ok(_) => assert!(rt; false, "taken: {text}"),
-            Err(error) => assert_eq!(rt; error.as_str(), text),
-        }
-        assert!(rt; ExtraName::new(alloc, String::from_str(alloc, text)?).is_err());
+    let package = PackageName::new(alloc, String::from_str(alloc, "A.b")?)?;
+    assert_eq!(rt; package.as_str(), "a-b");
+    let extra = ExtraName::new(alloc, String::from_str(alloc, "A.b")?)?;
+    assert_eq!(rt; extra.as_str(), "a-b");
+    Ok(())
+}
+
+#[test]
+fn refuses_other_owned_texts(rt: HostRuntime) -> Result<(), Fail> {
+    let text = String::from_str(rt.alloc(), "a-")?;
+    match PackageName::new(rt.alloc(), text) {
+        Ok(_) => assert!(rt; false, "taken"),
+        Err(error) => assert_eq!(rt; error.as_str(), "a-"),
     }
     Ok(())
 }
