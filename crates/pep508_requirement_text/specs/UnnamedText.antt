@@ -7,8 +7,8 @@ use Rattle.pep508_requirement_text.specs.UrlEnds.{IsUrlBefore}
 use Rattle.pep508_requirement_text.specs.FrontText.{IsInside}
 use Rattle.pep508_requirement_text.specs.UnnamedReading.{UnnamedFront}
 
--- the characters are a URL and extras in the brackets with which they end; where they end in none, they are the
--- URL
+-- the characters are a URL and extras in the brackets with which they end; where they end in none, they are
+-- the URL
 abbrev pub EndsInExtras : List ℕ → List ℕ → List (List ℕ) → Type 0
 EndsInExtras written url names =
     ((brackets : List ℕ) × (split : IsExtrasSplit written url brackets) × IsInside split.inside names)

@@ -71,8 +71,8 @@ pub fn a_text_has_an_unnamed_reading()
     ensures { (text : List ℕ) → (reading : Reading UnnamedFront) × IsUnnamedReading text reading }
 {}
 
-/// What is read at the front of a text where no name is wanted stands there as the grammar has it: white space,
-/// and a URL with extras at its end.
+/// What is read at the front of a text where no name is wanted stands there as the grammar has it: white
+/// space, and a URL with extras at its end.
 pub fn a_read_unnamed_front_is_written()
     ensures { (text : List ℕ) (front : UnnamedFront) (rest : List ℕ)
         → IsUnnamedReading text (Ok (front, rest)) → IsUnnamedText text front rest }

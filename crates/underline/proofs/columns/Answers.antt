@@ -1,4 +1,4 @@
-use Rattle.std.proofs.Common.{rules, ℕ, ◌+◌, ◌^◌, ◌<◌, length, sym, ap, subst, arith}
+use Rattle.std.proofs.Common.{rules, ◌+◌, ◌^◌, ◌<◌, length, sym, subst, arith}
 use Rattle.std.specs.Str.Iter.{chars_rest}
 use Rattle.underline.proofs.Widths.{IsCounted, counted_more, counted_all}
 use Rattle.underline.proofs.columns.Goals as goal
