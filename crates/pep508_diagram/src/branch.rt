@@ -86,7 +86,7 @@ fn next_branch<'a, T: Ord, C: Copy>(
 }
 
 /// A copy of a boundary, the very same.
-fn copy_of<T: NodeValue>(alloc: Global, boundary: &Boundary<T>) -> Result<Boundary<T>, AllocError>
+pub(crate) fn copy_of<T: NodeValue>(alloc: Global, boundary: &Boundary<T>) -> Result<Boundary<T>, AllocError>
     ensures { IfOk result (λ copy. copy ≡ boundary.now) }
 {
     Ok(match boundary {
