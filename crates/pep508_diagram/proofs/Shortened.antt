@@ -1,5 +1,5 @@
 -- A version without the zeros at its release's end stands where it stood.
-use Rattle.std.proofs.Common.{◌≡◌, ℕ, ◌==◌, Bool, true, false, not, if◌then◌else◌, List, [], ◌∷◌, map, refl, sym, ap, ◌∙◌}
+use Rattle.std.proofs.Common.{◌≡◌, ℕ, ◌==◌, Bool, true, false, not, if◌then◌else◌, List, [], ◌∷◌, map, refl, ap, ◌∙◌}
 use Rattle.std.specs.Ordering.{ordering_then}
 use Rattle.std.specs.Cmp.{tied_itself}
 use Rattle.std.specs.Cmp.Lexicographic.{slice_cmp}
@@ -68,10 +68,12 @@ all_tied : (boundaries : List (Boundary VersionRecord)) →
     slice_cmp (boundary_cmp version_cmp) (map shortened boundaries) boundaries ≡ Equal
 all_tied [] = refl
 all_tied (b ∷ later) =
-    ap (λ o. ordering_then o (slice_cmp (boundary_cmp version_cmp) (map shortened later) later)) (shortened_tied b)
+    ap (λ o. ordering_then o (slice_cmp (boundary_cmp version_cmp) (map shortened later) later))
+    (shortened_tied b)
     ∙ all_tied later
 
-pub shortened_rise : (boundaries : List (Boundary VersionRecord)) → Rising (boundary_cmp version_cmp) boundaries →
+pub shortened_rise : (boundaries : List (Boundary VersionRecord)) →
+    Rising (boundary_cmp version_cmp) boundaries →
     Rising (boundary_cmp version_cmp) (map shortened boundaries)
 shortened_rise boundaries rising =
     tied_rises (boundaries_total version_cmp version_cmp_total) (map shortened boundaries) boundaries
@@ -86,7 +88,8 @@ shortened_points first [] p = refl
 shortened_points first (b ∷ later) p =
     let same : reaches (point_cmp version_cmp) (point_of (shortened b)) p
     ≡ reaches (point_cmp version_cmp) (point_of b) p =
-    like (point_cmp version_cmp) (points_total version_cmp version_cmp_total) (point_of (shortened b)) (point_of b) p
+    like (point_cmp version_cmp) (points_total version_cmp version_cmp_total) (point_of (shortened b))
+    (point_of b) p
     (shortened_tied b) in
     rw (same, shortened_points (not first) later p) refl
 

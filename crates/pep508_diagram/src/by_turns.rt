@@ -15,8 +15,8 @@ use pep440_version::Version;
 use std::alloc::{AllocError, Global};
 use version_ranges::Boundary;
 
-/// The branches of a set that holds the point below all, or does not, and at each of whose boundaries membership
-/// turns. Copies each boundary once.
+/// The branches of a set that holds the point below all, or does not, and at each of whose boundaries
+/// membership turns. Copies each boundary once.
 pub fn turned_branches<T: NodeValue>(
     alloc: Global,
     starts_held: bool,
@@ -45,12 +45,14 @@ fn short_copy_of(
 {
     Ok(match boundary {
         Boundary::At(version) => Boundary::At(version.copied(alloc)?.without_end_zeros()),
-        Boundary::JustAbove(version) => Boundary::JustAbove(version.copied(alloc)?.without_end_zeros()),
+        Boundary::JustAbove(version) => Boundary::JustAbove(
+            version.copied(alloc)?.without_end_zeros(),
+        ),
     })
 }
 
-/// The same for a set of versions, with each boundary at the version without the zeros at its release's end: the
-/// same place, since these change no order. Copies each boundary once.
+/// The branches of a set of versions, with each boundary at the version without the zeros at its release's
+/// end, which is the same place. Copies each boundary once.
 pub fn turned_versions(
     alloc: Global,
     starts_held: bool,
