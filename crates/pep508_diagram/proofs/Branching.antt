@@ -35,7 +35,8 @@ module _ {T C : Type 0} (cmp : T → T → Ordering) where
 
   -- a boundary comes before those of all branches
   abbrev pub Before : Boundary T → List (Branch T C) → Type 0
-  Before t later = AllByRecursion (λ other. boundary_cmp cmp t other ≡ Less) (map (λ branch. branch.boundary) later)
+  Before t later = AllByRecursion (λ other. boundary_cmp cmp t other ≡ Less)
+      (map (λ branch. branch.boundary) later)
 
   -- no branch's boundary lies at the point or before it
   abbrev pub NoneReached : Point T → List (Branch T C) → Type 0
@@ -59,8 +60,10 @@ module _ {T C : Type 0} {cmp : T → T → Ordering} (o : IsTotalOrder cmp) wher
   )
 
   pub before_unreached : (t : Boundary T) (first : C) (later : List (Branch T C)) (p : Point T) →
-      reaches (point_cmp cmp) (point_of t) p ≡ false → Before cmp t later → branch_at cmp first later p ≡ first
-  before_unreached t first later p over before = none_reached cmp first later p (unreached t later p over before)
+      reaches (point_cmp cmp) (point_of t) p ≡ false → Before cmp t later →
+      branch_at cmp first later p ≡ first
+  before_unreached t first later p over before =
+      none_reached cmp first later p (unreached t later p over before)
 
   -- an earlier boundary comes before what a later one comes before
   pub before_earlier : (s t : Boundary T) (later : List (Branch T C)) → boundary_cmp cmp s t ≡ Less →
@@ -75,8 +78,10 @@ module _ {T C : Type 0} {cmp : T → T → Ordering} (o : IsTotalOrder cmp) wher
   pub before_equal : (s t : Boundary T) (later : List (Branch T C)) → boundary_cmp cmp s t ≡ Equal →
       Before cmp t later → Before cmp s later
   before_equal s t [] same before = tt
-  before_equal s t (branch ∷ later) same before =
-      ((boundaries_total cmp o).congr s t branch.boundary same ∙ before.0, before_equal s t later same before.1)
+  before_equal s t (branch ∷ later) same before = (
+    (boundaries_total cmp o).congr s t branch.boundary same ∙ before.0,
+    before_equal s t later same before.1,
+  )
 
   -- those that come up to a point come first
   later_reached : (b : Branch T C) (later : List (Branch T C)) (p : Point T) (j : ℕ) (d : Branch T C) →
@@ -87,7 +92,8 @@ module _ {T C : Type 0} {cmp : T → T → Ordering} (o : IsTotalOrder cmp) wher
       past_less (point_cmp cmp) (points_total cmp o) (point_of b.boundary) (point_of branch.boundary) p
       (point_cmp cmp (point_of branch.boundary) p) refl before.0
       (not_gt (point_cmp cmp (point_of branch.boundary) p) e)
-  later_reached b (branch ∷ later) p (suc j) d before h e = later_reached b later p j d before.1 (omega arith) e
+  later_reached b (branch ∷ later) p (suc j) d before h e =
+      later_reached b later p j d before.1 (omega arith) e
 
   pub partitioned : (later : List (Branch T C)) (p : Point T) → RisingBranches cmp later →
       IsPartitionedBy (λ branch. reached cmp p branch) later
@@ -103,9 +109,11 @@ module _ {T C : Type 0} (cmp : T → T → Ordering) (p : Point T) where
   -- the first i of the branches lie at the point or before it, and the others do not
   abbrev pub IsReach : List (Branch T C) → ℕ → Type 0
   IsReach later i =
-      IsPartitionPoint (λ branch. reached cmp p branch ≡ true) (λ branch. reached cmp p branch ≡ false) later i
+      IsPartitionPoint (λ branch. reached cmp p branch ≡ true) (λ branch. reached cmp p branch ≡ false)
+      later i
 
-  pub at_none : (first : C) (later : List (Branch T C)) → IsReach later zero → branch_at cmp first later p ≡ first
+  pub at_none : (first : C) (later : List (Branch T C)) → IsReach later zero →
+      branch_at cmp first later p ≡ first
   at_none first [] w = refl
   at_none first (branch ∷ later) w =
       let over : reached cmp p branch ≡ false = w.1 0 branch (omega arith) (omega arith) in rw over refl
@@ -115,7 +123,8 @@ module _ {T C : Type 0} (cmp : T → T → Ordering) (p : Point T) where
   at_last first [] i d h w = absurd (omega arith)
   at_last first (branch ∷ later) zero d h w =
       let up : reached cmp p branch ≡ true = w.0 0 branch (omega arith) (omega arith) in
-      rw up (at_none branch.child later ((λ k e l m. absurd (omega arith)), (λ k e l m. w.1 (suc k) e (omega arith) (omega arith))))
+      rw up (at_none branch.child later
+      ((λ k e l m. absurd (omega arith)), (λ k e l m. w.1 (suc k) e (omega arith) (omega arith))))
   at_last first (branch ∷ later) (suc i) d h w =
       let up : reached cmp p branch ≡ true = w.0 0 branch (omega arith) (omega arith) in
       rw up (at_last branch.child later i d (omega arith) (
@@ -148,26 +157,30 @@ module _ {T C : Type 0} (cmp : T → T → Ordering) where
   pub branch_at_below : (first : C) (later : List (Branch T C)) → branch_at cmp first later BelowAll ≡ first
   branch_at_below first [] = refl
   branch_at_below first (branch ∷ later) = elim branch.boundary as (λ b.
-      cond (reaches (point_cmp cmp) (point_of b) BelowAll) (branch_at cmp branch.child later BelowAll) first ≡ first) [
+      cond (reaches (point_cmp cmp) (point_of b) BelowAll) (branch_at cmp branch.child later BelowAll) first
+      ≡ first) [
         | boundary.At v ↦ refl
         | boundary.JustAbove v ↦ refl
       ]
 
 module _ {T C : Type 0} {cmp : T → T → Ordering} (o : IsTotalOrder cmp) where
-  none_at_own : (t : Boundary T) (later : List (Branch T C)) → Before cmp t later → NoneReached cmp (point_of t) later
+  none_at_own : (t : Boundary T) (later : List (Branch T C)) → Before cmp t later →
+      NoneReached cmp (point_of t) later
   none_at_own t [] before = tt
   none_at_own t (branch ∷ later) before = (
     not_later (points_total cmp o) (point_of t) (point_of branch.boundary) before.0,
     none_at_own t later before.1,
   )
 
-  before_one : (t : Boundary T) (front : List (Branch T C)) (branch : Branch T C) (behind : List (Branch T C)) →
+  before_one : (t : Boundary T) (front : List (Branch T C)) (branch : Branch T C)
+      (behind : List (Branch T C)) →
       Before cmp t (front ++ (branch ∷ behind)) → boundary_cmp cmp t branch.boundary ≡ Less
   before_one t [] branch behind before = before.0
   before_one t (b ∷ front) branch behind before = before_one t front branch behind before.1
 
   -- at its own boundary each branch's child stands
-  pub branch_at_own : (first : C) (front : List (Branch T C)) (branch : Branch T C) (behind : List (Branch T C)) →
+  pub branch_at_own : (first : C) (front : List (Branch T C)) (branch : Branch T C)
+      (behind : List (Branch T C)) →
       RisingBranches cmp (front ++ (branch ∷ behind)) →
       branch_at cmp first (front ++ (branch ∷ behind)) (point_of branch.boundary) ≡ branch.child
   branch_at_own first [] branch behind rising =
@@ -184,7 +197,8 @@ module _ {T C : Type 0} {cmp : T → T → Ordering} (o : IsTotalOrder cmp) wher
   point_from : (t : Boundary T) (first : C) (later : List (Branch T C)) (c : C) → Before cmp t later →
       RisingBranches cmp later → IsChild c first later →
       (p : Point T) × (reaches (point_cmp cmp) (point_of t) p ≡ true) × (branch_at cmp first later p ≡ c)
-  point_from t first [] c before rising is = (point_of t, reached_itself (points_total cmp o) (point_of t), sym is)
+  point_from t first [] c before rising is =
+      (point_of t, reached_itself (points_total cmp o) (point_of t), sym is)
   point_from t first (branch ∷ later) c before rising (inl is) = (
     point_of t,
     reached_itself (points_total cmp o) (point_of t),

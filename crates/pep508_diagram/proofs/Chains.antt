@@ -69,10 +69,11 @@ above_behind q (Test r low high) above =
     (slice_cmp (boundary_cmp text_cmp) (text_boundaries q) (text_boundaries r))) above.0 above.1
 
 -- what begins behind one place begins behind each earlier one
-pub behind_earlier : (place other : List ℕ) (d : Diagram Question) → text_cmp place other ≡ Less → RootBehind other d →
-    RootBehind place d
+pub behind_earlier : (place other : List ℕ) (d : Diagram Question) → text_cmp place other ≡ Less →
+    RootBehind other d → RootBehind place d
 behind_earlier place other (Leaf b) less behind = tt
-behind_earlier place other (Test r low high) less behind = nat_list_cmp_total.trans place other (place_of r) less behind
+behind_earlier place other (Test r low high) less behind =
+    nat_list_cmp_total.trans place other (place_of r) less behind
 
 -- diagrams that are one begin at one place
 pub one_place : (q r : Question) (low high other_low other_high : Diagram Question) →
@@ -115,28 +116,35 @@ module _ {C : Type 0} (at : C → Diagram Question) where
         (λ c h b. behind_above (VersionBelow key b) (at c) h) first later behind
 
     -- rising branches of canonical diagrams behind the key, neighbours of which differ
-    pub canonical_chain_versions : RisingBranches version_cmp later → AllBranches (λ c. IsCanonical (at c)) first later →
-        AllBranches (λ c. RootBehind (version_rank key ∷ []) (at c)) first later → NeighboursApart marker at first later →
+    pub canonical_chain_versions : RisingBranches version_cmp later →
+        AllBranches (λ c. IsCanonical (at c)) first later →
+        AllBranches (λ c. RootBehind (version_rank key ∷ []) (at c)) first later →
+        NeighboursApart marker at first later →
         IsCanonical (chain (VersionBelow key) at first later)
     canonical_chain_versions rising canonical behind apart =
-        canonical_chain asks version_cmp (versions_key key) at first later rising canonical (above_versions behind) apart
+        canonical_chain asks version_cmp (versions_key key) at first later rising canonical
+        (above_versions behind) apart
 
     -- a chain begins at its key
-    pub root_chain_versions : (place : List ℕ) → (later ≡ [] → ⊥) → text_cmp place (version_rank key ∷ []) ≡ Less →
+    pub root_chain_versions : (place : List ℕ) → (later ≡ [] → ⊥) →
+        text_cmp place (version_rank key ∷ []) ≡ Less →
         RootBehind place (chain (VersionBelow key) at first later)
-    root_chain_versions place some less = elim later as (λ l. (l ≡ [] → ⊥) → RootBehind place (chain (VersionBelow key) at first l)) [
-      | [] ↦ λ none. absurd (none refl)
-      | branch ∷ l ↦ λ none. less
-    ] some
+    root_chain_versions place some less =
+        elim later as (λ l. (l ≡ [] → ⊥) → RootBehind place (chain (VersionBelow key) at first l)) [
+          | [] ↦ λ none. absurd (none refl)
+          | branch ∷ l ↦ λ none. less
+        ] some
 
     -- two chains of one key that are one have the same branches
     pub chain_one_versions : (other_first : C) (other_later : List (Branch VersionRecord C)) →
         AllBranches (λ c. RootBehind (version_rank key ∷ []) (at c)) first later →
         AllBranches (λ c. RootBehind (version_rank key ∷ []) (at c)) other_first other_later →
-        AreOne (chain (VersionBelow key) at first later) (chain (VersionBelow key) at other_first other_later) →
+        AreOne (chain (VersionBelow key) at first later)
+        (chain (VersionBelow key) at other_first other_later) →
         AreSameBranches marker at version_cmp first later other_first other_later
     chain_one_versions other_first other_later behind other_behind a =
-        chain_one asks version_cmp (versions_key key) at first later other_first other_later (above_versions behind)
+        chain_one asks version_cmp (versions_key key) at first later other_first other_later
+        (above_versions behind)
         (weaker_branches (λ c. RootBehind (version_rank key ∷ []) (at c))
         (λ c. IsAboveAll marker (VersionBelow key) (at c))
         (λ c h b. behind_above (VersionBelow key b) (at c) h) other_first other_later other_behind) a
@@ -151,21 +159,26 @@ module _ {C : Type 0} (at : C → Diagram Question) where
     above_texts : AllBranches (λ c. RootBehind (text_rank key ∷ []) (at c)) first later →
         AllBranches (λ c. IsAboveAll marker (TextBelow key) (at c)) first later
     above_texts behind =
-        weaker_branches (λ c. RootBehind (text_rank key ∷ []) (at c)) (λ c. IsAboveAll marker (TextBelow key) (at c))
+        weaker_branches (λ c. RootBehind (text_rank key ∷ []) (at c))
+        (λ c. IsAboveAll marker (TextBelow key) (at c))
         (λ c h b. behind_above (TextBelow key b) (at c) h) first later behind
 
-    pub canonical_chain_texts : RisingBranches text_cmp later → AllBranches (λ c. IsCanonical (at c)) first later →
-        AllBranches (λ c. RootBehind (text_rank key ∷ []) (at c)) first later → NeighboursApart marker at first later →
+    pub canonical_chain_texts : RisingBranches text_cmp later →
+        AllBranches (λ c. IsCanonical (at c)) first later →
+        AllBranches (λ c. RootBehind (text_rank key ∷ []) (at c)) first later →
+        NeighboursApart marker at first later →
         IsCanonical (chain (TextBelow key) at first later)
     canonical_chain_texts rising canonical behind apart =
-        canonical_chain asks text_cmp (texts_key key) at first later rising canonical (above_texts behind) apart
+        canonical_chain asks text_cmp (texts_key key) at first later rising canonical (above_texts behind)
+        apart
 
     pub root_chain_texts : (place : List ℕ) → (later ≡ [] → ⊥) → text_cmp place (text_rank key ∷ []) ≡ Less →
         RootBehind place (chain (TextBelow key) at first later)
-    root_chain_texts place some less = elim later as (λ l. (l ≡ [] → ⊥) → RootBehind place (chain (TextBelow key) at first l)) [
-      | [] ↦ λ none. absurd (none refl)
-      | branch ∷ l ↦ λ none. less
-    ] some
+    root_chain_texts place some less =
+        elim later as (λ l. (l ≡ [] → ⊥) → RootBehind place (chain (TextBelow key) at first l)) [
+          | [] ↦ λ none. absurd (none refl)
+          | branch ∷ l ↦ λ none. less
+        ] some
 
     pub chain_one_texts : (other_first : C) (other_later : List (Branch (List ℕ) C)) →
         AllBranches (λ c. RootBehind (text_rank key ∷ []) (at c)) first later →
@@ -174,14 +187,17 @@ module _ {C : Type 0} (at : C → Diagram Question) where
         AreSameBranches marker at text_cmp first later other_first other_later
     chain_one_texts other_first other_later behind other_behind a =
         chain_one asks text_cmp (texts_key key) at first later other_first other_later (above_texts behind)
-        (weaker_branches (λ c. RootBehind (text_rank key ∷ []) (at c)) (λ c. IsAboveAll marker (TextBelow key) (at c))
+        (weaker_branches (λ c. RootBehind (text_rank key ∷ []) (at c))
+        (λ c. IsAboveAll marker (TextBelow key) (at c))
         (λ c h b. behind_above (TextBelow key b) (at c) h) other_first other_later other_behind) a
 
   -- ---- chains of different keys
 
   pub one_version_keys : (key other : VersionVariable) (first : C) (later : List (Branch VersionRecord C))
-      (other_first : C) (other_later : List (Branch VersionRecord C)) → (later ≡ [] → ⊥) → (other_later ≡ [] → ⊥) →
-      AreOne (chain (VersionBelow key) at first later) (chain (VersionBelow other) at other_first other_later) → key ≡ other
+      (other_first : C) (other_later : List (Branch VersionRecord C)) → (later ≡ [] → ⊥) →
+      (other_later ≡ [] → ⊥) →
+      AreOne (chain (VersionBelow key) at first later) (chain (VersionBelow other) at other_first other_later)
+      → key ≡ other
   one_version_keys key other first [] other_first m some other_some a = absurd (some refl)
   one_version_keys key other first (b ∷ l) other_first [] some other_some a = absurd (other_some refl)
   one_version_keys key other first (b ∷ l) other_first (c ∷ m) some other_some a =
@@ -190,7 +206,8 @@ module _ {C : Type 0} (at : C → Diagram Question) where
 
   pub one_text_keys : (key other : MarkerValueString) (first : C) (later : List (Branch (List ℕ) C))
       (other_first : C) (other_later : List (Branch (List ℕ) C)) → (later ≡ [] → ⊥) → (other_later ≡ [] → ⊥) →
-      AreOne (chain (TextBelow key) at first later) (chain (TextBelow other) at other_first other_later) → key ≡ other
+      AreOne (chain (TextBelow key) at first later) (chain (TextBelow other) at other_first other_later) →
+      key ≡ other
   one_text_keys key other first [] other_first m some other_some a = absurd (some refl)
   one_text_keys key other first (b ∷ l) other_first [] some other_some a = absurd (other_some refl)
   one_text_keys key other first (b ∷ l) other_first (c ∷ m) some other_some a =
@@ -200,14 +217,16 @@ module _ {C : Type 0} (at : C → Diagram Question) where
   pub versions_not_texts : (key : VersionVariable) (other : MarkerValueString) (first : C)
       (later : List (Branch VersionRecord C)) (other_first : C) (other_later : List (Branch (List ℕ) C)) →
       (later ≡ [] → ⊥) → (other_later ≡ [] → ⊥) →
-      AreOne (chain (VersionBelow key) at first later) (chain (TextBelow other) at other_first other_later) → ⊥
+      AreOne (chain (VersionBelow key) at first later) (chain (TextBelow other) at other_first other_later) →
+      ⊥
   versions_not_texts key other first [] other_first m some other_some a = some refl
   versions_not_texts key other first (b ∷ l) other_first [] some other_some a = other_some refl
   versions_not_texts key other first (b ∷ l) other_first (c ∷ m) some other_some a =
       no_mixed (VersionBelow key b.boundary) (TextBelow other c.boundary) tt
       (places_share (VersionBelow key b.boundary) (TextBelow other c.boundary) a.0)
 
-  pub versions_not_flag : (key : VersionVariable) (flag : Flag) (first : C) (later : List (Branch VersionRecord C))
+  pub versions_not_flag : (key : VersionVariable) (flag : Flag) (first : C)
+      (later : List (Branch VersionRecord C))
       (set unset : Diagram Question) → (later ≡ [] → ⊥) →
       AreOne (chain (VersionBelow key) at first later) (Test (IsSet flag) set unset) → ⊥
   versions_not_flag key flag first [] set unset some a = some refl
@@ -220,4 +239,5 @@ module _ {C : Type 0} (at : C → Diagram Question) where
       AreOne (chain (TextBelow key) at first later) (Test (IsSet flag) set unset) → ⊥
   texts_not_flag key flag first [] set unset some a = some refl
   texts_not_flag key flag first (b ∷ l) set unset some a =
-      no_mixed (TextBelow key b.boundary) (IsSet flag) tt (places_share (TextBelow key b.boundary) (IsSet flag) a.0)
+      no_mixed (TextBelow key b.boundary) (IsSet flag) tt
+      (places_share (TextBelow key b.boundary) (IsSet flag) a.0)

@@ -1,4 +1,5 @@
--- Branches between the places of one variable as diagrams: their truth, that they are canonical, and when two are one.
+-- Branches between the places of one variable as diagrams: their truth, that they are canonical, and when two
+-- are one.
 use Rattle.std.proofs.Common.{◌≡◌, inl, inr, true, false, not, List, [], ◌∷◌, refl, sym, ap, subst, ◌∙◌, true≢false}
 use Rattle.std.proofs.lemmas.Bool.{cases_Bool}
 use Rattle.std.specs.declared.cmp.Ordering.{Ordering}
@@ -21,20 +22,24 @@ pub record IsKey {T Q V : Type 0} (ask : Asking Q V) (cmp : T → T → Ordering
   pub shared : (b c : Boundary T) → ask.shares (of b) (of c) ≡ true
   pub answers : (v : V) (b : Boundary T) → ask.answer v (of b) ≡ lies_below cmp (point v) b
 
-module _ {T C Q V : Type 0} {ask : Asking Q V} (cmp : T → T → Ordering) {of : Boundary T → Q} {point : V → Point T}
+module _ {T C Q V : Type 0} {ask : Asking Q V} (cmp : T → T → Ordering) {of : Boundary T → Q}
+    {point : V → Point T}
     (key : IsKey ask cmp of point) (at : C → Diagram Q) where
   -- a chain says what stands where the variable lies
   pub truth_chain : (first : C) (later : List (Branch T C)) (v : V) →
       truth_by ask (chain of at first later) v ≡ truth_by ask (at (branch_at cmp first later (point v))) v
   truth_chain first [] v = refl
-  truth_chain first (branch ∷ later) v = elim (cases_Bool (reaches (point_cmp cmp) (point_of branch.boundary) (point v))) [
-    | inl up ↦
-        let over : ask.answer v (of branch.boundary) ≡ false = key.answers v branch.boundary ∙ ap not up in
-        rw (over, up) (truth_chain branch.child later v)
-    | inr over ↦
-        let below : ask.answer v (of branch.boundary) ≡ true = key.answers v branch.boundary ∙ ap not over in
-        rw (below, over) refl
-  ]
+  truth_chain first (branch ∷ later) v =
+      elim (cases_Bool (reaches (point_cmp cmp) (point_of branch.boundary) (point v))) [
+        | inl up ↦
+            let over : ask.answer v (of branch.boundary) ≡ false =
+            key.answers v branch.boundary ∙ ap not up in
+            rw (over, up) (truth_chain branch.child later v)
+        | inr over ↦
+            let below : ask.answer v (of branch.boundary) ≡ true =
+            key.answers v branch.boundary ∙ ap not over in
+            rw (below, over) refl
+      ]
 
 -- a diagram that asks first of a variable behind that of all the questions
 abbrev pub IsAboveAll : {T Q V : Type 0} → Asking Q V → (Boundary T → Q) → Diagram Q → Type 0
@@ -47,8 +52,10 @@ module _ {Q V : Type 0} (ask : Asking Q V) where
   front_above q (Test r low high) above = rw above.1 refl
 
   -- a question about a variable and a diagram behind it
-  pub canonical_test : IsAsking ask → (q : Q) (low high : Diagram Q) → IsCanonicalBy ask low → IsCanonicalBy ask high →
-      RootAbove ask q low → RootAbove ask q high → (IsAlike ask low high → ⊥) → IsCanonicalBy ask (Test q low high)
+  pub canonical_test : IsAsking ask → (q : Q) (low high : Diagram Q) → IsCanonicalBy ask low →
+      IsCanonicalBy ask high →
+      RootAbove ask q low → RootAbove ask q high → (IsAlike ask low high → ⊥) →
+      IsCanonicalBy ask (Test q low high)
   canonical_test laws q low high c d above above_high apart = (
     c,
     d,
@@ -57,7 +64,8 @@ module _ {Q V : Type 0} (ask : Asking Q V) where
     λ a. apart (subst (IsAlike ask low) (front_above q high above_high) a),
   )
 
-module _ {T C Q V : Type 0} {ask : Asking Q V} (laws : IsAsking ask) (cmp : T → T → Ordering) {of : Boundary T → Q}
+module _ {T C Q V : Type 0} {ask : Asking Q V} (laws : IsAsking ask) (cmp : T → T → Ordering)
+    {of : Boundary T → Q}
     {point : V → Point T} (key : IsKey ask cmp of point) (at : C → Diagram Q) where
   -- a chain's front is its first diagram
   pub front_chain : (b : Boundary T) (first : C) (later : List (Branch T C)) → IsAboveAll ask of (at first) →
@@ -73,7 +81,8 @@ module _ {T C Q V : Type 0} {ask : Asking Q V} (laws : IsAsking ask) (cmp : T �
 
   -- rising branches of canonical diagrams, neighbours of which differ, are a canonical diagram
   pub canonical_chain : (first : C) (later : List (Branch T C)) → RisingBranches cmp later →
-      AllBranches (λ c. IsCanonicalBy ask (at c)) first later → AllBranches (λ c. IsAboveAll ask of (at c)) first later →
+      AllBranches (λ c. IsCanonicalBy ask (at c)) first later →
+      AllBranches (λ c. IsAboveAll ask of (at c)) first later →
       NeighboursApart ask at first later → IsCanonicalBy ask (chain of at first later)
   canonical_chain first [] rising canonical above apart = canonical
   canonical_chain first (branch ∷ later) rising canonical above apart = (
@@ -91,7 +100,8 @@ module _ {T C Q V : Type 0} {ask : Asking Q V} (laws : IsAsking ask) (cmp : T �
       first_above c (b ∷ cs) all = all.0
 
   -- no question of the key stands first in a diagram behind it
-  root_apart : (b : Boundary T) (d low high : Diagram Q) → RootAbove ask (of b) d → IsAlike ask d (Test (of b) low high) → ⊥
+  root_apart : (b : Boundary T) (d low high : Diagram Q) → RootAbove ask (of b) d →
+      IsAlike ask d (Test (of b) low high) → ⊥
   root_apart b (Leaf c) low high above a = a
   root_apart b (Test r m k) low high above a =
       true≢false (sym (laws.equal_share r (of b) a.0) ∙ laws.shares_turned r (of b) ∙ above.1)
@@ -102,7 +112,8 @@ module _ {T C Q V : Type 0} {ask : Asking Q V} (laws : IsAsking ask) (cmp : T �
   root_apart_back b (Test r m k) low high above a = true≢false (sym (laws.equal_share (of b) r a.0) ∙ above.1)
 
   -- chains of one key that are one have the same branches
-  pub chain_one : (first : C) (later : List (Branch T C)) (other_first : C) (other_later : List (Branch T C)) →
+  pub chain_one : (first : C) (later : List (Branch T C)) (other_first : C)
+      (other_later : List (Branch T C)) →
       AllBranches (λ c. IsAboveAll ask of (at c)) first later →
       AllBranches (λ c. IsAboveAll ask of (at c)) other_first other_later →
       IsAlike ask (chain of at first later) (chain of at other_first other_later) →

@@ -58,7 +58,8 @@ module _ {T C : Type 0} {cmp : T → T → Ordering} (o : IsTotalOrder cmp) (t :
     side_front (inr g) before p over = rw g.0 (before_unreached o t first left p over before)
 
     side_behind : GoesOn cmp t first later child left → (p : Point T) →
-        reaches (point_cmp cmp) (point_of t) p ≡ true → branch_at cmp first later p ≡ branch_at cmp child left p
+        reaches (point_cmp cmp) (point_of t) p ≡ true →
+        branch_at cmp first later p ≡ branch_at cmp child left p
     side_behind (inl g) p up =
         let too : reaches (point_cmp cmp) (point_of g.0.boundary) p ≡ true = same_reach g.0 p g.3 ∙ up in
         rw (g.1, too, g.2) refl
@@ -72,21 +73,25 @@ module _ {T C : Type 0} {cmp : T → T → Ordering} (o : IsTotalOrder cmp) (t :
     side_rises (inl g) rises = (subst (RisingBranches cmp) g.1 rises).1
     side_rises (inr g) rises = subst (RisingBranches cmp) g.0 rises
 
-    side_before : GoesOn cmp t first later child left → (s : Boundary T) → Before cmp s later → Before cmp s left
+    side_before : GoesOn cmp t first later child left → (s : Boundary T) → Before cmp s later →
+        Before cmp s left
     side_before (inl g) s before = (subst (Before cmp s) g.1 before).1
     side_before (inr g) s before = subst (Before cmp s) g.0 before
 
   module _ (first : C) (later : List (Branch T C)) (child : C) (left : List (Branch T C)) (other_first : C)
       (other_later : List (Branch T C)) (other_child : C) (other_left : List (Branch T C)) where
     -- what comes before all of both lists comes before the first boundary
-    before_first : GoesOn cmp t first later child left → GoesOn cmp t other_first other_later other_child other_left →
+    before_first : GoesOn cmp t first later child left →
+        GoesOn cmp t other_first other_later other_child other_left →
         length left + length other_left < length later + length other_later → (s : Boundary T) →
         Before cmp s later → Before cmp s other_later → boundary_cmp cmp s t ≡ Less
     before_first (inl g) other taken s before other_before =
         sym (alike_right (boundaries_total cmp o) g.0.boundary t s g.3) ∙ (subst (Before cmp s) g.1 before).0
     before_first (inr g) (inl h) taken s before other_before =
-        sym (alike_right (boundaries_total cmp o) h.0.boundary t s h.3) ∙ (subst (Before cmp s) h.1 other_before).0
-    before_first (inr g) (inr h) taken s before other_before = absurd (omega (arith, ap length g.0, ap length h.0))
+        sym (alike_right (boundaries_total cmp o) h.0.boundary t s h.3)
+        ∙ (subst (Before cmp s) h.1 other_before).0
+    before_first (inr g) (inr h) taken s before other_before =
+        absurd (omega (arith, ap length g.0, ap length h.0))
 
     module _ (n : IsNext cmp t first later child left other_first other_later other_child other_left)
         (rises : RisingBranches cmp later) (other_rises : RisingBranches cmp other_later)
@@ -113,7 +118,8 @@ module _ {T C : Type 0} {cmp : T → T → Ordering} (o : IsTotalOrder cmp) (t :
             rw over (λ i. (sym one i, sym two i))
       ]
 
-      pub pairs_more : Pairs cmp first later other_first other_later (record { boundary = t; child = (child, other_child) } ∷ rest)
+      pub pairs_more : Pairs cmp first later other_first other_later
+          (record { boundary = t; child = (child, other_child) } ∷ rest)
       unfolding pair_points pair
       pairs_more = record {
         points = pair_points;
@@ -136,7 +142,8 @@ module _ {T C : Type 0} {cmp : T → T → Ordering} (o : IsTotalOrder cmp) (t :
       }
 
 -- a pass: whatever goes on with what is left goes on with all that was written
-pub record Passing {T C : Type 0} (cmp : T → T → Ordering) (first : C) (later : List (Branch T C)) (other_first : C)
+pub record Passing {T C : Type 0} (cmp : T → T → Ordering) (first : C) (later : List (Branch T C))
+    (other_first : C)
     (other_later : List (Branch T C)) (child : C) (left : List (Branch T C)) (other_child : C)
     (other_left : List (Branch T C)) (pairs : List (Branch T (C × C))) : Type 0 where
   pub continues : (rest : List (Branch T (C × C))) → Pairs cmp child left other_child other_left rest →
@@ -144,37 +151,44 @@ pub record Passing {T C : Type 0} (cmp : T → T → Ordering) (first : C) (late
   pub rises : RisingBranches cmp left
   pub other_rises : RisingBranches cmp other_left
 
-module _ {T C : Type 0} {cmp : T → T → Ordering} (o : IsTotalOrder cmp) {first : C} {later : List (Branch T C)}
+module _ {T C : Type 0} {cmp : T → T → Ordering} (o : IsTotalOrder cmp) {first : C}
+    {later : List (Branch T C)}
     {other_first : C} {other_later : List (Branch T C)} where
   pub passing_none : (pairs : List (Branch T (C × C))) → pairs ≡ [] → RisingBranches cmp later →
       RisingBranches cmp other_later →
       Passing cmp first later other_first other_later first later other_first other_later pairs
   passing_none pairs e rises other_rises = record {
-    continues = λ rest ps. subst (λ ws. Pairs cmp first later other_first other_later (ws ++ rest)) (sym e) ps;
+    continues = λ rest ps.
+        subst (λ ws. Pairs cmp first later other_first other_later (ws ++ rest)) (sym e) ps;
     rises = rises;
     other_rises = other_rises;
   }
 
-  pub passing_more : (t : Boundary T) (child : C) (left : List (Branch T C)) (next : C) (behind : List (Branch T C))
+  pub passing_more : (t : Boundary T) (child : C) (left : List (Branch T C)) (next : C)
+      (behind : List (Branch T C))
       (other_child : C) (other_left : List (Branch T C)) (other_next : C) (other_behind : List (Branch T C))
-      (pairs more : List (Branch T (C × C))) →
+      (pairs more : List (Branch T (C × C))) (copy : Boundary T) →
       Passing cmp first later other_first other_later child left other_child other_left pairs →
-      IsNext cmp t child left next behind other_child other_left other_next other_behind →
-      more ≡ pairs ++ (record { boundary = t; child = (next, other_next) } ∷ []) →
+      IsNext cmp t child left next behind other_child other_left other_next other_behind → copy ≡ t →
+      more ≡ pairs ++ (record { boundary = copy; child = (next, other_next) } ∷ []) →
       Passing cmp first later other_first other_later next behind other_next other_behind more
-  passing_more t child left next behind other_child other_left other_next other_behind pairs more w n e = record {
-    continues = λ rest ps.
-        let all : Pairs cmp first later other_first other_later
-        (pairs ++ (record { boundary = t; child = (next, other_next) } ∷ rest)) =
-        w.continues (record { boundary = t; child = (next, other_next) } ∷ rest)
-        (pairs_more o t child left next behind other_child other_left other_next other_behind n w.rises
-        w.other_rises rest ps) in
-        subst (λ ws. Pairs cmp first later other_first other_later ws)
-        (sym (append_assoc pairs (record { boundary = t; child = (next, other_next) } ∷ []) rest)
-        ∙ ap (λ ws. ws ++ rest) (sym e)) all;
-    rises = side_rises o t child left next behind n.goes_on w.rises;
-    other_rises = side_rises o t other_child other_left other_next other_behind n.other_goes_on w.other_rises;
-  }
+  passing_more t child left next behind other_child other_left other_next other_behind pairs more copy w n
+      same e =
+      let pair : Branch T (C × C) = record { boundary = t; child = (next, other_next) } in
+      let written : more ≡ pairs ++ (pair ∷ []) =
+      e ∙ ap (λ (b : Boundary T). pairs ++ (record { boundary = b; child = (next, other_next) } ∷ [])) same in
+      record {
+        continues = λ rest ps.
+            let all : Pairs cmp first later other_first other_later (pairs ++ (pair ∷ rest)) =
+            w.continues (pair ∷ rest)
+            (pairs_more o t child left next behind other_child other_left other_next other_behind n w.rises
+            w.other_rises rest ps) in
+            subst (λ ws. Pairs cmp first later other_first other_later ws)
+            (sym (append_assoc pairs (pair ∷ []) rest) ∙ ap (λ ws. ws ++ rest) (sym written)) all;
+        rises = side_rises o t child left next behind n.goes_on w.rises;
+        other_rises =
+            side_rises o t other_child other_left other_next other_behind n.other_goes_on w.other_rises;
+      }
 
   pub passing_all : (child : C) (left : List (Branch T C)) (other_child : C) (other_left : List (Branch T C))
       (pairs : List (Branch T (C × C))) →
@@ -227,22 +241,22 @@ module _ {T C : Type 0} {cmp : T → T → Ordering} (o : IsTotalOrder cmp) (fir
   }
 
   pub next_less : later ≡ branch ∷ left → other_later ≡ other ∷ other_left →
-      boundary_cmp cmp branch.boundary other.boundary ≡ Less →
+      Less ≡ boundary_cmp cmp branch.boundary other.boundary →
       IsNext cmp branch.boundary first later branch.child left other_first other_later other_first other_later
   next_less e f less = record {
     goes_on = inl (branch, e, refl, tied_itself (boundaries_total cmp o) branch.boundary);
     other_goes_on = inr (refl, refl);
     before = λ p q. rises_behind later left branch e p;
-    other_before = λ p q. before_whole branch.boundary other_later other_left other f less q;
+    other_before = λ p q. before_whole branch.boundary other_later other_left other f (sym less) q;
     taken = omega (arith, ap length e);
   }
 
   pub next_greater : later ≡ branch ∷ left → other_later ≡ other ∷ other_left →
-      boundary_cmp cmp branch.boundary other.boundary ≡ Greater →
+      Greater ≡ boundary_cmp cmp branch.boundary other.boundary →
       IsNext cmp other.boundary first later first later other_first other_later other.child other_left
   next_greater e f more =
       let less : boundary_cmp cmp other.boundary branch.boundary ≡ Less =
-      (boundaries_total cmp o).antisymm other.boundary branch.boundary ∙ ap ordering_reverse more in
+      (boundaries_total cmp o).antisymm other.boundary branch.boundary ∙ ap ordering_reverse (sym more) in
       record {
         goes_on = inr (refl, refl);
         other_goes_on = inl (other, f, refl, tied_itself (boundaries_total cmp o) other.boundary);
@@ -252,16 +266,16 @@ module _ {T C : Type 0} {cmp : T → T → Ordering} (o : IsTotalOrder cmp) (fir
       }
 
   pub next_equal : later ≡ branch ∷ left → other_later ≡ other ∷ other_left →
-      boundary_cmp cmp branch.boundary other.boundary ≡ Equal →
+      Equal ≡ boundary_cmp cmp branch.boundary other.boundary →
       IsNext cmp branch.boundary first later branch.child left other_first other_later other.child other_left
   next_equal e f same =
       let back : boundary_cmp cmp other.boundary branch.boundary ≡ Equal =
-      tied_back (boundaries_total cmp o) branch.boundary other.boundary same in
+      tied_back (boundaries_total cmp o) branch.boundary other.boundary (sym same) in
       record {
         goes_on = inl (branch, e, refl, tied_itself (boundaries_total cmp o) branch.boundary);
         other_goes_on = inl (other, f, refl, back);
         before = λ p q. rises_behind later left branch e p;
-        other_before = λ p q. before_equal o branch.boundary other.boundary other_left same
+        other_before = λ p q. before_equal o branch.boundary other.boundary other_left (sym same)
             (rises_behind other_later other_left other f q);
         taken = omega (arith, ap length e, ap length f);
       }

@@ -1,5 +1,5 @@
 -- True and false by turns, from each boundary on the other one.
-use Rattle.std.proofs.Common.{◌≡◌, inl, inr, Bool, true, false, not, List, [], ◌∷◌, map, refl, sym, ap, subst, ◌∙◌, true≢false}
+use Rattle.std.proofs.Common.{◌≡◌, ℕ, ◌≤◌, ◌++◌, length, drop, drop_of_length-le, append-nil, inl, inr, Bool, true, false, not, List, [], ◌∷◌, map, refl, sym, ap, subst, ◌∙◌, true≢false}
 use Rattle.std.proofs.lemmas.Bool.{cases_Bool}
 use Rattle.std.specs.List.{AllByRecursion}
 use Rattle.std.specs.Cmp.{IsTotalOrder}
@@ -12,6 +12,7 @@ use Rattle.version_ranges.specs.OrderLaws.{points_total}
 use Rattle.version_ranges.specs.Turns.{flips, reaches, is_held, Rising}
 use Rattle.version_ranges.proofs.Membership.{before_less, flips_false}
 use Rattle.version_ranges.proofs.Turning.{held_turns}
+use Rattle.pep508_diagram.specs.declared.branch.Branch.{Branch}
 use Rattle.pep508_diagram.specs.Branches.{RisingBranches, branch_at, NeighboursDiffer, by_turns}
 use Rattle.pep508_diagram.proofs.Branching.{gt_of}
 
@@ -46,7 +47,8 @@ module _ {T : Type 0} {cmp : T → T → Ordering} (o : IsTotalOrder cmp) where
   -- behind a boundary that does not come up to the point, none turns there
   unheld : (b : Boundary T) (later : List (Boundary T)) (p : Point T) →
       reaches (point_cmp cmp) (point_of b) p ≡ false →
-      AllByRecursion (λ c. boundary_cmp cmp b c ≡ Less) later → is_held (point_cmp cmp) (map point_of later) p ≡ false
+      AllByRecursion (λ c. boundary_cmp cmp b c ≡ Less) later →
+      is_held (point_cmp cmp) (map point_of later) p ≡ false
   unheld b [] p over before = refl
   unheld b (c ∷ later) p over before =
       let too : reaches (point_cmp cmp) (point_of c) p ≡ false =
@@ -55,18 +57,33 @@ module _ {T : Type 0} {cmp : T → T → Ordering} (o : IsTotalOrder cmp) where
       rw too (unheld b later p over before.1)
 
   -- what stands first, turned where the boundaries that come up to the point turn it
-  turns_flip : (first : Bool) (boundaries : List (Boundary T)) (p : Point T) → Rising (boundary_cmp cmp) boundaries →
-      branch_at cmp first (by_turns first boundaries) p ≡ flips first (is_held (point_cmp cmp) (map point_of boundaries) p)
+  turns_flip : (first : Bool) (boundaries : List (Boundary T)) (p : Point T) →
+      Rising (boundary_cmp cmp) boundaries →
+      branch_at cmp first (by_turns first boundaries) p
+      ≡ flips first (is_held (point_cmp cmp) (map point_of boundaries) p)
   turns_flip first [] p rising = sym (flips_false first)
   turns_flip first (b ∷ later) p rising = elim (cases_Bool (reaches (point_cmp cmp) (point_of b) p)) [
     | inl up ↦
-        rw up (turns_flip (not first) later p rising.1 ∙ turned first (is_held (point_cmp cmp) (map point_of later) p))
+        rw up (turns_flip (not first) later p rising.1
+        ∙ turned first (is_held (point_cmp cmp) (map point_of later) p))
     | inr over ↦
         let none : is_held (point_cmp cmp) (map point_of later) p ≡ false = unheld b later p over rising.0 in
         rw (over, none) (sym (flips_false first))
   ]
 
   -- by turns stands whether the point is held
-  pub turns_held : (first : Bool) (boundaries : List (Boundary T)) (p : Point T) → Rising (boundary_cmp cmp) boundaries →
-      branch_at cmp first (by_turns first boundaries) p ≡ is_held (point_cmp cmp) (turns_of first boundaries) p
-  turns_held first boundaries p rising = turns_flip first boundaries p rising ∙ sym (held_turns cmp first boundaries p)
+  pub turns_held : (first : Bool) (boundaries : List (Boundary T)) (p : Point T) →
+      Rising (boundary_cmp cmp) boundaries →
+      branch_at cmp first (by_turns first boundaries) p
+      ≡ is_held (point_cmp cmp) (turns_of first boundaries) p
+  turns_held first boundaries p rising =
+      turns_flip first boundaries p rising ∙ sym (held_turns cmp first boundaries p)
+
+-- ---- a loop over the boundaries, each of which becomes f of it
+
+pub turns_all : {T : Type 0} (f : Boundary T → Boundary T) (first held : Bool) (all : List (Boundary T))
+    (i : ℕ) (done : List (Branch T Bool)) →
+    by_turns first (map f all) ≡ done ++ by_turns held (map f (drop i all)) →
+    length all ≤ i → done ≡ by_turns first (map f all)
+turns_all f first held all i done so_far h =
+    sym (so_far ∙ ap (λ bs. done ++ by_turns held (map f bs)) (drop_of_length-le all h) ∙ append-nil done)

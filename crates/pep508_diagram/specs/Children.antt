@@ -1,5 +1,5 @@
--- Diagrams that stand between boundaries: where they begin, that neighbours differ, and when two such lists are
--- one.
+-- Diagrams that stand between boundaries: where they begin, that neighbours differ, and when two such lists
+-- are one.
 use Rattle.std.specs.Prelude.{◌≡◌, ℕ, List, [], ◌∷◌}
 use Rattle.std.specs.declared.cmp.Ordering.{Ordering}
 use Rattle.std.specs.declared.cmp.Ordering.TheVariants.{Less, Equal}

@@ -1,4 +1,5 @@
--- One pass over two rising lists of branches: which boundary comes next, and what stands and is left behind it.
+-- One pass over two rising lists of branches: which boundary comes next, what stands from it on, and what is
+-- left behind it.
 use Rattle.std.specs.Prelude.{◌≡◌, ◌⊎◌, ◌+◌, ◌<◌, List, ◌∷◌, map, length}
 use Rattle.std.specs.List.{AllByRecursion}
 use Rattle.std.specs.declared.cmp.Ordering.{Ordering}
@@ -18,11 +19,13 @@ module _ {T C : Type 0} (cmp : T → T → Ordering) where
 
   -- a boundary comes before those of all branches
   abbrev pub ComesBefore : Boundary T → List (Branch T C) → Type 0
-  ComesBefore t later = AllByRecursion (λ other. boundary_cmp cmp t other ≡ Less) (map (λ branch. branch.boundary) later)
+  ComesBefore t later = AllByRecursion (λ other. boundary_cmp cmp t other ≡ Less)
+      (map (λ branch. branch.boundary) later)
 
-  -- t is the first boundary of two lists, as far as they rise; behind it stand child and other_child, and left
-  -- and other_left are left
-  pub record IsNext (t : Boundary T) (first : C) (later : List (Branch T C)) (child : C) (left : List (Branch T C))
+  -- t is the first boundary of two lists, as far as they rise; child and other_child stand from it on, and
+  -- left and other_left are left behind it
+  pub record IsNext (t : Boundary T) (first : C) (later : List (Branch T C)) (child : C)
+      (left : List (Branch T C))
       (other_first : C) (other_later : List (Branch T C)) (other_child : C) (other_left : List (Branch T C))
       : Type 0 where
     pub goes_on : GoesOn t first later child left

@@ -30,8 +30,8 @@ pub fn branch_at<T: Ord, C: Copy>(first: C, later: &[Branch<T, C>], value: &T) -
     }
 }
 
-/// The first boundary of two rising lists of branches, and what stands and is left behind it of each. Where both
-/// begin with boundaries that are equal, it is the first list's.
+/// The first boundary of two rising lists of branches; and of each list what stands from it on, and what is
+/// left behind it. Where both begin with boundaries that are equal, it is the first list's.
 #[derive(Drop)]
 struct NextBranch<'a, T, C> {
     boundary: &'a Boundary<T>,
@@ -86,7 +86,10 @@ fn next_branch<'a, T: Ord, C: Copy>(
 }
 
 /// A copy of a boundary, the very same.
-fn copy_of<T: NodeValue>(alloc: Global, boundary: &Boundary<T>) -> Result<Boundary<T>, AllocError>
+pub(crate) fn copy_of<T: NodeValue>(
+    alloc: Global,
+    boundary: &Boundary<T>,
+) -> Result<Boundary<T>, AllocError>
     ensures { IfOk result (λ copy. copy ≡ boundary.now) }
 {
     Ok(match boundary {
@@ -95,8 +98,8 @@ fn copy_of<T: NodeValue>(alloc: Global, boundary: &Boundary<T>) -> Result<Bounda
     })
 }
 
-/// Two lists of branches as one of pairs: at each point stands what stands there in the first and in the second.
-/// One pass over both, which copies each boundary once.
+/// Two lists of branches as one of pairs: at each point stands what stands there in the first and in the
+/// second. One pass over both, which copies each boundary once.
 pub fn paired<T: NodeValue, C: Copy>(
     alloc: Global,
     first: C,

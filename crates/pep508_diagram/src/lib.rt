@@ -2,12 +2,14 @@
 #![tactic(auto)]
 
 mod branch;
+mod by_turns;
 pub mod laws;
 mod text;
 mod value;
 mod variable;
 
 pub use branch::{Branch, branch_at, paired};
+pub use by_turns::{turned_branches, turned_versions};
 pub use text::MarkerText;
 pub use value::NodeValue;
 pub use variable::{Flag, VersionVariable};

@@ -1,4 +1,3 @@
-use Rattle.std.proofs.Common.{sym}
 use Rattle.version_ranges.proofs.Turning.{no_more}
 use Rattle.pep508_diagram.proofs.Pairing.{next_alone, next_other_alone, next_less, next_greater, next_equal}
 use Rattle.pep508_diagram.proofs.branch.next_branch.Goals as goal
@@ -22,18 +21,18 @@ returns-in-Less g c =
     let arm = c.in-Some-Some in
     next_less g.met.T.Ord.total c.args.first c.args.other_first c.args.later.now c.args.other_later.now
     arm.left.now arm.other_left.now arm.branch.now arm.other.now
-    arm.ensures.cases.0 arm.ensures'.cases.0 (sym c.in-Less.ensures)
+    arm.ensures.cases.0 arm.ensures'.cases.0 c.in-Less.ensures
 
 pub returns-in-Equal : goal.returns-in-Equal
 returns-in-Equal g c =
     let arm = c.in-Some-Some in
     next_equal g.met.T.Ord.total c.args.first c.args.other_first c.args.later.now c.args.other_later.now
     arm.left.now arm.other_left.now arm.branch.now arm.other.now
-    arm.ensures.cases.0 arm.ensures'.cases.0 (sym c.in-Equal.ensures)
+    arm.ensures.cases.0 arm.ensures'.cases.0 c.in-Equal.ensures
 
 pub returns-in-Greater : goal.returns-in-Greater
 returns-in-Greater g c =
     let arm = c.in-Some-Some in
     next_greater g.met.T.Ord.total c.args.first c.args.other_first c.args.later.now c.args.other_later.now
     arm.left.now arm.other_left.now arm.branch.now arm.other.now
-    arm.ensures.cases.0 arm.ensures'.cases.0 (sym c.in-Greater.ensures)
+    arm.ensures.cases.0 arm.ensures'.cases.0 c.in-Greater.ensures

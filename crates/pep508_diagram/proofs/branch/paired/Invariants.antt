@@ -4,7 +4,8 @@ use Rattle.pep508_diagram.proofs.branch.paired.Given as goal
 
 abbrev pub invariant-loop-next : goal.invariant-loop-next
 invariant-loop-next g l =
-    Passing g.T.Ord.cmp l.fn.first l.fn.later l.fn.other_first l.fn.other_later l.child l.left l.other_child l.other_left
+    Passing g.T.Ord.cmp l.fn.first l.fn.later l.fn.other_first l.fn.other_later l.child l.left l.other_child
+    l.other_left
     l.pairs.items
 
 abbrev pub decreases-loop-next : goal.decreases-loop-next
