@@ -25,12 +25,12 @@ pub fn turned_branches<T: NodeValue>(
     ensures { IfOk result (λ branches. branches.items ≡ by_turns starts_held boundaries.now) }
 {
     let mut branches = Vec::with_capacity(alloc, boundaries.len())?;
-    let mut held = starts_held;
+    let mut child = starts_held;
     for boundary in boundaries {
-        held = !held;
+        child = !child;
         branches.push(Branch {
             boundary: copy_of(alloc, boundary)?,
-            child: held,
+            child,
         })?;
     }
     Ok(branches)
