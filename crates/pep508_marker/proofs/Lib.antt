@@ -1,1 +1,2 @@
 mod NotIn
+mod Steps

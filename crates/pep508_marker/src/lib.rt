@@ -5,6 +5,7 @@
 mod expression;
 mod expression_print;
 mod keys;
+pub mod laws;
 mod operators;
 mod reporters;
 mod values;
