@@ -17,5 +17,4 @@ pub fn closure_is_called_with_each<F: FnMut(MarkerWarningKind, String) -> Result
         → FoldsTo ⟦<ClosureReporter<F> as Reporter>⟧.takes old warnings new
         → FoldsTo (λ closure warning next. (text : _) × (string_bytes text ≡ warning.text)
         × F.step closure warning.kind text (Ok tt) next) old.closure warnings new.closure }
-{
-}
+{}

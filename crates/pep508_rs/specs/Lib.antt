@@ -25,4 +25,7 @@ pub use Rattle.pep508_environment.specs.EnvironmentValues
 pub use Rattle.pep508_environment.specs.EnvironmentLaws
 pub use Rattle.pep508_environment.specs.Building
 pub use Rattle.pep508_marker.specs.Keys
+pub use Rattle.pep508_marker.specs.Operators
+pub use Rattle.pep508_marker.specs.Values
+pub use Rattle.pep508_marker.specs.Expression
 pub use Rattle.pep508_marker.specs.Warnings

@@ -11,7 +11,9 @@ pub use pep508_environment::{
     MarkerEnvironmentBuilder, StringVersion,
 };
 pub use pep508_marker::{
-    MarkerValueString, MarkerValueVersion, MarkerWarningKind, Reporter, Silent,
+    ClosureReporter, ExtraOperator, MarkerExpression, MarkerOperator, MarkerTextError, MarkerValue,
+    MarkerValueExtra, MarkerValueString, MarkerValueVersion, MarkerWarningKind, Reporter, Silent,
+    TracingReporter,
 };
 pub use pep508_name::{ExtraName, InvalidNameError, PackageName, RequirementOrigin};
 pub use pep508_requirement::{
