@@ -1,0 +1,4 @@
+pub mod Zeros
+pub mod Unions
+pub mod Rests
+pub mod SameKeys

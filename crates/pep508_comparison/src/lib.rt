@@ -1,2 +1,15 @@
 //! Which versions the comparisons of environment markers hold (PEP 508, "Environment Markers").
+//!
+//! `python_version` has the first two numbers of `python_full_version` as its values, so a comparison of it is
+//! a set of full versions.
 #![tactic(auto)]
+
+pub mod laws;
+mod lists;
+mod minors;
+mod numbers;
+mod python;
+mod sets;
+
+pub use lists::{listed_range, python_listed_range};
+pub use python::python_version_range;

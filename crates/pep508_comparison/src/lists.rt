@@ -1,0 +1,96 @@
+//! Comparisons with lists of versions, by `in` and `not in`.
+
+ghost use Rattle.std.specs.Prelude.{◌≡◌, length, IfOk};
+ghost use Rattle.std.specs.List.{list_all};
+ghost use Rattle.version_ranges.specs.Point.{Point};
+ghost use Rattle.version_ranges.specs.Held.{holds_at};
+ghost use Rattle.pep440_rs.specs.Record.{VersionRecord};
+ghost use Rattle.pep440_rs.specs.Order.{version_cmp};
+ghost use Rattle.pep440_rs.specs.Ranges.{Gives};
+ghost use Rattle.pep508_comparison.specs.Comparisons.{is_minor, negated_points, listed, listed_minors, python_listed_points};
+ghost use Rattle.pep508_comparison.specs.Unions.{GivesAny};
+
+use crate::minors::in_minor;
+use crate::sets;
+use pep440_rs::{RangeError, Version};
+use std::alloc::{AllocError, Global};
+use version_ranges::Ranges;
+
+/// The versions of a list, or all others.
+///
+/// Sets of halves of the list are joined with each other, so that n versions take O(n log n) comparisons of
+/// versions. Takes memory for the bounds.
+pub fn listed_range(
+    alloc: Global,
+    negated: bool,
+    versions: &[Version],
+) -> Result<Ranges<Version>, AllocError>
+    ensures { IfOk result (λ set. (p : Point VersionRecord) →
+        holds_at version_cmp set p ≡ negated_points negated (listed versions.now) p) }
+{
+    let listed = listed_versions(alloc, versions)?;
+    if negated {
+        listed.complement(alloc)
+    } else {
+        Ok(listed)
+    }
+}
+
+/// The full versions for which `python_version` is listed, or is not. A listed version of three numbers or more,
+/// zeros counted, makes both hold nowhere, and then no number is raised.
+///
+/// `NumberAtEnd` where the minor release behind a listed one has a number past 64 bits. Takes as many
+/// comparisons and as much memory as `listed_range`.
+pub fn python_listed_range(
+    alloc: Global,
+    negated: bool,
+    versions: &[Version],
+) -> Result<Ranges<Version>, RangeError>
+    ensures { Gives result (python_listed_points negated versions.now) }
+{
+    if !are_minors(versions) {
+        return sets::nowhere(alloc);
+    }
+    sets::negated(alloc, negated, minors_range(alloc, versions))
+}
+
+/// The set of the versions: that of each half of them, joined with that of the other half.
+fn listed_versions(alloc: Global, versions: &[Version]) -> Result<Ranges<Version>, AllocError>
+    ensures { IfOk result (λ set. (p : Point VersionRecord) →
+        holds_at version_cmp set p ≡ listed versions.now p) }
+{
+    if versions.is_empty() {
+        return Ok(Ranges::empty(alloc));
+    }
+    if versions.len() == 1 {
+        let version = versions[0].try_clone(alloc)?;
+        return Ranges::singleton(alloc, version);
+    }
+    let (front, back) = versions.split_at(versions.len() / 2);
+    let front = listed_versions(alloc, front)?;
+    let back = listed_versions(alloc, back)?;
+    front.union(alloc, &back)
+}
+
+/// The full versions of the listed minor releases, joined likewise.
+fn minors_range(alloc: Global, versions: &[Version]) -> Result<Ranges<Version>, RangeError>
+    ensures { GivesAny result (listed_minors versions.now) }
+{
+    if versions.is_empty() {
+        return Ok(Ranges::empty(alloc));
+    }
+    if versions.len() == 1 {
+        return in_minor(alloc, versions[0].release());
+    }
+    let (front, back) = versions.split_at(versions.len() / 2);
+    let front = minors_range(alloc, front)?;
+    let back = minors_range(alloc, back)?;
+    sets::either(alloc, &front, &back)
+}
+
+/// Whether each version has at most two numbers, zeros counted.
+fn are_minors(versions: &[Version]) -> bool
+    ensures { result ≡ list_all (λ version. is_minor version.release) versions.now }
+{
+    versions.iter().all(|version| version.release().len() < 3)
+}

@@ -1,0 +1,80 @@
+//! Comparisons of `python_version`.
+
+ghost use Rattle.std.specs.Prelude.{◌≡◌, ◌<◌, ◌≤◌, length};
+ghost use Rattle.pep440_rs.specs.Ranges.{Gives};
+ghost use Rattle.pep508_comparison.specs.Comparisons.{compared_numbers, python_points, python_points_past, python_version_points};
+
+use crate::minors::{before_next_minor, from_next_minor, in_minor};
+use crate::numbers::{are_zeros, compared_numbers};
+use crate::sets;
+use pep440_rs::{Operator, RangeError, Version, VersionSpecifier, release_specifier_to_range};
+use std::alloc::Global;
+use version_ranges::Ranges;
+
+/// The full versions for which `python_version` compares so (PEP 508, "Environment Markers"): its values are the
+/// first two numbers of the full version, so that `python_version > '3.8'` begins at 3.9, and
+/// `python_version == '3.8.1'` holds nowhere.
+///
+/// `NumberAtEnd` where the minor release behind the one that is compared with has a number past 64 bits, and it
+/// bounds the set. Goes a fixed number of times through the specifier's version. Takes memory for the bounds.
+pub fn python_version_range(
+    alloc: Global,
+    specifier: &VersionSpecifier,
+) -> Result<Ranges<Version>, RangeError>
+    ensures { Gives result (python_version_points specifier.now) }
+{
+    let operator = specifier.operator();
+    let numbers = compared_numbers(operator, specifier.version().release());
+    if numbers.len() < 3 {
+        python_range(alloc, specifier, numbers)
+    } else {
+        python_range_past(alloc, operator, numbers)
+    }
+}
+
+/// Compared with one number or two.
+fn python_range(
+    alloc: Global,
+    specifier: &VersionSpecifier,
+    numbers: &[u64],
+) -> Result<Ranges<Version>, RangeError>
+    requires some { 0 < length numbers.now }
+    requires compared { numbers.now ≡ compared_numbers specifier.now.operator specifier.now.version.release }
+    ensures { Gives result (python_points specifier.now.operator numbers.now) }
+{
+    match specifier.operator() {
+        Operator::Equal | Operator::ExactEqual => in_minor(alloc, numbers),
+        Operator::NotEqual => sets::negated(alloc, true, in_minor(alloc, numbers)),
+        Operator::EqualStar | Operator::NotEqualStar | Operator::TildeEqual => {
+            release_specifier_to_range(alloc, specifier)
+        }
+        Operator::LessThan => sets::below(alloc, Version::new(alloc, numbers)?),
+        Operator::LessThanEqual => before_next_minor(alloc, numbers),
+        Operator::GreaterThan => from_next_minor(alloc, numbers),
+        Operator::GreaterThanEqual => sets::from(alloc, Version::new(alloc, numbers)?),
+    }
+}
+
+/// Compared with three numbers or more, which no value has.
+fn python_range_past(
+    alloc: Global,
+    operator: Operator,
+    numbers: &[u64],
+) -> Result<Ranges<Version>, RangeError>
+    requires { 2 ≤ length numbers.now }
+    ensures { Gives result (python_points_past operator numbers.now) }
+{
+    match operator {
+        Operator::Equal | Operator::EqualStar | Operator::ExactEqual => sets::nowhere(alloc),
+        Operator::NotEqual | Operator::NotEqualStar => sets::everywhere(alloc),
+        Operator::TildeEqual => {
+            if are_zeros(&numbers[2..]) {
+                in_minor(alloc, numbers)
+            } else {
+                sets::nowhere(alloc)
+            }
+        }
+        Operator::LessThan | Operator::LessThanEqual => before_next_minor(alloc, numbers),
+        Operator::GreaterThan | Operator::GreaterThanEqual => from_next_minor(alloc, numbers),
+    }
+}

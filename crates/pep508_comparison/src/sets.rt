@@ -1,0 +1,91 @@
+//! The sets that comparisons are made of, with the error of ranges.
+
+ghost use Rattle.std.specs.Prelude.{◌≡◌, ◌||◌, Option, Some, IfOk, IfErr};
+ghost use Rattle.std.specs.Option.{option_map};
+ghost use Rattle.std.specs.declared.ops.Bound.TheVariants.{Included, Excluded};
+ghost use Rattle.version_ranges.specs.Point.{Point};
+ghost use Rattle.version_ranges.specs.Held.{holds_at};
+ghost use Rattle.pep440_rs.specs.Record.{VersionRecord};
+ghost use Rattle.pep440_rs.specs.Order.{version_cmp};
+ghost use Rattle.pep440_rs.specs.Ranges.{PointTest, Gives, from_bound, to_bound, up_to};
+ghost use Rattle.pep508_comparison.specs.Comparisons.{nowhere, everywhere, negated_points};
+
+use pep440_rs::{RangeError, Version};
+use std::alloc::Global;
+use std::ops::Bound;
+use version_ranges::Ranges;
+
+/// No version.
+pub(crate) fn nowhere(alloc: Global) -> Result<Ranges<Version>, RangeError>
+    ensures { Gives result (Some nowhere) }
+{
+    Ok(Ranges::empty(alloc))
+}
+
+/// All versions.
+pub(crate) fn everywhere(alloc: Global) -> Result<Ranges<Version>, RangeError>
+    ensures { Gives result (Some everywhere) }
+{
+    Ok(Ranges::full(alloc)?)
+}
+
+/// The version and what comes behind it.
+pub(crate) fn from(alloc: Global, version: Version) -> Result<Ranges<Version>, RangeError>
+    ensures { Gives result (Some (from_bound (Included version))) }
+{
+    Ok(Ranges::higher_than(alloc, version)?)
+}
+
+/// What comes before a version.
+pub(crate) fn below(alloc: Global, version: Version) -> Result<Ranges<Version>, RangeError>
+    ensures { Gives result (Some (to_bound (Excluded version))) }
+{
+    Ok(Ranges::strictly_lower_than(alloc, version)?)
+}
+
+/// A version and what comes behind it, as far as another version.
+pub(crate) fn up_to(
+    alloc: Global,
+    first: Version,
+    end: Version,
+) -> Result<Ranges<Version>, RangeError>
+    ensures { Gives result (Some (up_to first end)) }
+{
+    let bounds = (Bound::Included(first), Bound::Excluded(end));
+    Ok(Ranges::from_range_bounds(alloc, bounds)?)
+}
+
+/// What a set holds, or what it does not hold.
+pub(crate) fn negated(
+    alloc: Global,
+    negated: bool,
+    set: Result<Ranges<Version>, RangeError>,
+) -> Result<Ranges<Version>, RangeError>
+    ensures { (wanted : Option PointTest) →
+        Gives set wanted → Gives result (option_map (negated_points negated) wanted) }
+{
+    match set {
+        Ok(set) => {
+            if negated {
+                Ok(set.complement(alloc)?)
+            } else {
+                Ok(set)
+            }
+        }
+        Err(error) => Err(error),
+    }
+}
+
+/// What one of two sets holds.
+pub(crate) fn either(
+    alloc: Global,
+    set: &Ranges<Version>,
+    other: &Ranges<Version>,
+) -> Result<Ranges<Version>, RangeError>
+    ensures points { IfOk result (λ joined. (p : Point VersionRecord) →
+        holds_at version_cmp joined p
+        ≡ (holds_at version_cmp set.now p || holds_at version_cmp other.now p)) }
+    ensures memory { IfErr result (λ error. error ≡ RangeError.Memory) }
+{
+    Ok(set.union(alloc, other)?)
+}
