@@ -30,57 +30,38 @@ pub fn branch_at<T: Ord, C: Copy>(first: C, later: &[Branch<T, C>], value: &T) -
     }
 }
 
-/// The first boundary of two rising lists of branches; and of each list what stands from it on, and what is
-/// left behind it. Where both begin with boundaries that are equal, it is the first list's.
-#[derive(Drop)]
-struct NextBranch<'a, T, C> {
-    boundary: &'a Boundary<T>,
-    first: (C, &'a [Branch<T, C>]),
-    second: (C, &'a [Branch<T, C>]),
-}
+/// What stands at a place, and the branches behind it.
+type Rest<'a, T, C> = (C, &'a [Branch<T, C>]);
 
-/// The first boundary of two lists of branches; `None` where both are empty. Compares two boundaries at most.
+/// The first boundary of two rising lists of branches; and of each list what stands from it on, and what is
+/// left behind it. Where both begin with boundaries that are equal, it is the first list's. `None` where both
+/// are empty. Compares two boundaries at most.
 fn next_branch<'a, T: Ord, C: Copy>(
     first: C,
     later: &'a [Branch<T, C>],
     other_first: C,
     other_later: &'a [Branch<T, C>],
-) -> Option<NextBranch<'a, T, C>>
+) -> Option<(&'a Boundary<T>, Rest<'a, T, C>, Rest<'a, T, C>)>
     ensures { MatchOption result ((later.now ≡ []) × (other_later.now ≡ []))
-        (λ next. IsNext T.cmp next.boundary.now first later.now next.first.0 next.first.1.now
-        other_first other_later.now next.second.0 next.second.1.now) }
+        (λ next. IsNext T.cmp next.0.now first later.now next.1.0 next.1.1.now
+        other_first other_later.now next.2.0 next.2.1.now) }
 {
     match (later.split_first(), other_later.split_first()) {
         (None, None) => None,
-        (Some((branch, left)), None) => Some(NextBranch {
-            boundary: &branch.boundary,
-            first: (branch.child, left),
-            second: (other_first, other_later),
-        }),
-        (None, Some((other, other_left))) => Some(NextBranch {
-            boundary: &other.boundary,
-            first: (first, later),
-            second: (other.child, other_left),
-        }),
-        (Some((branch, left)), Some((other, other_left))) => match branch
-            .boundary
-            .cmp(&other.boundary)
-        {
-            Ordering::Less => Some(NextBranch {
-                boundary: &branch.boundary,
-                first: (branch.child, left),
-                second: (other_first, other_later),
-            }),
-            Ordering::Equal => Some(NextBranch {
-                boundary: &branch.boundary,
-                first: (branch.child, left),
-                second: (other.child, other_left),
-            }),
-            Ordering::Greater => Some(NextBranch {
-                boundary: &other.boundary,
-                first: (first, later),
-                second: (other.child, other_left),
-            }),
+        (Some((branch, left)), None) => Some((
+            &branch.boundary,
+            (branch.child, left),
+            (other_first, other_later),
+        )),
+        (None, Some((other, rest))) => Some((&other.boundary, (first, later), (other.child, rest))),
+        (Some((branch, left)), Some((other, rest))) => match branch.boundary.cmp(&other.boundary) {
+            Ordering::Less => Some((
+                &branch.boundary,
+                (branch.child, left),
+                (other_first, other_later),
+            )),
+            Ordering::Equal => Some((&branch.boundary, (branch.child, left), (other.child, rest))),
+            Ordering::Greater => Some((&other.boundary, (first, later), (other.child, rest))),
         },
     }
 }
@@ -120,11 +101,16 @@ pub fn paired<T: NodeValue, C: Copy>(
     let (mut child, mut left) = (first, later);
     let (mut other_child, mut other_left) = (other_first, other_later);
     let mut pairs = Vec::new(alloc);
-    while let Some(next) = next_branch(child, left, other_child, other_left) {
-        (child, left) = next.first;
-        (other_child, other_left) = next.second;
+    while let Some((boundary, next, other_next)) = next_branch(
+        child,
+        left,
+        other_child,
+        other_left,
+    ) {
+        (child, left) = next;
+        (other_child, other_left) = other_next;
         pairs.push(Branch {
-            boundary: copy_of(alloc, next.boundary)?,
+            boundary: copy_of(alloc, boundary)?,
             child: (child, other_child),
         })?;
     }

@@ -6,7 +6,7 @@ pub returns-in-None-Some : goal.returns-in-None-Some
 returns-in-None-Some g c =
     let arm = c.in-None-Some in
     next_other_alone g.met.T.Ord.total c.args.first c.args.other_first c.args.later.now c.args.other_later.now
-    arm.other_left.now arm.other_left.now arm.other.now arm.other.now
+    arm.rest.now arm.rest.now arm.other.now arm.other.now
     (no_more c.args.later.now arm.ensures.cases) arm.ensures'.cases.0
 
 pub returns-in-Some-None : goal.returns-in-Some-None
@@ -20,19 +20,19 @@ pub returns-in-Less : goal.returns-in-Less
 returns-in-Less g c =
     let arm = c.in-Some-Some in
     next_less g.met.T.Ord.total c.args.first c.args.other_first c.args.later.now c.args.other_later.now
-    arm.left.now arm.other_left.now arm.branch.now arm.other.now
+    arm.left.now arm.rest.now arm.branch.now arm.other.now
     arm.ensures.cases.0 arm.ensures'.cases.0 c.in-Less.ensures
 
 pub returns-in-Equal : goal.returns-in-Equal
 returns-in-Equal g c =
     let arm = c.in-Some-Some in
     next_equal g.met.T.Ord.total c.args.first c.args.other_first c.args.later.now c.args.other_later.now
-    arm.left.now arm.other_left.now arm.branch.now arm.other.now
+    arm.left.now arm.rest.now arm.branch.now arm.other.now
     arm.ensures.cases.0 arm.ensures'.cases.0 c.in-Equal.ensures
 
 pub returns-in-Greater : goal.returns-in-Greater
 returns-in-Greater g c =
     let arm = c.in-Some-Some in
     next_greater g.met.T.Ord.total c.args.first c.args.other_first c.args.later.now c.args.other_later.now
-    arm.left.now arm.other_left.now arm.branch.now arm.other.now
+    arm.left.now arm.rest.now arm.branch.now arm.other.now
     arm.ensures.cases.0 arm.ensures'.cases.0 c.in-Greater.ensures
