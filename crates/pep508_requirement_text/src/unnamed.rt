@@ -1,7 +1,7 @@
 //! Reading the front of a requirement that has no name.
 
-ghost use Rattle.std.specs.Prelude.{◌≡◌, ◌⊎◌, ◌∷◌, ◌++◌, ◌<◌, [], ℕ, List, Some, None, length, encode_utf8_all};
-ghost use Rattle.std.specs.Prelude.{IsOk, IfOk, IfErr, IfSome, MatchOption, MatchResult};
+ghost use Rattle.std.specs.Prelude.{◌≡◌, ◌⊎◌, ◌∷◌, ◌++◌, ◌<◌, [], ℕ, List, length, encode_utf8_all};
+ghost use Rattle.std.specs.Prelude.{Some, None, IsOk, IfOk, IfErr, IfSome, MatchOption, MatchResult};
 ghost use Rattle.pep508_url.specs.Splits.{IsExtrasSplit};
 ghost use Rattle.pep508_error.specs.declared.refusal.RefusalKind.TheVariants.{Memory};
 ghost use Rattle.pep508_error.specs.Cursors.{rest_of};
@@ -33,8 +33,8 @@ pub struct Unnamed<'a> {
 /// The front of a requirement without a name at a place, and the place behind it: a URL and, at its end,
 /// extras in brackets. Inside brackets a line break alone ends the URL.
 ///
-/// Linear in the text; takes memory for the extras and for a refusal's message, and none for a URL that ends in
-/// no brackets. The refusal shows the part of the text at fault.
+/// Linear in the text; takes memory for the extras and for a refusal's message, and none for a URL that ends
+/// in no brackets. The refusal shows the part of the text at fault.
 pub fn read_unnamed<'a>(
     alloc: Global,
     start: Cursor<'a>,
