@@ -41,6 +41,10 @@ module _ (text url later : List ℕ) (at : (chars url, later) ≡ url_at text) w
   pub nothing_read : (length url == 0) ≡ true → IsUnnamedReading text (Err Malformed)
   nothing_read h = (refl, inl (sym characters_are ∙ ap chars (nothing url h) ∙ chars-nil))
 
+  pub nothing_there : (length url == 0) ≡ true → 0 < length (url_at text).0 → ⊥
+  nothing_there h some =
+      absurd (omega (arith, some, ap length (sym characters_are ∙ ap chars (nothing url h) ∙ chars-nil)))
+
   module _ (utf8 : IsUtf8 url) where
     pub whole_is : url ≡ encode_utf8_all (url_at text).0
     whole_is = sym (encodes-chars url utf8) ∙ ap encode_utf8_all characters_are

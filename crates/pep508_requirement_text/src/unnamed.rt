@@ -1,6 +1,7 @@
 //! Reading the front of a requirement that has no name.
 
-ghost use Rattle.std.specs.Prelude.{◌≡◌, ◌⊎◌, ◌∷◌, ◌++◌, [], ℕ, List, Some, None, IfOk, IfErr, IfSome, MatchOption, MatchResult, encode_utf8_all};
+ghost use Rattle.std.specs.Prelude.{◌≡◌, ◌⊎◌, ◌∷◌, ◌++◌, ◌<◌, [], ℕ, List, length, encode_utf8_all};
+ghost use Rattle.std.specs.Prelude.{Some, None, IsOk, IfOk, IfErr, IfSome, MatchOption, MatchResult};
 ghost use Rattle.pep508_url.specs.Splits.{IsExtrasSplit};
 ghost use Rattle.pep508_error.specs.declared.refusal.RefusalKind.TheVariants.{Memory};
 ghost use Rattle.pep508_error.specs.Cursors.{rest_of};
@@ -32,8 +33,8 @@ pub struct Unnamed<'a> {
 /// The front of a requirement without a name at a place, and the place behind it: a URL and, at its end,
 /// extras in brackets. Inside brackets a line break alone ends the URL.
 ///
-/// Linear in the text; takes memory for the extras and for a refusal's message. The refusal shows the part of
-/// the text at fault.
+/// Linear in the text; takes memory for the extras and for a refusal's message, and none for a URL that ends
+/// in no brackets. The refusal shows the part of the text at fault.
 pub fn read_unnamed<'a>(
     alloc: Global,
     start: Cursor<'a>,
@@ -44,6 +45,10 @@ pub fn read_unnamed<'a>(
     ensures url { IfOk result (λ found. found.0.url.start.input.now ≡ start.entry.input.now) }
     ensures whole { IfOk result (λ found. found.0.whole.text.now
         ≡ encode_utf8_all (url_at (rest_of start.entry)).0) }
+    ensures none { 0 < length (url_at (rest_of start.entry)).0
+        → ((url extras : List ℕ)
+        → IsExtrasSplit (encode_utf8_all (url_at (rest_of start.entry)).0) url extras → ⊥)
+        → IsOk result }
 {
     let place = start.after_whitespace();
     let (whole, later) = cut_url(place, true);
@@ -65,6 +70,7 @@ fn read_parts<'a>(
         (λ refusal. IsPlain refusal.kind
         × ((refusal.kind ≡ Memory) ⊎ ((url : List ℕ) × HasExtras whole.entry.text.now url None))) }
     ensures of { IfErr result (IsOf whole.entry.start) }
+    ensures none { ((url extras : List ℕ) → IsExtrasSplit whole.entry.text.now url extras → ⊥) → IsOk result }
     ensures input { IfOk result (λ found. found.0.start.input.now ≡ whole.entry.start.input.now) }
 {
     let Some((url, extras)) = split_piece(whole) else {

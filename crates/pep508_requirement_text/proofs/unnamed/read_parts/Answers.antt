@@ -18,3 +18,11 @@ returns-in-Ok-None-clause-read c = (
         (sym (rw c.in-Ok-None.field-0-is at c.in-Ok-None.ensures)),
   ),
 )
+
+pub returns-in-Ok-None-clause-none : goal.returns-in-Ok-None-clause-none
+returns-in-Ok-None-clause-none c =
+    λ none. absurd (none c.in-Some.url.text.now c.in-Some.extras.now c.in-Some.ensures.split)
+
+pub returns-in-Err-clause-none : goal.returns-in-Err-clause-none
+returns-in-Err-clause-none c =
+    λ none. absurd (none c.in-Some.url.text.now c.in-Some.extras.now c.in-Some.ensures.split)

@@ -1,9 +1,10 @@
-use Rattle.std.proofs.Common.{inr, true, sym, subst, ap, ◌∙◌}
+use Rattle.std.proofs.Common.{inr, true, List, ℕ, sym, subst, ap, ◌∙◌}
 use Rattle.std.proofs.lemmas.Result.{err_from_is_err_and}
 use Rattle.pep508_error.specs.Cursors.{rest_of}
+use Rattle.pep508_url.specs.Splits.{IsExtrasSplit}
 use Rattle.pep508_requirement_text.specs.UrlEnds.{url_split}
 use Rattle.pep508_requirement_text.specs.FrontOutcome.{behind, IsPlain}
-use Rattle.pep508_requirement_text.proofs.UnnamedParts.{nothing_read, whole_is, front_read, extras_stop}
+use Rattle.pep508_requirement_text.proofs.UnnamedParts.{nothing_read, nothing_there, whole_is, front_read, extras_stop}
 use Rattle.pep508_requirement_text.proofs.unnamed.read_unnamed.Goals as goal
 
 pub returns-then-is_empty-clause-read : goal.returns-then-is_empty-clause-read
@@ -34,3 +35,20 @@ returns-clause-whole c =
     whole_is (rest_of c.args.start) c.cut_url.result.0.text.now (behind c.cut_url.result.1)
     (c.cut_url.ensures.parts ∙ ap (url_split true 0) c.after_whitespace-place.ensures.rest)
     c.cut_url.ensures.utf8
+
+pub returns-then-is_empty-clause-none : goal.returns-then-is_empty-clause-none
+returns-then-is_empty-clause-none c =
+    λ some none.
+    absurd (nothing_there (rest_of c.args.start) c.cut_url.result.0.text.now (behind c.cut_url.result.1)
+    (c.cut_url.ensures.parts ∙ ap (url_split true 0) c.after_whitespace-place.ensures.rest)
+    (sym c.is_empty.ensures ∙ c.if-is_empty.true) some)
+
+pub returns-in_err-url-clause-none : goal.returns-in_err-url-clause-none
+returns-in_err-url-clause-none c =
+    λ some none.
+    let whole = whole_is (rest_of c.args.start) c.cut_url.result.0.text.now (behind c.cut_url.result.1)
+    (c.cut_url.ensures.parts ∙ ap (url_split true 0) c.after_whitespace-place.ensures.rest)
+    c.cut_url.ensures.utf8 in
+    let read = c.in_err-url.ensures.none
+    (λ url extras split. none url extras (subst (λ (text : List ℕ). IsExtrasSplit text url extras) whole split)) in
+    absurd (cc)
