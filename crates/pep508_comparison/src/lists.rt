@@ -36,8 +36,8 @@ pub fn listed_range(
     }
 }
 
-/// The full versions for which `python_version` is listed, or is not. A listed version of three numbers or more,
-/// zeros counted, makes both hold nowhere, and then no number is raised.
+/// The full versions for which `python_version` is listed, or is not. A listed version of three numbers or
+/// more, zeros counted, makes both hold nowhere, and then no number is raised.
 ///
 /// `NumberAtEnd` where the minor release behind a listed one has a number past 64 bits. Takes as many
 /// comparisons and as much memory as `listed_range`.

@@ -11,12 +11,12 @@ use pep440_rs::{Operator, RangeError, Version, VersionSpecifier, release_specifi
 use std::alloc::Global;
 use version_ranges::Ranges;
 
-/// The full versions for which `python_version` compares so (PEP 508, "Environment Markers"): its values are the
-/// first two numbers of the full version, so that `python_version > '3.8'` begins at 3.9, and
+/// The full versions for which `python_version` compares so (PEP 508, "Environment Markers"): its values are
+/// the first two numbers of the full version, so that `python_version > '3.8'` begins at 3.9, and
 /// `python_version == '3.8.1'` holds nowhere.
 ///
-/// `NumberAtEnd` where the minor release behind the one that is compared with has a number past 64 bits, and it
-/// bounds the set. Goes a fixed number of times through the specifier's version. Takes memory for the bounds.
+/// `NumberAtEnd` where the set is bounded by a release whose last number would be past 64 bits. Goes a fixed
+/// number of times through the specifier's version. Takes memory for the bounds.
 pub fn python_version_range(
     alloc: Global,
     specifier: &VersionSpecifier,
