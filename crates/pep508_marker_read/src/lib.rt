@@ -1,0 +1,2 @@
+//! Reading environment markers (PEP 508, "Environment Markers").
+#![tactic(auto)]
