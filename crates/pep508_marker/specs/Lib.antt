@@ -1,3 +1,5 @@
 pub mod Keys
 pub mod Operators
+pub mod Values
+pub mod Expression
 pub mod Warnings
