@@ -15,7 +15,8 @@ use Rattle.pep508_marker.specs.declared.operators.MarkerOperator.{MarkerOperator
 use Rattle.pep508_marker.specs.declared.operators.MarkerOperator.TheVariants.{Equal, NotEqual, GreaterThan, GreaterEqual, LessThan, LessEqual, TildeEqual, In, NotIn, Contains, NotContains}
 use Rattle.pep508_marker.specs.declared.operators.ExtraOperator.{ExtraOperator}
 use Rattle.pep508_marker.specs.declared.operators.ExtraOperator.TheVariants as extra
-use Rattle.pep508_marker.specs.Expression.{ExpressionRecord, Version, VersionIn, String, Extra, ExtraRecord, Name, Arbitrary}
+use Rattle.pep508_marker.specs.Expression.{ExpressionRecord, Version, VersionIn, String, Extra}
+use Rattle.pep508_marker.specs.Values.{ExtraRecord, Name, Arbitrary}
 use Rattle.pep508_comparison.specs.Comparisons.{python_version_points, python_listed_points, negated_points, listed, nowhere}
 use Rattle.pep508_diagram.specs.declared.variable.VersionVariable.{VersionVariable}
 use Rattle.pep508_diagram.specs.declared.variable.VersionVariable.TheVariants as variable

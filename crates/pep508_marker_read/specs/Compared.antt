@@ -1,10 +1,10 @@
 -- What is said by a comparison of a marker, where something is (PEP 508, "Environment Markers").
-use Rattle.std.specs.Prelude.{ℕ, find, codes, Bool, true, false, not, if◌then◌else◌, List, [], ◌∷◌, map, filter, encode_utf8_all, Option, Some, None, option_and_then, Result, Ok, Err}
+use Rattle.std.specs.Prelude.{ℕ, Bool, true, false, not, if◌then◌else◌, List, [], ◌∷◌, map, filter, encode_utf8_all, Option, Some, None, option_and_then, Result, Ok, Err}
 use Rattle.std.specs.Char.{is_whitespace}
 use Rattle.std.specs.List.{slice_split}
 use Rattle.std.specs.Option.{option_map}
 use Rattle.std.specs.Result.{result_ok}
-use Rattle.std.specs.Str.{chars, bytes_eq}
+use Rattle.std.specs.Str.{chars}
 use Rattle.pep440_rs.specs.Record.{VersionRecord, PatternRecord}
 use Rattle.pep440_rs.specs.Reading.{version_of, pattern_of}
 use Rattle.pep440_rs.specs.Matching.{SpecifierRecord}
@@ -18,46 +18,10 @@ use Rattle.pep508_marker.specs.declared.operators.MarkerOperator.TheVariants.{Ti
 use Rattle.pep508_marker.specs.declared.operators.ExtraOperator.{ExtraOperator}
 use Rattle.pep508_marker.specs.declared.warnings.MarkerWarningKind.{MarkerWarningKind}
 use Rattle.pep508_marker.specs.declared.warnings.MarkerWarningKind.TheVariants.{ExtraInvalidComparison, LexicographicComparison, MarkerMarkerComparison, Pep440Error, StringStringComparison}
-use Rattle.pep508_marker.specs.declared.keys.MarkerValueVersion.TheVariants.{ImplementationVersion, PythonFullVersion, PythonVersion}
-use Rattle.pep508_marker.specs.declared.keys.MarkerValueString.TheVariants.{ImplementationName, OsName, OsNameDeprecated, PlatformMachine, PlatformMachineDeprecated, PlatformPythonImplementation, PlatformPythonImplementationDeprecated}
-use Rattle.pep508_marker.specs.declared.keys.MarkerValueString.TheVariants.{PythonImplementationDeprecated, PlatformRelease, PlatformSystem, PlatformVersion, PlatformVersionDeprecated, SysPlatform, SysPlatformDeprecated}
-use Rattle.pep508_marker.specs.Keys.{version_key_name, text_key_written}
 use Rattle.pep508_marker.specs.Operators.{inverted, specifier_operator, extra_operator}
-use Rattle.pep508_marker.specs.Expression.{ExpressionRecord, ExtraRecord}
+use Rattle.pep508_marker.specs.Values.{ValueRecord, VersionKey, TextKey, ExtraKey, Quoted, ExtraRecord, Name, Arbitrary}
+use Rattle.pep508_marker.specs.Expression.{ExpressionRecord}
 use Rattle.pep508_marker.specs.Expression as expression
-
--- what stands on one side of an operator: a key, or a quoted text
-pub data Side : Type 0 where
-  VersionKey : MarkerValueVersion → Side
-  TextKey : MarkerValueString → Side
-  ExtraKey : Side
-  Quoted : List ℕ → Side
-
--- the key that a text is as it is written
-abbrev pub version_key_of : List ℕ → Option MarkerValueVersion
-version_key_of text = find (λ key. bytes_eq (version_key_name key) text)
-    (ImplementationVersion ∷ PythonFullVersion ∷ PythonVersion ∷ [])
-
-abbrev pub text_keys : List MarkerValueString
-text_keys =
-    ImplementationName ∷ OsName ∷ OsNameDeprecated ∷ PlatformMachine ∷ PlatformMachineDeprecated
-    ∷ PlatformPythonImplementation ∷ PlatformPythonImplementationDeprecated ∷ PythonImplementationDeprecated
-    ∷ PlatformRelease ∷ PlatformSystem ∷ PlatformVersion ∷ PlatformVersionDeprecated ∷ SysPlatform
-    ∷ SysPlatformDeprecated ∷ []
-
-abbrev pub text_key_of : List ℕ → Option MarkerValueString
-text_key_of text = find (λ key. bytes_eq (text_key_written key) text) text_keys
-
-abbrev pub or_else : {A : Type 0} → Option A → Option A → Option A
-or_else (Some x) other = Some x
-or_else None other = other
-
--- the key that a text is, `extra` included
-abbrev pub side_of : List ℕ → Option Side
-side_of text =
-    or_else (option_map VersionKey (version_key_of text))
-    (or_else (option_map TextKey (text_key_of text))
-    (if bytes_eq text (codes "extra") then Some ExtraKey else None))
 
 -- what a comparison says, if anything, and of what kinds the warnings are
 pub record Compared : Type 0 where
@@ -130,8 +94,8 @@ text_compared key operator text = says (expression.String key operator text)
 
 -- the extra of a name, and one of a text that is no name
 abbrev pub extra_of : Option (List ℕ) → List ℕ → ExtraRecord
-extra_of (Some name) text = expression.Name name
-extra_of None text = expression.Arbitrary text
+extra_of (Some name) text = Name name
+extra_of None text = Arbitrary text
 
 abbrev pub of_extra : ExtraRecord → Option ExtraOperator → Compared
 of_extra extra (Some operator) = says (expression.Extra operator extra)
@@ -147,7 +111,7 @@ extra_compared operator text =
 
 -- ---- the two sides
 
-unfoldable pub compared : Side → MarkerOperator → Side → Compared
+unfoldable pub compared : ValueRecord → MarkerOperator → ValueRecord → Compared
 compared (VersionKey key) operator (Quoted text) = version_before key operator text
 compared (VersionKey key) operator other = left_out Pep440Error
 compared (TextKey key) operator (Quoted text) = text_compared key operator text

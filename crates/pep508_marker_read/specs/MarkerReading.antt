@@ -9,10 +9,11 @@ use Rattle.pep508_marker.specs.declared.operators.MarkerOperator.{MarkerOperator
 use Rattle.pep508_marker.specs.declared.operators.MarkerOperator.TheVariants.{NotIn}
 use Rattle.pep508_marker.specs.declared.warnings.MarkerWarningKind.{MarkerWarningKind}
 use Rattle.pep508_marker.specs.Operators.{marker_operator_of}
+use Rattle.pep508_marker.specs.Values.{ValueRecord, Quoted, key_of_text}
 use Rattle.pep508_marker.specs.Expression.{ExpressionRecord}
 use Rattle.pep508_expression.specs.Expressions.{has_points}
 use Rattle.pep508_marker_read.specs.Formula.{Formula, Says, LeftOut, Both, Either}
-use Rattle.pep508_marker_read.specs.Compared.{Side, Quoted, Compared, compared, side_of}
+use Rattle.pep508_marker_read.specs.Compared.{Compared, compared}
 
 -- why a text is no marker: by the grammar; since a number of a comparison can't be raised; since brackets nest too deep
 pub data Refused : Type 0 where
@@ -52,24 +53,32 @@ ends_word c = is_whitespace c || c == 39 || c == 34
 abbrev pub ends_signs : ℕ → Bool
 ends_signs c = not (c == 60 || c == 61 || c == 62 || c == 126 || c == 33)
 
-abbrev pub if_side : Option Side → List ℕ → Reading Side
+abbrev pub if_side : Option ValueRecord → List ℕ → Reading ValueRecord
 if_side None rest = Err Malformed
 if_side (Some side) rest = Ok (side, rest)
 
+abbrev pub is_quote : ℕ → Bool
+is_quote c = c == 39 || c == 34
+
+-- whether the first character passes a test
+abbrev pub begins_by : (ℕ → Bool) → List ℕ → Bool
+begins_by test [] = false
+begins_by test (c ∷ cs) = test c
+
 -- a text up to a quote of its own kind
-abbrev pub quoted_at : ℕ → List ℕ → Reading Side
+abbrev pub quoted_at : ℕ → List ℕ → Reading ValueRecord
 quoted_at quote cs =
     if nat_lt (position_or_len (λ c. c == quote) cs) (length cs)
     then Ok (Quoted (encode_utf8_all (before_first (λ c. c == quote) cs)), after_first (λ c. c == quote) cs)
     else Err Malformed
 
-abbrev pub key_at : List ℕ × List ℕ → Reading Side
-key_at parts = if_side (side_of (encode_utf8_all parts.0)) parts.1
+abbrev pub key_at : List ℕ × List ℕ → Reading ValueRecord
+key_at parts = if_side (key_of_text (encode_utf8_all parts.0)) parts.1
 
 -- one side of a comparison: a quoted text or a key
-abbrev pub side_at : List ℕ → Reading Side
+abbrev pub side_at : List ℕ → Reading ValueRecord
 side_at [] = Err Malformed
-side_at (c ∷ cs) = if c == 39 || c == 34 then quoted_at c cs else key_at (cut_before ends_key (c ∷ cs))
+side_at (c ∷ cs) = if is_quote c then quoted_at c cs else key_at (cut_before ends_key (c ∷ cs))
 
 -- `in`, behind `not` and white space
 abbrev pub in_at : List ℕ → Reading MarkerOperator
@@ -92,7 +101,8 @@ operator_in parts =
 abbrev pub operator_at : List ℕ → Reading MarkerOperator
 operator_at [] = Err Malformed
 operator_at (c ∷ cs) =
-    operator_in (if is_ascii_alphabetic c then cut_before ends_word (c ∷ cs) else cut_before ends_signs (c ∷ cs))
+    if is_ascii_alphabetic c then operator_in (cut_before ends_word (c ∷ cs))
+    else operator_in (cut_before ends_signs (c ∷ cs))
 
 -- ---- comparisons
 
@@ -104,11 +114,11 @@ of_said (Some expression) warned rest =
 abbrev pub of_compared : Compared → List ℕ → Reading Marker
 of_compared compared rest = of_said compared.said compared.warned rest
 
-abbrev pub behind_operator : Side → MarkerOperator × List ℕ → Reading Marker
+abbrev pub behind_operator : ValueRecord → MarkerOperator × List ℕ → Reading Marker
 behind_operator left found =
     side_at (skip_leading_whitespace found.1) >>= λ right. of_compared (compared left found.0 right.0) right.1
 
-abbrev pub behind_side : Side × List ℕ → Reading Marker
+abbrev pub behind_side : ValueRecord × List ℕ → Reading Marker
 behind_side left = operator_at (skip_leading_whitespace left.1) >>= behind_operator left.0
 
 -- two sides and an operator between them
