@@ -1,3 +1,3 @@
 pub mod Tests
-pub mod Decoded
 pub mod Cuts
+pub mod Sides
