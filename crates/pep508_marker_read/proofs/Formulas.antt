@@ -174,7 +174,7 @@ before_bracket behind rest h =
     let e = spaced_again behind (41 ∷ rest) h refl in
     (ap (next_in And) e ∙ not_bracket And rest, ap (next_in Or) e ∙ not_bracket Or rest)
 
-before_end : (rest : List ℕ) → AreSpaces rest → Stops rest
+pub before_end : (rest : List ℕ) → AreSpaces rest → Stops rest
 before_end rest h = (let e = only_spaces rest h in (ap (next_in And) e, ap (next_in Or) e))
 
 -- ---- by the depth of brackets

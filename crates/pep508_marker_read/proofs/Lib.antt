@@ -4,3 +4,6 @@ pub mod Sides
 pub mod Operators
 pub mod Comparisons
 pub mod Joined
+pub mod Formulas
+pub mod Markers
+pub mod LeftOut
