@@ -1,6 +1,6 @@
 -- A comparison is read as the grammar has it.
-use Rattle.std.proofs.Common.{◌≡◌, ◌⊎◌, ℕ, ◌+◌, ◌<◌, ◌==◌, arith, length-append, Bool, true, false, if◌then◌else◌}
-use Rattle.std.proofs.Common.{List, [], ◌∷◌, ◌++◌, length, Some, None, Ok, Err, inl, inr, refl, ap, sym, subst, ◌∙◌}
+use Rattle.std.proofs.Common.{◌≡◌, ℕ, ◌+◌, ◌<◌, arith, length-append, Bool, true, false, if◌then◌else◌}
+use Rattle.std.proofs.Common.{List, [], ◌∷◌, ◌++◌, length, Some, None, Ok, Err, refl, ap, sym, subst, ◌∙◌}
 use Rattle.std.proofs.Common.{append_assoc}
 use Rattle.std.specs.Prelude.{Option}
 use Rattle.std.specs.Char.{is_whitespace}
@@ -16,7 +16,7 @@ use Rattle.pep508_marker_read.specs.Formula.{Says, LeftOut}
 use Rattle.pep508_marker_read.specs.MarkerReading.{Reading, AtEnd, Marker, begins_by, ◌>>=◌, side_at, operator_at, of_said, of_compared}
 use Rattle.pep508_marker_read.specs.MarkerReading.{behind_operator, behind_side, comparison_at, closed, part_of, part_at}
 use Rattle.pep508_marker_read.specs.MarkerText.{IsSpaced, IsSideText, IsComparisonText}
-use Rattle.pep508_marker_read.proofs.Cuts.{Unspaced, spaces_found, spaces_again, answer, ok_same, in_steps}
+use Rattle.pep508_marker_read.proofs.Cuts.{Unspaced, spaces_found, spaces_again, ok_same, in_steps}
 use Rattle.pep508_marker_read.proofs.Sides.{side_found, side_again, side_begins}
 use Rattle.pep508_marker_read.proofs.Operators.{operator_found, operator_again, operator_unspaced, operator_length}
 

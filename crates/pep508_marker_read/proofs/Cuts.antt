@@ -1,5 +1,5 @@
 -- White space that is skipped, characters that are cut off at the front, and answers in two steps.
-use Rattle.std.proofs.Common.{◌≡◌, ℕ, zero, suc, ◌+◌, ◌<◌, ◌==◌, Bool, true, false, not, cond, if◌then◌else◌, List}
+use Rattle.std.proofs.Common.{◌≡◌, ℕ, zero, suc, ◌+◌, ◌<◌, Bool, true, false, not, cond, List}
 use Rattle.std.proofs.Common.{[], ◌∷◌, ◌++◌, length, take, drop, get_or, All, Some, Ok, Err, inl, inr, refl, ap, sym}
 use Rattle.std.proofs.Common.{◌∙◌, arith, length-append}
 use Rattle.std.specs.Prelude.{nat_lt, Result}
@@ -13,7 +13,6 @@ use Rattle.std.specs.Str.{skip_leading_whitespace}
 use Rattle.pep440_rs.specs.SpecifierText.{AreSpaces}
 use Rattle.pep508_marker_read.specs.MarkerReading.{begins_by, cut_before, Refused, ◌>>=◌}
 use Rattle.pep508_marker_read.specs.MarkerText.{IsBefore}
-use Rattle.pep508_marker_read.proofs.Tests.{itself, the_same}
 
 -- ---- lists
 

@@ -1,20 +1,19 @@
 -- Formulas and markers are read as the grammar has them.
-use Rattle.std.proofs.Common.{◌≡◌, ◌⊎◌, ℕ, zero, suc, ◌+◌, ◌<◌, ◌==◌, arith, length-append, Bool, true, false}
-use Rattle.std.proofs.Common.{if◌then◌else◌, List, [], ◌∷◌, ◌++◌, length, Ok, Err, inl, inr, refl, ap, sym, subst, ◌∙◌}
+use Rattle.std.proofs.Common.{◌≡◌, ◌⊎◌, ℕ, zero, suc, ◌<◌, ◌==◌, arith, Bool, true, false}
+use Rattle.std.proofs.Common.{if◌then◌else◌, List, [], ◌∷◌, ◌++◌, length, Ok, Err, inl, inr, refl, ap, subst, ◌∙◌}
 use Rattle.std.specs.Prelude.{encode_utf8_all}
-use Rattle.std.proofs.lemmas.List.{append-nil}
 use Rattle.std.proofs.lemmas.Str.{encode_ascii}
 use Rattle.std.proofs.Common.{lit<}
 use Rattle.std.specs.Char.{is_whitespace}
 use Rattle.std.specs.Str.{bytes_eq, skip_leading_whitespace}
 use Rattle.pep440_rs.specs.SpecifierText.{AreSpaces}
-use Rattle.pep508_marker_read.specs.MarkerReading.{Reading, Refused, Malformed, TooDeep, Marker, ◌>>=◌, comparison_at}
-use Rattle.pep508_marker_read.specs.MarkerReading.{Connective, And, Or, word_of, run_at, is_next, joined_at}
-use Rattle.pep508_marker_read.specs.MarkerReading.{closed, part_of, part_at, either_at, formula_at, if_end, marker_at}
-use Rattle.pep508_marker_read.specs.MarkerText.{IsSpaced, IsComparisonText, IsEnclosed, IsJoint, IsJoined, IsEither}
-use Rattle.pep508_marker_read.specs.MarkerText.{IsFormulaText, IsMarkerText}
+use Rattle.pep508_marker_read.specs.MarkerReading.{Reading, Malformed, TooDeep, Marker, ◌>>=◌, comparison_at}
+use Rattle.pep508_marker_read.specs.MarkerReading.{Connective, And, Or, word_of, is_next, joined_at}
+use Rattle.pep508_marker_read.specs.MarkerReading.{closed, part_of, part_at, either_at, formula_at}
+use Rattle.pep508_marker_read.specs.MarkerText.{IsSpaced, IsComparisonText, IsEnclosed, IsJoined, IsEither}
+use Rattle.pep508_marker_read.specs.MarkerText.{IsFormulaText}
 use Rattle.pep508_marker_read.proofs.Tests.{the_same}
-use Rattle.pep508_marker_read.proofs.Cuts.{NonePasses, Ends, cut_again, cut_found, spaces_found, unspaced_same, only_spaces, answer}
+use Rattle.pep508_marker_read.proofs.Cuts.{cut_again, cut_found, spaces_found, unspaced_same, only_spaces}
 use Rattle.pep508_marker_read.proofs.Cuts.{ok_same, in_steps}
 use Rattle.pep508_marker_read.proofs.Comparisons.{spaced_found, spaced_again, spaced_none, spaced_length}
 use Rattle.pep508_marker_read.proofs.Comparisons.{comparison_found, comparison_again, comparison_shrinks}
@@ -30,9 +29,10 @@ closed_by : (marker : Marker) (c : ℕ) (cs : List ℕ) (found : Marker × List 
 closed_by marker c cs found false e h = absurd (cc)
 closed_by marker c cs found true e h =
     let made : Marker × List ℕ = (marker, cs) in
-    let same : made ≡ found = ok_same made found h in
-    (ap (λ x. x ∷ cs) (the_same c 41 e) ∙ ap (λ (p : Marker × List ℕ). 41 ∷ p.1) same,
-    ap (λ (p : Marker × List ℕ). p.0) same)
+    let same : made ≡ found = ok_same made found h in (
+      ap (λ x. x ∷ cs) (the_same c 41 e) ∙ ap (λ (p : Marker × List ℕ). 41 ∷ p.1) same,
+      ap (λ (p : Marker × List ℕ). p.0) same,
+    )
 
 closed_found : (marker : Marker) (cs : List ℕ) (found : Marker × List ℕ) → closed (marker, cs) ≡ Ok found
     → (cs ≡ 41 ∷ found.1) × (marker ≡ found.0)

@@ -8,7 +8,7 @@ use Rattle.pep440_rs.specs.SpecifierText.{AreSpaces}
 use Rattle.pep508_marker_read.specs.MarkerReading.{Refused, Malformed, Marker, ◌>>=◌, formula_at, if_end, marker_at}
 use Rattle.pep508_marker_read.specs.MarkerText.{IsSpaced, IsFormulaText, IsMarkerText}
 use Rattle.pep508_marker_read.proofs.Tests.{the_same}
-use Rattle.pep508_marker_read.proofs.Cuts.{only_spaces, answer, ok_same, in_steps}
+use Rattle.pep508_marker_read.proofs.Cuts.{only_spaces, ok_same, in_steps}
 use Rattle.pep508_marker_read.proofs.Comparisons.{spaced_found, spaced_on}
 use Rattle.pep508_marker_read.proofs.Formulas.{formula_found, formula_again, before_end}
 

@@ -4,7 +4,6 @@ use Rattle.std.proofs.Common.{if◌then◌else◌, List, [], ◌∷◌, ◌++◌
 use Rattle.std.proofs.Common.{Some, None, Ok, Err, inl, inr, refl, ap, sym, subst, ◌∙◌, append_assoc}
 use Rattle.std.specs.Prelude.{Option, encode_utf8_all}
 use Rattle.std.proofs.lemmas.Bool.Decides.{nat_tests}
-use Rattle.std.proofs.lemmas.List.{append-nil}
 use Rattle.std.proofs.lemmas.Slice.Eq.{bytes_eq-Decides, starts_is}
 use Rattle.std.proofs.lemmas.Str.{encode_ascii, encodes_same}
 use Rattle.std.specs.Bool.{Decides}
@@ -18,11 +17,11 @@ use Rattle.pep508_marker.specs.Operators.{marker_operator_of, is_not_in}
 use Rattle.pep508_marker.specs.Operators as texts
 use Rattle.pep508_marker_read.specs.MarkerReading.{Reading, Malformed, begins_by, cut_before, ends_word, ends_signs}
 use Rattle.pep508_marker_read.specs.MarkerReading.{in_at, behind_not, if_operator, operator_in, operator_at}
-use Rattle.pep508_marker_read.specs.MarkerText.{IsBefore, IsRunOperator, IsNotIn, IsOperatorText}
+use Rattle.pep508_marker_read.specs.MarkerText.{IsBefore, IsNotIn, IsOperatorText}
 use Rattle.pep508_marker_read.proofs.Tests.{the_same, or_cases}
-use Rattle.pep508_marker_read.proofs.Cuts.{Unspaced, NonePasses, Ends, cut_again, cut_found, cut_is, some_same}
+use Rattle.pep508_marker_read.proofs.Cuts.{Unspaced, NonePasses, Ends, cut_again, cut_found, cut_is}
 use Rattle.pep508_marker_read.proofs.Cuts.{spaces_found, spaces_again, at_places, from_places, ends_before, before_ends}
-use Rattle.pep508_marker_read.proofs.Cuts.{answer, ok_same}
+use Rattle.pep508_marker_read.proofs.Cuts.{ok_same}
 
 -- ---- `in` behind `not`
 

@@ -1,15 +1,14 @@
 -- What is said by a comparison of a marker, where something is (PEP 508, "Environment Markers").
-use Rattle.std.specs.Prelude.{ℕ, Bool, true, false, not, if◌then◌else◌, List, [], ◌∷◌, map, filter, encode_utf8_all, Option, Some, None, option_and_then, Result, Ok, Err}
+use Rattle.std.specs.Prelude.{ℕ, Bool, true, false, List, [], ◌∷◌, map, filter, encode_utf8_all, Option, Some, None, option_and_then}
 use Rattle.std.specs.Char.{is_whitespace}
 use Rattle.std.specs.List.{slice_split}
 use Rattle.std.specs.Option.{option_map}
 use Rattle.std.specs.Result.{result_ok}
 use Rattle.std.specs.Str.{chars}
-use Rattle.pep440_rs.specs.Record.{VersionRecord, PatternRecord}
+use Rattle.pep440_rs.specs.Record.{VersionRecord}
 use Rattle.pep440_rs.specs.Reading.{version_of, pattern_of}
 use Rattle.pep440_rs.specs.Matching.{SpecifierRecord}
 use Rattle.pep440_rs.specs.Building.{built, built_of_pattern}
-use Rattle.pep440_operator.specs.declared.operator.Operator.{Operator}
 use Rattle.pep508_name.specs.Name.{name_of, is_part}
 use Rattle.pep508_marker.specs.declared.keys.MarkerValueVersion.{MarkerValueVersion}
 use Rattle.pep508_marker.specs.declared.keys.MarkerValueString.{MarkerValueString}

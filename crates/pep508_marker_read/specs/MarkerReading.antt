@@ -1,10 +1,9 @@
 -- What there is to read of a marker's text: a formula and the warnings of its comparisons, or why there is none
 -- (PEP 508, "Grammar").
-use Rattle.std.specs.Prelude.{ℕ, suc, zero, ◌==◌, ◌||◌, ◌&&◌, not, nat_lt, Bool, true, false, if◌then◌else◌, List, [], ◌∷◌, ◌++◌, length, drop, codes, eqb, Option, Some, None, Result, Ok, Err, encode_utf8_all}
+use Rattle.std.specs.Prelude.{ℕ, suc, zero, ◌==◌, ◌||◌, not, nat_lt, Bool, false, if◌then◌else◌, List, [], ◌∷◌, ◌++◌, length, drop, codes, eqb, Option, Some, None, Result, Ok, Err, encode_utf8_all}
 use Rattle.std.specs.Char.{is_whitespace, is_ascii_alphabetic}
 use Rattle.std.specs.List.{before_first, after_first, position_or_len, starts_with}
-use Rattle.std.specs.Option.{option_map, is_some}
-use Rattle.std.specs.Str.{chars, skip_leading_whitespace, bytes_eq}
+use Rattle.std.specs.Str.{skip_leading_whitespace, bytes_eq}
 use Rattle.pep508_marker.specs.declared.operators.MarkerOperator.{MarkerOperator}
 use Rattle.pep508_marker.specs.declared.operators.MarkerOperator.TheVariants.{NotIn}
 use Rattle.pep508_marker.specs.declared.warnings.MarkerWarningKind.{MarkerWarningKind}
@@ -142,9 +141,9 @@ made_of Or f g = Either f g
 
 abbrev pub join_with : Connective → Marker → Marker → Marker
 join_with word first next = record {
-    formula = made_of word first.formula next.formula;
-    warned = first.warned ++ next.warned
-  }
+  formula = made_of word first.formula next.formula;
+  warned = first.warned ++ next.warned;
+}
 
 -- the run of characters that are no white space, and those behind it
 abbrev pub run_at : List ℕ → List ℕ × List ℕ
