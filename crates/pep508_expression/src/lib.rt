@@ -1,0 +1,2 @@
+//! Comparisons of environment markers as trees (PEP 508, "Environment Markers").
+#![tactic(auto)]

@@ -1,0 +1,9 @@
+pub mod Tests
+pub mod Cuts
+pub mod Sides
+pub mod Operators
+pub mod Comparisons
+pub mod Joined
+pub mod Formulas
+pub mod Markers
+pub mod LeftOut

@@ -1,0 +1,4 @@
+pub mod Compared
+pub mod Formula
+pub mod MarkerReading
+pub mod MarkerText

@@ -1,0 +1,4 @@
+//! Reading environment markers (PEP 508, "Environment Markers").
+#![tactic(auto)]
+
+pub mod laws;
