@@ -16,7 +16,8 @@ use Rattle.pep508_environment.specs.EnvironmentValues.{texts_of, versions_of, en
 -- equality is an equivalence
 pub environment_eq_equiv : IsEquivalence environment_eq
 environment_eq_equiv =
-    and_equiv (on_equiv texts_of (lists_equiv nat_list_eq_equiv)) (on_equiv versions_of (lists_equiv version_eq_equiv))
+    and_equiv (on_equiv texts_of (lists_equiv nat_list_eq_equiv))
+    (on_equiv versions_of (lists_equiv version_eq_equiv))
 
 pub environment_eq_partial : IsPartialEquivalence environment_eq
 environment_eq_partial = partial_equiv_from_equiv environment_eq_equiv
@@ -36,8 +37,10 @@ versions_alike (x ∷ xs) (y ∷ ys) h =
 pub alike_environments : (a b : EnvironmentRecord) → environment_eq a b ≡ true
     → fed_environment a ≡ fed_environment b
 alike_environments a b h =
-    let both = and_parts (pointwise bytes_eq (texts_of a) (texts_of b)) (pointwise version_eq (versions_of a) (versions_of b)) h in
-    let texts : texts_of a ≡ texts_of b = (pointwise_decides bytes_decides (texts_of a) (texts_of b)).0 both.0 in
+    let both = and_parts (pointwise bytes_eq (texts_of a) (texts_of b))
+    (pointwise version_eq (versions_of a) (versions_of b)) h in
+    let texts : texts_of a ≡ texts_of b =
+    (pointwise_decides bytes_decides (texts_of a) (texts_of b)).0 both.0 in
     let versions : flat_map fed_version (versions_of a) ≡ flat_map fed_version (versions_of b) =
     versions_alike (versions_of a) (versions_of b) both.1 in
     (λ k. flat_map fed.str (texts k) ++ versions k)

@@ -73,7 +73,8 @@ fn named_version(
     key: MarkerValueVersion,
     text: &str,
 ) -> Result<StringVersion, EnvironmentBuildError>
-    ensures answered { Answers (λ read. read.version) told_build result (under key (version_reading text.now)) }
+    ensures answered { Answers (λ read. read.version) told_build result
+        (under key (version_reading text.now)) }
     ensures text { IfOk result (λ read. string_bytes read.string ≡ text.now) }
     ensures grown { result ≡ Err errors.Memory → version_reading text.now ≢ Err NoLeadingNumber }
     ensures plain { (name : MarkerValueVersion) → result ≢ Err (errors.Version name versions.Memory) }

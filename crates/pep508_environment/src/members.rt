@@ -141,7 +141,10 @@ impl MarkerEnvironment {
 
     /// The same with another `implementation_version`.
     pub fn with_implementation_version(mut self, value: StringVersion) -> MarkerEnvironment
-        ensures { result ≡ record self { implementation_version = value.version; implementation_version_text = string_bytes value.string } }
+        ensures { result ≡ record self {
+          implementation_version = value.version;
+          implementation_version_text = string_bytes value.string;
+        } }
     {
         self.implementation_version = value;
         self
@@ -197,7 +200,10 @@ impl MarkerEnvironment {
 
     /// The same with another `python_full_version`.
     pub fn with_python_full_version(mut self, value: StringVersion) -> MarkerEnvironment
-        ensures { result ≡ record self { python_full_version = value.version; python_full_version_text = string_bytes value.string } }
+        ensures { result ≡ record self {
+          python_full_version = value.version;
+          python_full_version_text = string_bytes value.string;
+        } }
     {
         self.python_full_version = value;
         self
@@ -205,7 +211,10 @@ impl MarkerEnvironment {
 
     /// The same with another `python_version`.
     pub fn with_python_version(mut self, value: StringVersion) -> MarkerEnvironment
-        ensures { result ≡ record self { python_version = value.version; python_version_text = string_bytes value.string } }
+        ensures { result ≡ record self {
+          python_version = value.version;
+          python_version_text = string_bytes value.string;
+        } }
     {
         self.python_version = value;
         self

@@ -12,8 +12,8 @@ use pep440_rs::{Version, VersionSpecifier};
 use std::alloc::{AllocError, Global};
 use std::fmt;
 
-/// A comparison of a marker, as `python_version > '3.8'` (PEP 508, "Environment Markers"). A key stands on the
-/// left; one that was written on the right has its operator inverted.
+/// A comparison of a marker, as `python_version > '3.8'` (PEP 508, "Environment Markers"). A key stands on
+/// the left; one that was written on the right has its operator inverted.
 ///
 /// Prints as a marker's text. Compares and hashes by the variant, then by the fields in order.
 #[derive(Debug, PartialEq, Eq, PartialOrd, Ord, Hash, Drop)]

@@ -98,7 +98,8 @@ impl MarkerOperator {
     /// Takes memory for the error alone, which says `Invalid comparator: ` and the text.
     #[tactic(auto, unfolding(crate::specs::Operators::marker_operator_of))]
     pub fn from_str(alloc: Global, text: &str) -> Result<MarkerOperator, MarkerTextError>
-        ensures answered { Answers (λ operator. operator) told_text result (marker_operator_reading text.now) }
+        ensures answered { Answers (λ operator. operator) told_text result
+            (marker_operator_reading text.now) }
         ensures grown { result ≡ Err MarkerTextError.Memory → marker_operator_of text.now ≡ None }
     {
         match text {
