@@ -5,11 +5,11 @@
 #![tactic(auto)]
 
 pub use pep440_rs;
-pub use pep508_error::{Pep508Error, Pep508ErrorSource};
 pub use pep508_environment::{
     EnvironmentBuildError, EnvironmentError, EnvironmentMember, MarkerEnvironment,
     MarkerEnvironmentBuilder, StringVersion,
 };
+pub use pep508_error::{Pep508Error, Pep508ErrorSource};
 pub use pep508_marker::{
     ClosureReporter, ExtraOperator, MarkerExpression, MarkerOperator, MarkerTextError, MarkerValue,
     MarkerValueExtra, MarkerValueString, MarkerValueVersion, MarkerWarningKind, Reporter, Silent,

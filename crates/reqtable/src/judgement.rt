@@ -167,7 +167,10 @@ fn applies(environment: &MarkerEnvironment, line: &RequirementLine) -> bool
     match &line.marker {
         None => true,
         Some(comparison) => {
-            compares(environment.get_version(MarkerValueVersion::PythonFullVersion), comparison)
+            compares(
+                environment.get_version(MarkerValueVersion::PythonFullVersion),
+                comparison,
+            )
         },
     }
 }
