@@ -1,3 +1,13 @@
 pub mod Tree
 pub mod Meaning
 pub mod Comparisons
+pub mod Forms
+pub mod Nodes
+pub mod Conjunctions
+pub mod Places
+pub mod NodeLaws
+pub mod Asked
+pub mod AskedLaws
+pub mod Known
+pub mod Interning
+pub mod Joining
