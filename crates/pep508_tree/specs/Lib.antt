@@ -1,3 +1,6 @@
 pub mod Tree
 pub mod Meaning
 pub mod Comparisons
+pub mod Forms
+pub mod Nodes
+pub mod Conjunctions
