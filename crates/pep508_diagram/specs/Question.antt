@@ -125,12 +125,12 @@ at_place v (IsSet flag) = with_flag v flag false
 -- questions and valuations of markers
 abbrev pub marker : Asking Question Valuation
 marker = record {
-    cmp = question_cmp;
-    shares = shares_variable;
-    answer = answer;
-    below_all = below_all;
-    at_place = at_place
-  }
+  cmp = question_cmp;
+  shares = shares_variable;
+  answer = answer;
+  below_all = below_all;
+  at_place = at_place;
+}
 
 -- ---- diagrams of markers
 

@@ -1,5 +1,14 @@
 //! What stands between rising boundaries.
 
+ghost use Rattle.std.specs.Prelude.{◌≡◌, [], IfOk, MatchOption};
+ghost use Rattle.version_ranges.specs.Point.{Point, At};
+ghost use Rattle.pep508_diagram.specs.Branches.{RisingBranches, branch_at, AllBranches};
+ghost use Rattle.pep508_diagram.specs.Chains.{IsChild};
+ghost use Rattle.pep508_diagram.specs.Pairing.{IsNext};
+
+use crate::value::NodeValue;
+use std::alloc::{AllocError, Global};
+use std::cmp::Ordering;
 use version_ranges::Boundary;
 
 /// What stands from a boundary on, up to the next one.
@@ -7,4 +16,114 @@ use version_ranges::Boundary;
 pub struct Branch<T, C> {
     pub boundary: Boundary<T>,
     pub child: C,
+}
+
+/// What stands at a value. Compares as many boundaries as the logarithm of their number.
+pub fn branch_at<T: Ord, C: Copy>(first: C, later: &[Branch<T, C>], value: &T) -> C
+    requires { RisingBranches T.cmp later.now }
+    ensures { result ≡ branch_at T.cmp first later.now (At value.now) }
+{
+    let reached = later.partition_point(|branch| branch.boundary.reaches(value));
+    match reached.checked_sub(1) {
+        Some(last) => later[last].child,
+        None => first,
+    }
+}
+
+/// The first boundary of two rising lists of branches, and what stands and is left behind it of each. Where both
+/// begin with boundaries that are equal, it is the first list's.
+#[derive(Drop)]
+struct NextBranch<'a, T, C> {
+    boundary: &'a Boundary<T>,
+    first: (C, &'a [Branch<T, C>]),
+    second: (C, &'a [Branch<T, C>]),
+}
+
+/// The first boundary of two lists of branches; `None` where both are empty. Compares two boundaries at most.
+fn next_branch<'a, T: Ord, C: Copy>(
+    first: C,
+    later: &'a [Branch<T, C>],
+    other_first: C,
+    other_later: &'a [Branch<T, C>],
+) -> Option<NextBranch<'a, T, C>>
+    ensures { MatchOption result ((later.now ≡ []) × (other_later.now ≡ []))
+        (λ next. IsNext T.cmp next.boundary.now first later.now next.first.0 next.first.1.now
+        other_first other_later.now next.second.0 next.second.1.now) }
+{
+    match (later.split_first(), other_later.split_first()) {
+        (None, None) => None,
+        (Some((branch, left)), None) => Some(NextBranch {
+            boundary: &branch.boundary,
+            first: (branch.child, left),
+            second: (other_first, other_later),
+        }),
+        (None, Some((other, other_left))) => Some(NextBranch {
+            boundary: &other.boundary,
+            first: (first, later),
+            second: (other.child, other_left),
+        }),
+        (Some((branch, left)), Some((other, other_left))) => match branch
+            .boundary
+            .cmp(&other.boundary)
+        {
+            Ordering::Less => Some(NextBranch {
+                boundary: &branch.boundary,
+                first: (branch.child, left),
+                second: (other_first, other_later),
+            }),
+            Ordering::Equal => Some(NextBranch {
+                boundary: &branch.boundary,
+                first: (branch.child, left),
+                second: (other.child, other_left),
+            }),
+            Ordering::Greater => Some(NextBranch {
+                boundary: &other.boundary,
+                first: (first, later),
+                second: (other.child, other_left),
+            }),
+        },
+    }
+}
+
+/// A copy of a boundary, the very same.
+fn copy_of<T: NodeValue>(alloc: Global, boundary: &Boundary<T>) -> Result<Boundary<T>, AllocError>
+    ensures { IfOk result (λ copy. copy ≡ boundary.now) }
+{
+    Ok(match boundary {
+        Boundary::At(value) => Boundary::At(value.copied(alloc)?),
+        Boundary::JustAbove(value) => Boundary::JustAbove(value.copied(alloc)?),
+    })
+}
+
+/// Two lists of branches as one of pairs: at each point stands what stands there in the first and in the second.
+/// One pass over both, which copies each boundary once.
+pub fn paired<T: NodeValue, C: Copy>(
+    alloc: Global,
+    first: C,
+    later: &[Branch<T, C>],
+    other_first: C,
+    other_later: &[Branch<T, C>],
+) -> Result<Vec<Branch<T, (C, C)>>, AllocError>
+    requires rising { RisingBranches T.cmp later.now }
+    requires other_rising { RisingBranches T.cmp other_later.now }
+    ensures points { IfOk result (λ pairs. (p : Point T) →
+        branch_at T.cmp (first, other_first) pairs.items p
+        ≡ (branch_at T.cmp first later.now p, branch_at T.cmp other_first other_later.now p)) }
+    ensures rises { IfOk result (λ pairs. RisingBranches T.cmp pairs.items) }
+    ensures children { IfOk result (λ pairs.
+        AllBranches (λ pair. IsChild pair.0 first later.now × IsChild pair.1 other_first other_later.now)
+        (first, other_first) pairs.items) }
+{
+    let (mut child, mut left) = (first, later);
+    let (mut other_child, mut other_left) = (other_first, other_later);
+    let mut pairs = Vec::new(alloc);
+    while let Some(next) = next_branch(child, left, other_child, other_left) {
+        (child, left) = next.first;
+        (other_child, other_left) = next.second;
+        pairs.push(Branch {
+            boundary: copy_of(alloc, next.boundary)?,
+            child: (child, other_child),
+        })?;
+    }
+    Ok(pairs)
 }

@@ -7,7 +7,7 @@ mod text;
 mod value;
 mod variable;
 
-pub use branch::Branch;
+pub use branch::{Branch, branch_at, paired};
 pub use text::MarkerText;
 pub use value::NodeValue;
 pub use variable::{Flag, VersionVariable};

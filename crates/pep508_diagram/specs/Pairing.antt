@@ -1,0 +1,32 @@
+-- One pass over two rising lists of branches: which boundary comes next, and what stands and is left behind it.
+use Rattle.std.specs.Prelude.{◌≡◌, ◌⊎◌, ◌+◌, ◌<◌, List, ◌∷◌, map, length}
+use Rattle.std.specs.List.{AllByRecursion}
+use Rattle.std.specs.declared.cmp.Ordering.{Ordering}
+use Rattle.std.specs.declared.cmp.Ordering.TheVariants.{Less, Equal}
+use Rattle.version_ranges.specs.declared.boundary.Boundary.{Boundary}
+use Rattle.version_ranges.specs.Boundaries.{boundary_cmp}
+use Rattle.pep508_diagram.specs.declared.branch.Branch.{Branch}
+use Rattle.pep508_diagram.specs.Branches.{RisingBranches}
+
+module _ {T C : Type 0} (cmp : T → T → Ordering) where
+  -- at a boundary a list goes on to its first branch, whose boundary equals that one, or stays as it is
+  abbrev pub GoesOn : Boundary T → C → List (Branch T C) → C → List (Branch T C) → Type 0
+  GoesOn t first later child left =
+      ((branch : Branch T C) × (later ≡ branch ∷ left) × (child ≡ branch.child)
+      × (boundary_cmp cmp branch.boundary t ≡ Equal))
+      ⊎ ((later ≡ left) × (child ≡ first))
+
+  -- a boundary comes before those of all branches
+  abbrev pub ComesBefore : Boundary T → List (Branch T C) → Type 0
+  ComesBefore t later = AllByRecursion (λ other. boundary_cmp cmp t other ≡ Less) (map (λ branch. branch.boundary) later)
+
+  -- t is the first boundary of two lists, as far as they rise; behind it stand child and other_child, and left
+  -- and other_left are left
+  pub record IsNext (t : Boundary T) (first : C) (later : List (Branch T C)) (child : C) (left : List (Branch T C))
+      (other_first : C) (other_later : List (Branch T C)) (other_child : C) (other_left : List (Branch T C))
+      : Type 0 where
+    pub goes_on : GoesOn t first later child left
+    pub other_goes_on : GoesOn t other_first other_later other_child other_left
+    pub before : RisingBranches cmp later → RisingBranches cmp other_later → ComesBefore t left
+    pub other_before : RisingBranches cmp later → RisingBranches cmp other_later → ComesBefore t other_left
+    pub taken : length left + length other_left < length later + length other_later
