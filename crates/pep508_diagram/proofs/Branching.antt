@@ -1,5 +1,6 @@
 -- What stands between rising boundaries.
-use Rattle.std.proofs.Common.{◌≡◌, ℕ, zero, suc, ◌+◌, ◌<◌, ◌≤◌, Bool, true, false, not, cond, List, [], ◌∷◌, ◌++◌, map, length, get_or, refl, sym, ap, subst, ◌∙◌, arith}
+use Rattle.std.proofs.Common.{◌≡◌, inl, inr, ℕ, zero, suc, ◌<◌, Bool, true, false, not, cond, List, [], ◌∷◌, ◌++◌, map, length, get_or, refl, sym, ap, subst, ◌∙◌, arith}
+use Rattle.std.proofs.lemmas.Bool.{cases_Bool}
 use Rattle.std.specs.List.{AllByRecursion}
 use Rattle.std.specs.List.Sorted.{IsPartitionedBy, IsPartitionPoint}
 use Rattle.std.specs.Ordering.{is_gt}
@@ -7,13 +8,15 @@ use Rattle.std.specs.Cmp.{IsTotalOrder}
 use Rattle.std.specs.declared.cmp.Ordering.{Ordering}
 use Rattle.std.specs.declared.cmp.Ordering.TheVariants.{Less, Equal, Greater}
 use Rattle.version_ranges.specs.declared.boundary.Boundary.{Boundary}
-use Rattle.version_ranges.specs.Point.{Point, point_cmp}
+use Rattle.version_ranges.specs.declared.boundary.Boundary.TheVariants as boundary
+use Rattle.version_ranges.specs.Point.{Point, BelowAll, point_cmp}
 use Rattle.version_ranges.specs.Boundaries.{point_of, boundary_cmp}
 use Rattle.version_ranges.specs.OrderLaws.{points_total, boundaries_total}
-use Rattle.version_ranges.specs.Turns.{reaches, Rising}
-use Rattle.version_ranges.proofs.Membership.{past_less, before_less, before_head}
+use Rattle.version_ranges.specs.Turns.{reaches}
+use Rattle.version_ranges.proofs.Membership.{past_less, before_less, reached_itself, not_later}
 use Rattle.pep508_diagram.specs.declared.branch.Branch.{Branch}
-use Rattle.pep508_diagram.specs.Branches.{RisingBranches, branch_at}
+use Rattle.pep508_diagram.specs.Branches.{RisingBranches, branch_at, AllBranches}
+use Rattle.pep508_diagram.specs.Chains.{IsChild}
 
 pub not_gt : (r : Ordering) → not (is_gt r) ≡ true → is_gt r ≡ false
 not_gt Less h = refl
@@ -119,3 +122,89 @@ module _ {T C : Type 0} (cmp : T → T → Ordering) (p : Point T) where
         (λ k e l m. w.0 (suc k) e (omega arith) (omega arith)),
         (λ k e l m. w.1 (suc k) e (omega arith) (omega arith)),
       ))
+
+-- ---- children
+
+-- what holds of all children holds of each
+pub all_children : {T C : Type 0} (P : C → Type 0) (first : C) (later : List (Branch T C)) (c : C) →
+    AllBranches P first later → IsChild c first later → P c
+all_children P first [] c all is = subst P (sym is) all
+all_children P first (branch ∷ later) c all (inl is) = subst P (sym is) all.0
+all_children P first (branch ∷ later) c all (inr is) = all_children P branch.child later c all.1 is
+
+module _ {T C : Type 0} (cmp : T → T → Ordering) where
+  -- what stands at a point is a child
+  pub branch_at_child : (first : C) (later : List (Branch T C)) (p : Point T) →
+      IsChild (branch_at cmp first later p) first later
+  branch_at_child first [] p = refl
+  branch_at_child first (branch ∷ later) p = elim (cases_Bool (reached cmp p branch)) [
+    | inl up ↦
+        let e : branch_at cmp first (branch ∷ later) p ≡ branch_at cmp branch.child later p = rw up refl in
+        subst (λ c. IsChild c first (branch ∷ later)) (sym e) (inr (branch_at_child branch.child later p))
+    | inr over ↦ inl (rw over refl)
+  ]
+
+  -- below all boundaries stands the first
+  pub branch_at_below : (first : C) (later : List (Branch T C)) → branch_at cmp first later BelowAll ≡ first
+  branch_at_below first [] = refl
+  branch_at_below first (branch ∷ later) = elim branch.boundary as (λ b.
+      cond (reaches (point_cmp cmp) (point_of b) BelowAll) (branch_at cmp branch.child later BelowAll) first ≡ first) [
+        | boundary.At v ↦ refl
+        | boundary.JustAbove v ↦ refl
+      ]
+
+module _ {T C : Type 0} {cmp : T → T → Ordering} (o : IsTotalOrder cmp) where
+  none_at_own : (t : Boundary T) (later : List (Branch T C)) → Before cmp t later → NoneReached cmp (point_of t) later
+  none_at_own t [] before = tt
+  none_at_own t (branch ∷ later) before = (
+    not_later (points_total cmp o) (point_of t) (point_of branch.boundary) before.0,
+    none_at_own t later before.1,
+  )
+
+  before_one : (t : Boundary T) (front : List (Branch T C)) (branch : Branch T C) (behind : List (Branch T C)) →
+      Before cmp t (front ++ (branch ∷ behind)) → boundary_cmp cmp t branch.boundary ≡ Less
+  before_one t [] branch behind before = before.0
+  before_one t (b ∷ front) branch behind before = before_one t front branch behind before.1
+
+  -- at its own boundary each branch's child stands
+  pub branch_at_own : (first : C) (front : List (Branch T C)) (branch : Branch T C) (behind : List (Branch T C)) →
+      RisingBranches cmp (front ++ (branch ∷ behind)) →
+      branch_at cmp first (front ++ (branch ∷ behind)) (point_of branch.boundary) ≡ branch.child
+  branch_at_own first [] branch behind rising =
+      let here : reached cmp (point_of branch.boundary) branch ≡ true =
+      reached_itself (points_total cmp o) (point_of branch.boundary) in
+      rw here (none_reached cmp branch.child behind (point_of branch.boundary)
+      (none_at_own branch.boundary behind rising.0))
+  branch_at_own first (b ∷ front) branch behind rising =
+      let up : reached cmp (point_of branch.boundary) b ≡ true =
+      ap (λ r. not (is_gt r)) (before_one b.boundary front branch behind rising.0) in
+      rw up (branch_at_own b.child front branch behind rising.1)
+
+  -- each child from a boundary on stands at a point that comes up to it
+  point_from : (t : Boundary T) (first : C) (later : List (Branch T C)) (c : C) → Before cmp t later →
+      RisingBranches cmp later → IsChild c first later →
+      (p : Point T) × (reaches (point_cmp cmp) (point_of t) p ≡ true) × (branch_at cmp first later p ≡ c)
+  point_from t first [] c before rising is = (point_of t, reached_itself (points_total cmp o) (point_of t), sym is)
+  point_from t first (branch ∷ later) c before rising (inl is) = (
+    point_of t,
+    reached_itself (points_total cmp o) (point_of t),
+    none_reached cmp first (branch ∷ later) (point_of t) (none_at_own t (branch ∷ later) before) ∙ sym is,
+  )
+  point_from t first (branch ∷ later) c before rising (inr is) =
+      let found = point_from branch.boundary branch.child later c rising.0 rising.1 is in (
+        found.0,
+        past_less (point_cmp cmp) (points_total cmp o) (point_of t) (point_of branch.boundary) found.0
+            (point_cmp cmp (point_of branch.boundary) found.0) refl before.0
+            (not_gt (point_cmp cmp (point_of branch.boundary) found.0) found.1),
+        rw found.1 found.2,
+      )
+
+  -- each child stands at some point
+  pub child_point : (first : C) (later : List (Branch T C)) (c : C) → RisingBranches cmp later →
+      IsChild c first later → (p : Point T) × (branch_at cmp first later p ≡ c)
+  child_point first [] c rising is = (BelowAll, sym is)
+  child_point first (branch ∷ later) c rising (inl is) =
+      (BelowAll, branch_at_below cmp first (branch ∷ later) ∙ sym is)
+  child_point first (branch ∷ later) c rising (inr is) =
+      let found = point_from branch.boundary branch.child later c rising.0 rising.1 is in
+      (found.0, rw found.1 found.2)

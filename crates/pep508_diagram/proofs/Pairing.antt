@@ -1,7 +1,6 @@
 -- One pass over two rising lists of branches: what it has still to write.
-use Rattle.std.proofs.Common.{◌≡◌, ◌⊎◌, inl, inr, ℕ, ◌+◌, ◌<◌, Bool, true, false, cond, List, [], ◌∷◌, ◌++◌, map, length, refl, sym, ap, subst, ◌∙◌, arith, append_assoc, append-nil}
+use Rattle.std.proofs.Common.{◌≡◌, inl, inr, ◌+◌, ◌<◌, true, false, List, [], ◌∷◌, ◌++◌, length, refl, sym, ap, subst, ◌∙◌, arith, append_assoc, append-nil}
 use Rattle.std.proofs.lemmas.Bool.{cases_Bool}
-use Rattle.std.specs.List.{AllByRecursion}
 use Rattle.std.specs.Cmp.{IsTotalOrder, tied_itself, tied_back, alike_right}
 use Rattle.std.specs.Ordering.{ordering_reverse}
 use Rattle.std.specs.declared.cmp.Ordering.{Ordering}
@@ -10,7 +9,7 @@ use Rattle.version_ranges.specs.declared.boundary.Boundary.{Boundary}
 use Rattle.version_ranges.specs.Point.{Point, point_cmp}
 use Rattle.version_ranges.specs.Boundaries.{point_of, boundary_cmp}
 use Rattle.version_ranges.specs.OrderLaws.{points_total, boundaries_total}
-use Rattle.version_ranges.specs.Turns.{reaches, Rising}
+use Rattle.version_ranges.specs.Turns.{reaches}
 use Rattle.version_ranges.proofs.Membership.{like}
 use Rattle.pep508_diagram.specs.declared.branch.Branch.{Branch}
 use Rattle.pep508_diagram.specs.Branches.{RisingBranches, branch_at, AllBranches}

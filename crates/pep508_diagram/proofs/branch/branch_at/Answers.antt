@@ -1,4 +1,4 @@
-use Rattle.std.proofs.Common.{◌≡◌, ◌+◌, ◌<◌, suc, length, rules, arith, sym, subst}
+use Rattle.std.proofs.Common.{◌≡◌, ◌<◌, suc, length, rules, arith, sym, subst}
 use Rattle.std.proofs.lemmas.List.Sorted.{IsPartitionPoint-from_clause}
 use Rattle.version_ranges.specs.Point.{At}
 use Rattle.pep508_diagram.proofs.Branching.{reached, IsReach, partitioned, at_none, at_last}
