@@ -4,3 +4,4 @@ pub mod Comparisons
 pub mod Forms
 pub mod Nodes
 pub mod Conjunctions
+pub mod Disjoint
