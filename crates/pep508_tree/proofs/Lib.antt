@@ -3,3 +3,9 @@ pub mod Diagrams
 pub mod Joins
 pub mod Orders
 pub mod Pairs
+pub mod Children
+pub mod OneNode
+pub mod OneTree
+pub mod Meanings
+pub mod Moving
+pub mod Disjoint

@@ -11,3 +11,4 @@ pub mod AskedLaws
 pub mod Known
 pub mod Interning
 pub mod Joining
+pub mod Disjoint
