@@ -9,3 +9,4 @@ pub mod OneTree
 pub mod Meanings
 pub mod Moving
 pub mod Disjoint
+pub mod Splitting

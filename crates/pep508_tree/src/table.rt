@@ -1,12 +1,11 @@
 //! What keeps the nodes of marker trees, each once.
 
-ghost use Rattle.std.specs.Prelude.{◌≡◌, ◌⊎◌, ℕ, ◌+◌, ◌-◌, ◌<◌, ◌≤◌, [], length, map, IfOk, IsTrue, ◌↔◌};
+ghost use Rattle.std.specs.Prelude.{◌≡◌, ◌⊎◌, ◌<◌, false, [], length, map, IfOk, IsTrue, ◌↔◌};
 ghost use Rattle.std.specs.Ordering.{is_gt};
-ghost use Rattle.std.specs.declared.cmp.Ordering.TheVariants.{Greater};
 ghost use Rattle.pep508_diagram.specs.Text.{text_cmp};
 ghost use Rattle.pep508_tree.specs.Meaning.{IsTree, Extends};
 ghost use Rattle.pep508_tree.specs.Forms.{record_of};
-ghost use Rattle.pep508_tree.specs.Nodes.{node_place, Above, AllChildren, IsRising, IsJoined};
+ghost use Rattle.pep508_tree.specs.Nodes.{first_place, node_place, Above, AllChildren, IsRising, IsJoined};
 ghost use Rattle.pep508_tree.specs.Nodes.{IsSoundNode, IsPlaced, IsAlone, Splits, Made, signed, turned_branch, first_child};
 
 use crate::node::{Form, Node, Pair};
@@ -115,6 +114,7 @@ impl NodeTable {
         requires a_node { 0 < a.place }
         requires b_node { 0 < b.place }
         ensures either { (result ≡ (a, b)) ⊎ (result ≡ (b, a)) }
+        ensures ordered { is_gt (text_cmp (first_place self.now result.0) (first_place self.now result.1)) ≡ false }
     {
         let first: &Node = &self.nodes[a.place() - 1];
         let second: &Node = &self.nodes[b.place() - 1];
@@ -132,6 +132,7 @@ impl NodeTable {
         requires b { IsTree self.now b }
         requires a_node { 0 < a.place }
         requires b_node { 0 < b.place }
+        requires ordered { is_gt (text_cmp (first_place self.now a) (first_place self.now b)) ≡ false }
         ensures { IfOk result (λ pairs. Splits self.now a b (record_of pairs)) }
     {
         let first: &Node = &self.nodes[a.place() - 1];
