@@ -5,3 +5,4 @@ pub mod Forms
 pub mod Nodes
 pub mod Conjunctions
 pub mod Disjoint
+pub mod NodeLaws
