@@ -10,3 +10,4 @@ pub mod Meanings
 pub mod Moving
 pub mod Disjoint
 pub mod Splitting
+pub mod Storing
