@@ -34,10 +34,10 @@ module _ (nodes : List NodeRecord) where
   pub disjoint_negation : (a : Tree) → AreDisjoint nodes a (negation a)
   disjoint_negation a v = ap (λ x. holds nodes a v && x) (negation_holds nodes a v) ∙ and_not (holds nodes a v)
 
-  always_holds : (v : Valuation) → holds nodes always v ≡ true
+  pub always_holds : (v : Valuation) → holds nodes always v ≡ true
   always_holds v = ap (λ d. truth d v) (diagram_top nodes always refl)
 
-  never_holds : (v : Valuation) → holds nodes never v ≡ false
+  pub never_holds : (v : Valuation) → holds nodes never v ≡ false
   never_holds v = ap (λ d. truth d v) (diagram_top nodes never refl)
 
   -- the tree that never holds, and any

@@ -11,3 +11,7 @@ pub mod Moving
 pub mod Disjoint
 pub mod Splitting
 pub mod Storing
+pub mod Placing
+pub mod Conjoining
+pub mod Knowing
+pub mod Plain

@@ -29,7 +29,7 @@ use Rattle.pep508_tree.proofs.Meanings.{chosen_all, holds_at, holds_turned}
 
 -- ---- what stays when a node is added
 
-above_kept : (old new : List NodeRecord) → Extends old new → (place : List ℕ) (t : Tree) → IsTree old t →
+pub above_kept : (old new : List NodeRecord) → Extends old new → (place : List ℕ) (t : Tree) → IsTree old t →
     Above old place t → Above new place t
 unfolding Above
 above_kept old new e place t made above k f =
@@ -50,14 +50,14 @@ sound_kept old new e place n inside s = record {
   plain = s.plain;
 }
 
-at_end : (ns : List NodeRecord) (n : NodeRecord) → node_at (ns ++ n ∷ []) (length ns) ≡ n
+pub at_end : (ns : List NodeRecord) (n : NodeRecord) → node_at (ns ++ n ∷ []) (length ns) ≡ n
 at_end ns n = get_or-append_seam ns n [] no_node
 
-in_front : (ns : List NodeRecord) (n : NodeRecord) (k : ℕ) → k < length ns →
+pub in_front : (ns : List NodeRecord) (n : NodeRecord) (k : ℕ) → k < length ns →
     node_at (ns ++ n ∷ []) k ≡ node_at ns k
 in_front ns n k h = get_or_append_left ns (n ∷ []) no_node k h
 
-in_or_last : (ns : List NodeRecord) (n : NodeRecord) (k : ℕ) → k < length (ns ++ n ∷ []) →
+pub in_or_last : (ns : List NodeRecord) (n : NodeRecord) (k : ℕ) → k < length (ns ++ n ∷ []) →
     (k < length ns) ⊎ (k ≡ length ns)
 in_or_last ns n k h = elim (cases_lt k (length ns)) [
   | inl a ↦ inl a
