@@ -23,7 +23,7 @@ use Rattle.pep508_tree.specs.Tree.{Tree, always, never, negation}
 use Rattle.pep508_tree.specs.Meaning.{NodeOf, NodeRecord, Versions, Texts, Flagged, holds, IsTree, Extends}
 use Rattle.pep508_tree.specs.Nodes.{AllChildren, IsRising, IsJoined, Above, Splits, Made, chosen, no_node, node_at, node_place, tree_cmp, turned}
 use Rattle.pep508_tree.specs.Joining.{children, joined, head, tail, node_joined}
-use Rattle.pep508_tree.specs.Conjunctions.{Conjunction}
+use Rattle.pep508_tree.specs.Conjunctions.{Conjunction, ArePairs, Meet}
 use Rattle.pep508_tree.proofs.Diagrams.{holds_kept}
 use Rattle.pep508_tree.proofs.OneNode.{tied_trees}
 use Rattle.pep508_tree.proofs.Storing.{above_kept, trees_same}
@@ -103,18 +103,12 @@ in_either old new a b t both (inr e) c =
 
 -- ---- lists whose elements meet a condition, each with each
 
-module _ {C D : Type 0} (R : C → D → Type 0) where
-  abbrev pub Meet : List C → List D → Type 0
-  Meet [] [] = Unit {0}
-  Meet [] (y ∷ ys) = ⊥
-  Meet (x ∷ xs) [] = ⊥
-  Meet (x ∷ xs) (y ∷ ys) = R x y × Meet xs ys
-
-  pub meet_push : (xs : List C) (ys : List D) (x : C) (y : D) → Meet xs ys → R x y → Meet (xs ++ x ∷ []) (ys ++ y ∷ [])
-  meet_push [] [] x y m r = (r, tt)
-  meet_push [] (z ∷ ys) x y m r = absurd m
-  meet_push (w ∷ xs) [] x y m r = absurd m
-  meet_push (w ∷ xs) (z ∷ ys) x y m r = (m.0, meet_push xs ys x y m.1 r)
+pub meet_push : {C D : Type 0} (R : C → D → Type 0) (xs : List C) (ys : List D) (x : C) (y : D) → Meet R xs ys →
+    R x y → Meet R (xs ++ x ∷ []) (ys ++ y ∷ [])
+meet_push R [] [] x y m r = (r, tt)
+meet_push R [] (z ∷ ys) x y m r = absurd m
+meet_push R (w ∷ xs) [] x y m r = absurd m
+meet_push R (w ∷ xs) (z ∷ ys) x y m r = (m.0, meet_push R xs ys x y m.1 r)
 
 pub meet_weaker : {C D : Type 0} (R S : C → D → Type 0) → ((x : C) (y : D) → R x y → S x y) → (xs : List C)
     (ys : List D) → Meet R xs ys → Meet S xs ys
@@ -265,21 +259,17 @@ module _ {C : Type 0} where
 
 -- ---- conjunctions of pairs
 
--- the tree is the conjunction of the pair, with the signs of two trees
-abbrev pub IsPairs : List NodeRecord → List NodeRecord → Tree → Tree → Tree × Tree → Tree → Type 0
-IsPairs old now a b pair tree = Conjunction old now (turned a.negated pair.0) (turned b.negated pair.1) tree
-
 -- the conjunctions of the first so many pairs stand, and nodes were only added
 pub record AreConjoined (old now : List NodeRecord) (a b : Tree) (pairs : List (Tree × Tree)) (trees : List Tree)
     (i : ℕ) : Type 0 where
   pub keeps : Extends old now
-  pub met : Meet (IsPairs old now a b) (take i pairs) trees
+  pub met : Meet (ArePairs old now a b) (take i pairs) trees
 
 pub conjoined_none : (nodes : List NodeRecord) (a b : Tree) (pairs : List (Tree × Tree)) (trees : List Tree) →
     trees ≡ [] → AreConjoined nodes nodes a b pairs trees 0
 conjoined_none nodes a b pairs trees e = record {
   keeps = extends_itself nodes;
-  met = subst (Meet (IsPairs nodes nodes a b) (take 0 pairs)) (sym e) tt;
+  met = subst (Meet (ArePairs nodes nodes a b) (take 0 pairs)) (sym e) tt;
 }
 
 pub conjoined_more : (old now new : List NodeRecord) (a b : Tree) (pairs : List (Tree × Tree))
@@ -290,23 +280,23 @@ pub conjoined_more : (old now new : List NodeRecord) (a b : Tree) (pairs : List 
 conjoined_more old now new a b pairs trees more i pair t s inside e made keeps c pushed = record {
   keeps = extends_on old now new s.keeps keeps;
   met =
-      let later : Meet (IsPairs old new a b) (take i pairs) trees =
-      meet_weaker (IsPairs old now a b) (IsPairs old new a b)
+      let later : Meet (ArePairs old new a b) (take i pairs) trees =
+      meet_weaker (ArePairs old now a b) (ArePairs old new a b)
       (λ p u d. conjunction_later old now new (turned a.negated p.0) (turned b.negated p.1) u keeps d)
       (take i pairs) trees s.met in
-      let here : IsPairs old new a b pair t =
+      let here : ArePairs old new a b pair t =
       conjunction_earlier old now new (turned a.negated pair.0) (turned b.negated pair.1) t s.keeps made.0 made.1 c in
       let longer : take (i + 1) pairs ≡ take i pairs ++ pair ∷ [] =
       take_more pairs i pair inside ∙ ap (λ p. take i pairs ++ p ∷ []) (sym e) in
-      subst (λ xs. Meet (IsPairs old new a b) xs more) (sym longer)
-      (subst (Meet (IsPairs old new a b) (take i pairs ++ pair ∷ [])) (sym pushed)
-      (meet_push (IsPairs old new a b) (take i pairs) trees pair t later here));
+      subst (λ xs. Meet (ArePairs old new a b) xs more) (sym longer)
+      (subst (Meet (ArePairs old new a b) (take i pairs ++ pair ∷ [])) (sym pushed)
+      (meet_push (ArePairs old new a b) (take i pairs) trees pair t later here));
 }
 
 pub conjoined_all : (old now : List NodeRecord) (a b : Tree) (pairs : List (Tree × Tree)) (trees : List Tree)
-    (i : ℕ) → AreConjoined old now a b pairs trees i → length pairs ≤ i → Meet (IsPairs old now a b) pairs trees
+    (i : ℕ) → AreConjoined old now a b pairs trees i → length pairs ≤ i → Meet (ArePairs old now a b) pairs trees
 conjoined_all old now a b pairs trees i s all =
-    subst (λ xs. Meet (IsPairs old now a b) xs trees) (take_all i pairs all) s.met
+    subst (λ xs. Meet (ArePairs old now a b) xs trees) (take_all i pairs all) s.met
 
 above_turned : (nodes : List NodeRecord) (place : List ℕ) (turns : Bool) (t : Tree) → Above nodes place t →
     Above nodes place (turned turns t)
@@ -314,20 +304,20 @@ unfolding Above
 above_turned nodes place turns t above = above
 
 module _ (old now : List NodeRecord) (a b : Tree) (pairs : NodeOf (Tree × Tree)) (trees : List Tree)
-    (s : Splits old a b pairs) (met : Meet (IsPairs old now a b) (children pairs) trees) where
+    (s : Splits old a b pairs) (met : Meet (ArePairs old now a b) (children pairs) trees) where
   pub made_children : AllChildren (IsTree now) (node_joined pairs trees)
   made_children =
-      children_joined (IsPairs old now a b) (IsTree now) (λ p t c. c.made) pairs trees met
+      children_joined (ArePairs old now a b) (IsTree now) (λ p t c. c.made) pairs trees met
 
   pub above_children : AllChildren (Above now (node_place (node_joined pairs trees))) (node_joined pairs trees)
   above_children =
       let behind = λ (p : Tree × Tree). Above old (node_place pairs) p.0 × Above old (node_place pairs) p.1 in
       subst (λ place. AllChildren (Above now place) (node_joined pairs trees)) (sym (place_joined pairs trees))
-      (children_joined (λ p t. behind p × IsPairs old now a b p t) (Above now (node_place pairs))
+      (children_joined (λ p t. behind p × ArePairs old now a b p t) (Above now (node_place pairs))
       (λ p t c. c.1.above (node_place pairs) (above_turned old (node_place pairs) a.negated p.0 c.0.0)
       (above_turned old (node_place pairs) b.negated p.1 c.0.1))
       pairs trees
-      (meet_with behind (IsPairs old now a b) (children pairs) trees (children_list behind pairs s.above) met))
+      (meet_with behind (ArePairs old now a b) (children pairs) trees (children_list behind pairs s.above) met))
 
   pub conjunction_made : (new : List NodeRecord) (tree : Tree) → Made now new (node_joined pairs trees) tree →
       Conjunction old new a b tree
@@ -335,8 +325,26 @@ module _ (old now : List NodeRecord) (a b : Tree) (pairs : NodeOf (Tree × Tree)
     made = made.made;
     truth_is = λ v.
         made.truth_is v
-        ∙ (chosen_joined (IsPairs old now a b) pairs trees met s.rises v).truth_is v
+        ∙ (chosen_joined (ArePairs old now a b) pairs trees met s.rises v).truth_is v
         ∙ ap₂ (λ x y. x && y) (sym (s.first_is v)) (sym (s.second_is v));
     above = λ place p q.
         made.above place (ap (λ other. text_cmp place other) (place_joined pairs trees) ∙ s.first place p q);
   }
+
+-- ---- two trees in either order
+
+pub meet_by : {C D : Type 0} (R : C → D → Type 0) (xs other : List C) (ys more : List D) → xs ≡ other → more ≡ ys →
+    Meet R xs ys → Meet R other more
+meet_by R xs other ys more e f m = subst (λ zs. Meet R zs more) e (subst (Meet R xs) (sym f) m)
+
+pub either_sum : (a b : Tree) (both : Tree × Tree) → (both ≡ (a, b)) ⊎ (both ≡ (b, a)) →
+    both.0.place + both.1.place ≡ a.place + b.place
+either_sum a b both (inl e) = ap (λ (p : Tree × Tree). p.0.place + p.1.place) e
+either_sum a b both (inr e) = ap (λ (p : Tree × Tree). p.0.place + p.1.place) e ∙ omega arith
+
+pub either_made : (nodes : List NodeRecord) (a b : Tree) (both : Tree × Tree) →
+    (both ≡ (a, b)) ⊎ (both ≡ (b, a)) → IsTree nodes a → IsTree nodes b → IsTree nodes both.0 × IsTree nodes both.1
+either_made nodes a b both (inl e) made other =
+    subst (λ (p : Tree × Tree). IsTree nodes p.0 × IsTree nodes p.1) (sym e) (made, other)
+either_made nodes a b both (inr e) made other =
+    subst (λ (p : Tree × Tree). IsTree nodes p.0 × IsTree nodes p.1) (sym e) (other, made)

@@ -1,13 +1,14 @@
 //! Conjunctions of marker trees.
 
-ghost use Rattle.std.specs.Prelude.{◌≡◌, ◌⊎◌, ◌<◌, false, [], List, MatchOption, IfOk, IfSome, refl};
+ghost use Rattle.std.specs.Prelude.{◌≡◌, ◌⊎◌, ◌+◌, ◌<◌, false, [], List, MatchOption, IfOk, IfSome, refl};
 ghost use Rattle.std.specs.Cmp.{eq_by_cmp_equiv, partial_equiv_from_equiv, partial_order_from_agreeing_total};
 ghost use Rattle.std.specs.Ordering.{eq_by_cmp, as_partial_cmp, is_gt};
+ghost use Rattle.std.specs.List.{AllByRecursion};
 ghost use Rattle.pep508_diagram.specs.Text.{text_cmp};
 ghost use Rattle.pep508_tree.specs.Meaning.{NodeRecord, IsTree, Extends};
 ghost use Rattle.pep508_tree.specs.Forms.{record_of};
 ghost use Rattle.pep508_tree.specs.Nodes.{first_place, node_place, Above, AllChildren, IsRising, IsJoined, Splits, Made};
-ghost use Rattle.pep508_tree.specs.Conjunctions.{Conjunction};
+ghost use Rattle.pep508_tree.specs.Conjunctions.{Conjunction, ArePairs, Meet};
 ghost use Rattle.pep508_tree.specs.Asked.{asked_cmp};
 ghost use Rattle.pep508_tree.specs.AskedLaws.{asked_total};
 
@@ -173,6 +174,7 @@ impl Conjoiner {
 
     /// The conjunction of two trees: no more steps than the product of the numbers of their nodes, each as long
     /// as the two nodes' boundaries. Recursion is as deep as the variables on a path.
+    #[cycle(conjoining)]
     pub fn conjunction(&mut self, a: MarkerTree, b: MarkerTree) -> Result<MarkerTree, AllocError>
         requires a { IsTree self.old a }
         requires b { IsTree self.old b }
@@ -188,13 +190,31 @@ impl Conjoiner {
         }
         let alloc = self.allocator();
         let pairs = self.split(a, b)?;
-        let mut trees = Vec::new(alloc);
-        for pair in &pairs.children(alloc)? {
-            let tree = self.conjunction(pair.0.turned(a.is_negated()), pair.1.turned(b.is_negated()))?;
-            trees.push(tree)?;
-        }
+        let children = pairs.children(alloc)?;
+        let trees = self.conjunctions(a, b, &children)?;
         let tree = self.store(pairs.joined(alloc, &trees)?)?;
         self.keep(a, b, tree)?;
         Ok(tree)
+    }
+
+    /// The conjunctions of pairs of what stands in two trees, with the signs of these.
+    #[cycle(conjoining)]
+    fn conjunctions(
+        &mut self,
+        a: MarkerTree,
+        b: MarkerTree,
+        pairs: &[Pair],
+    ) -> Result<Vec<MarkerTree>, AllocError>
+        requires made { AllByRecursion (λ pair. IsTree self.old pair.0 × IsTree self.old pair.1) pairs.now }
+        requires falls { AllByRecursion (λ pair. pair.0.place + pair.1.place < a.place + b.place) pairs.now }
+        ensures made { IfOk result (λ trees. Meet (ArePairs self.old self.new a b) pairs.now trees.items) }
+        ensures keeps { Extends self.old self.new }
+    {
+        let mut trees = Vec::new(self.allocator());
+        for pair in pairs {
+            let tree = self.conjunction(pair.0.turned(a.is_negated()), pair.1.turned(b.is_negated()))?;
+            trees.push(tree)?;
+        }
+        Ok(trees)
     }
 }
