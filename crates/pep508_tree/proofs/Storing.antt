@@ -1,7 +1,7 @@
 -- Nodes that are stored: sound interners with one more node, and the tree of a stored node.
-use Rattle.std.proofs.Common.{◌≡◌, ◌⊎◌, inl, inr, ℕ, ◌+◌, ◌≤◌, ◌<◌, Bool, true, false, not, cond, List, [], ◌∷◌, ◌++◌, map, length, get_or, refl, ap, ap₂, sym, subst, ◌∙◌, true≢false, arith, length-append, Ordering, Less, Equal, is_gt, nat_cmp}
+use Rattle.std.proofs.Common.{◌≡◌, ◌⊎◌, inl, inr, ℕ, ◌+◌, ◌≤◌, ◌<◌, Bool, true, false, not, cond, List, [], ◌∷◌, ◌++◌, map, length, refl, ap, ap₂, sym, subst, ◌∙◌, true≢false, arith, length-append, Ordering, Less, Equal, is_gt, nat_cmp}
 use Rattle.std.specs.Ordering.{bool_cmp, ordering_then}
-use Rattle.std.specs.Cmp.{IsTotalOrder, on_total}
+use Rattle.std.specs.Cmp.{IsTotalOrder}
 use Rattle.std.specs.Cmp.Lexicographic.{slice_cmp, nat_list_cmp_total}
 use Rattle.std.proofs.lemmas.Cmp.{tied_back}
 use Rattle.std.proofs.lemmas.List.{get_or_append_left}
@@ -15,13 +15,13 @@ use Rattle.pep440_version.specs.OrderLaws.{version_cmp_total}
 use Rattle.pep440_rs.specs.Order.{version_cmp}
 use Rattle.pep508_diagram.specs.declared.branch.Branch.{Branch}
 use Rattle.pep508_diagram.specs.Text.{text_cmp}
-use Rattle.pep508_diagram.specs.Branches.{RisingBranches, branch_at, AllBranches, NeighboursDiffer}
+use Rattle.pep508_diagram.specs.Branches.{branch_at, AllBranches, NeighboursDiffer}
 use Rattle.pep508_diagram.specs.Question.{Valuation, version_rank, text_rank, flag_rank, flag_text}
 use Rattle.pep508_diagram.proofs.Places.{both_equal, not_less, numbers_same, texts_same, versions_same, text_keys_same, version_rank_below, rank_below, flag_rank_from, flag_from_place}
 use Rattle.pep508_diagram.proofs.Turned.{flips_twice, flips_back}
 use Rattle.pep508_tree.specs.Tree.{Tree, negation}
 use Rattle.pep508_tree.specs.Meaning.{NodeRecord, Versions, Texts, Flagged, holds, IsTree, Extends}
-use Rattle.pep508_tree.specs.Nodes.{AllChildren, IsRising, IsJoined, ChildrenDiffer, HasBoundary, IsAlone, Above, AreSound, IsSoundNode, Made, chosen, first_child, second_child, version_branches, text_branches, no_node, node_at, node_place, node_cmp, tree_cmp, branch_cmp, turned, turned_branch, turned_node, signed}
+use Rattle.pep508_tree.specs.Nodes.{AllChildren, IsRising, IsJoined, ChildrenDiffer, HasBoundary, IsAlone, Above, AreSound, IsSoundNode, Made, chosen, first_child, second_child, version_branches, text_branches, no_node, node_at, node_place, node_cmp, tree_cmp, branch_cmp, turned, turned_branch, signed}
 use Rattle.pep508_tree.specs.NodeLaws.{nodes_total}
 use Rattle.pep508_tree.proofs.Children.{weaker_children, both_children, first_of_children}
 use Rattle.pep508_tree.proofs.Diagrams.{holds_kept}
@@ -170,7 +170,8 @@ chosen_by (Versions key first later) (Versions other f l) v a =
     branches_alike version_cmp_total first later f l (v.version key) a.first a.versions
     ∙ ap (λ k. branch_at version_cmp f l (v.version k)) same
 chosen_by (Texts key first later) (Texts other f l) v a =
-    let ranks : text_rank key ≡ text_rank other = ranks_same (text_rank key) (text_rank other) [] [] a.place in
+    let ranks : text_rank key ≡ text_rank other =
+    ranks_same (text_rank key) (text_rank other) [] [] a.place in
     let same = text_keys_same key other (omega (arith, ranks)) in
     branches_alike nat_list_cmp_total first later f l (v.text key) a.first a.texts
     ∙ ap (λ k. branch_at text_cmp f l (v.text k)) same
@@ -212,7 +213,8 @@ either_negation : (b : Bool) (x y : Tree) → cond b (negation x) (negation y) �
 either_negation true x y = refl
 either_negation false x y = refl
 
-turned_at : {T : Type 0} (cmp : T → T → Ordering) (first : Tree) (later : List (Branch T Tree)) (p : Point T) →
+turned_at : {T : Type 0} (cmp : T → T → Ordering) (first : Tree) (later : List (Branch T Tree))
+    (p : Point T) →
     branch_at cmp (negation first) (map turned_branch later) p ≡ negation (branch_at cmp first later p)
 turned_at cmp first [] p = refl
 turned_at cmp first (branch ∷ later) p =
@@ -340,8 +342,10 @@ signed_sound old node made above rises joined several =
     let turns = (first_child node).negated in
     record {
       before = signed_children (IsTree old) (λ t h. h) turns node made;
-      above = subst (λ place. AllChildren (Above old place) (signed turns node)) (sym (signed_place turns node))
-          (signed_children (Above old (node_place node)) (above_negation old (node_place node)) turns node above);
+      above = subst (λ place. AllChildren (Above old place) (signed turns node))
+          (sym (signed_place turns node))
+          (signed_children (Above old (node_place node)) (above_negation old (node_place node)) turns node
+          above);
       rises = signed_rises turns node rises;
       differ = signed_differ turns node (differ_of node joined several);
       wide = signed_wide turns node (wide_of node several);
