@@ -6,3 +6,4 @@ pub mod OneTree
 pub mod Meanings
 pub mod Moving
 pub mod Disjoint
+pub mod Equal

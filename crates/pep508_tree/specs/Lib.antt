@@ -5,3 +5,10 @@ pub mod Forms
 pub mod Nodes
 pub mod Conjunctions
 pub mod Disjoint
+pub mod Places
+pub mod NodeLaws
+pub mod Asked
+pub mod AskedLaws
+pub mod Known
+pub mod Interning
+pub mod Joining

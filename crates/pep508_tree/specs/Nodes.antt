@@ -68,6 +68,12 @@ ChildrenDiffer (Versions key first later) = NeighboursDiffer first later
 ChildrenDiffer (Texts key first later) = NeighboursDiffer first later
 ChildrenDiffer (Flagged flag set unset) = set ≡ unset → ⊥
 
+-- neighbouring children between boundaries differ
+abbrev pub IsJoined : {C : Type 0} → NodeOf C → Type 0
+IsJoined (Versions key first later) = NeighboursDiffer first later
+IsJoined (Texts key first later) = NeighboursDiffer first later
+IsJoined (Flagged flag set unset) = Unit {0}
+
 -- there is more than one child
 abbrev pub HasBoundary : {C : Type 0} → NodeOf C → Type 0
 HasBoundary (Versions key first later) = later ≡ [] → ⊥

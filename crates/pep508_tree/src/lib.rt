@@ -3,8 +3,12 @@
 //! turned, so that a negation takes no memory; and an `Interner` as the list of its nodes.
 #![tactic(auto)]
 
+mod conjoiner;
 mod interner;
 pub mod laws;
+mod node;
+mod pairing;
+mod table;
 mod tree;
 
 pub use interner::Interner;

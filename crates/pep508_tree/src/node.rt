@@ -1,16 +1,18 @@
 //! What marker trees are made of.
 
-ghost use Rattle.std.specs.Prelude.{◌≡◌, IfOk, map, List};
+ghost use Rattle.std.specs.Prelude.{◌≡◌, [], ◌∷◌, map, IfOk, refl};
 ghost use Rattle.std.specs.Cmp.{eq_by_cmp_equiv, partial_equiv_from_equiv, partial_order_from_agreeing_total};
 ghost use Rattle.std.specs.Ordering.{eq_by_cmp, as_partial_cmp};
 ghost use Rattle.std.specs.Cmp.Lexicographic.{slice_cmp};
 ghost use Rattle.pep508_diagram.specs.Text.{text_cmp};
 ghost use Rattle.pep508_diagram.specs.Question.{text_rank, flag_rank, flag_text};
 ghost use Rattle.pep508_marker.specs.Keys.{text_key_rank};
-ghost use Rattle.pep508_tree.specs.Tree.{Tree};
+ghost use Rattle.std.specs.declared.cmp.Ordering.TheVariants.{Equal};
+ghost use Rattle.pep508_tree.specs.Forms.{record_of};
+ghost use Rattle.pep508_tree.specs.Joining.{children, joined, node_joined, head, tail};
 ghost use Rattle.pep508_tree.specs.Nodes.{node_rank, node_text, node_place, version_branches, text_branches};
 ghost use Rattle.pep508_tree.specs.Nodes.{first_child, second_child, counterpart, IsRising, Paired};
-ghost use Rattle.pep508_tree.specs.Nodes.{tree_cmp, branch_cmp, node_cmp, turned_branch};
+ghost use Rattle.pep508_tree.specs.Nodes.{branch_cmp, node_cmp};
 ghost use Rattle.pep508_tree.specs.NodeLaws.{nodes_total};
 
 use crate::pairing::paired;
@@ -22,6 +24,9 @@ use std::alloc::{AllocError, Global};
 use std::cmp::Ordering;
 use std::marker::Model;
 
+/// What stands in two trees for one answer.
+pub(crate) type Pair = (MarkerTree, MarkerTree);
+
 /// What is asked of one variable, and what stands for each answer: between a key's boundaries, the first below
 /// them all, or for either truth of a flag.
 #[derive(Drop)]
@@ -29,6 +34,80 @@ pub(crate) enum Form<C> {
     Versions(VersionVariable, C, Vec<Branch<Version, C>>),
     Texts(MarkerValueString, C, Vec<Branch<MarkerText, C>>),
     Flagged(Flag, C, C),
+}
+
+fn children_of<T>(alloc: Global, first: Pair, later: &[Branch<T, Pair>]) -> Result<Vec<Pair>, AllocError>
+    ensures { IfOk result (λ pairs. pairs.items ≡ first ∷ map (λ branch. branch.child) later.now) }
+{
+    let mut pairs = Vec::new(alloc);
+    pairs.push(first)?;
+    for branch in later {
+        pairs.push(branch.child)?;
+    }
+    Ok(pairs)
+}
+
+/// Branches between the same boundaries with other trees. Neighbours that are one tree are joined.
+fn joined<T: Drop>(
+    alloc: Global,
+    first: MarkerTree,
+    later: Vec<Branch<T, Pair>>,
+    trees: &[MarkerTree],
+) -> Result<Vec<Branch<T, MarkerTree>>, AllocError>
+    ensures { IfOk result (λ branches. branches.items ≡ joined first later.items trees.now) }
+{
+    let mut branches = Vec::new(alloc);
+    let mut last = first;
+    let mut left = trees;
+    for branch in later {
+        if let Some((tree, rest)) = left.split_first() {
+            left = rest;
+            if tree.cmp_places(last).is_ne() {
+                last = *tree;
+                branches.push(Branch {
+                    boundary: branch.boundary,
+                    child: last,
+                })?;
+            }
+        }
+    }
+    Ok(branches)
+}
+
+/// The first of trees, and the others.
+fn first_and_others(trees: &[MarkerTree]) -> (MarkerTree, &[MarkerTree])
+    ensures first { result.0 ≡ head trees.now }
+    ensures others { result.1.now ≡ tail trees.now }
+{
+    match trees.split_first() {
+        Some((first, others)) => (*first, others),
+        None => (MarkerTree::TRUE, trees),
+    }
+}
+
+impl Form<Pair> {
+    /// The children, in turn.
+    pub fn children(&self, alloc: Global) -> Result<Vec<Pair>, AllocError>
+        ensures { IfOk result (λ pairs. pairs.items ≡ children (record_of self.now)) }
+    {
+        match self {
+            Form::Versions(_, first, later) => children_of(alloc, *first, later),
+            Form::Texts(_, first, later) => children_of(alloc, *first, later),
+            Form::Flagged(_, set, unset) => Ok(vec![in alloc; *set, *unset]?),
+        }
+    }
+
+    /// The form with a tree for each of its children, in turn.
+    pub fn joined(self, alloc: Global, trees: &[MarkerTree]) -> Result<Form<MarkerTree>, AllocError>
+        ensures { IfOk result (λ form. record_of form ≡ node_joined (record_of self) trees.now) }
+    {
+        let (first, others) = first_and_others(trees);
+        Ok(match self {
+            Form::Versions(key, _, later) => Form::Versions(key, first, joined(alloc, first, later, others)?),
+            Form::Texts(key, _, later) => Form::Texts(key, first, joined(alloc, first, later, others)?),
+            Form::Flagged(flag, _, _) => Form::Flagged(flag, first, first_and_others(others).0),
+        })
+    }
 }
 
 /// A node of a diagram.
@@ -192,7 +271,7 @@ impl Node {
         versions: &[Branch<Version, MarkerTree>],
         texts: &[Branch<MarkerText, MarkerTree>],
         second: MarkerTree,
-    ) -> Result<Form<(MarkerTree, MarkerTree)>, AllocError>
+    ) -> Result<Form<Pair>, AllocError>
         requires rising { IsRising self.now }
         requires other_rising { IsRising (counterpart self.now first versions.now texts.now second) }
         ensures { IfOk result (λ pairs.
@@ -219,7 +298,7 @@ impl Node {
         &self,
         alloc: Global,
         tree: MarkerTree,
-    ) -> Result<Form<(MarkerTree, MarkerTree)>, AllocError>
+    ) -> Result<Form<Pair>, AllocError>
         requires { IsRising self.now }
         ensures { IfOk result (λ pairs.
             Paired self.now (counterpart self.now tree [] [] tree) (record_of pairs)) }
@@ -228,7 +307,7 @@ impl Node {
     }
 
     /// The pairs of what stands here and in a node of the same variable.
-    pub fn with_node(&self, alloc: Global, other: &Node) -> Result<Form<(MarkerTree, MarkerTree)>, AllocError>
+    pub fn with_node(&self, alloc: Global, other: &Node) -> Result<Form<Pair>, AllocError>
         requires same { text_cmp (node_place self.now) (node_place other.now) ≡ Equal }
         requires rising { IsRising self.now }
         requires other_rising { IsRising other.now }
@@ -272,10 +351,14 @@ impl Ord for Node {
     ghost matches_eq = { λ x y. refl };
 
     fn cmp(&self, other: &Node) -> Ordering {
+        let variables = self.cmp_variable(other);
+        if variables.is_ne() {
+            return variables;
+        }
+        let versions = cmp_branches(self.versions(), other.versions());
+        let texts = cmp_branches(self.texts(), other.texts());
         let firsts = self.first().cmp_places(other.first());
         let seconds = self.second().cmp_places(other.second());
-        let texts = cmp_branches(self.texts(), other.texts());
-        let versions = cmp_branches(self.versions(), other.versions());
-        self.cmp_variable(other).then(versions.then(texts.then(firsts.then(seconds))))
+        versions.then(texts.then(firsts.then(seconds)))
     }
 }
