@@ -63,6 +63,7 @@ module _ {C : Type 0} (at : C → Diagram Question) where
   -- a node's diagram asks first of the node's variable
   pub root_node : (place : List ℕ) (n : NodeOf C) → HasBoundary n → text_cmp place (node_place n) ≡ Less →
       RootBehind place (node_diagram at n)
-  root_node place (Versions key first later) wide less = root_chain_versions at key first later place wide less
+  root_node place (Versions key first later) wide less =
+      root_chain_versions at key first later place wide less
   root_node place (Texts key first later) wide less = root_chain_texts at key first later place wide less
   root_node place (Flagged flag set unset) wide less = less

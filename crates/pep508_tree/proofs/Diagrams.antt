@@ -1,5 +1,5 @@
--- The diagrams at the places of an interner: what was made earlier keeps its diagram, and the diagram of a node
--- is made of its children's.
+-- The diagrams at the places of an interner: what was made earlier keeps its diagram, and the diagram of a
+-- node is made of its children's.
 use Rattle.std.proofs.Common.{◌≡◌, ℕ, ◌+◌, ◌≤◌, ◌<◌, Bool, true, List, [], ◌∷◌, ◌++◌, length, get_or, take, drop, refl, ap, ap₂, sym, ◌∙◌, append_assoc, arith, length-append}
 use Rattle.std.proofs.lemmas.List.{get_or_append_left, length-take}
 use Rattle.std.proofs.lemmas.Grind.{common_steps}
@@ -45,7 +45,8 @@ unfolding diagrams
 diagram_before nodes more t h =
     ap (turned_by t.negated)
     (ap (λ ds. get_or ds t.place (Leaf true)) (fill_append (Leaf true ∷ []) nodes more)
-    ∙ fill_keeps (fill (Leaf true ∷ []) nodes) more t.place (omega (arith, length_fill (Leaf true ∷ []) nodes)))
+    ∙ fill_keeps (fill (Leaf true ∷ []) nodes) more t.place
+    (omega (arith, length_fill (Leaf true ∷ []) nodes)))
 
 pub diagram_kept : (old new : List NodeRecord) → Extends old new → (t : Tree) → IsTree old t →
     diagram_of new t ≡ diagram_of old t
@@ -79,7 +80,8 @@ diagram_last nodes n b =
 
 -- ---- nodes whose children have the same diagrams
 
-module _ {C D : Type 0} (P : C → Type 0) (at other : C → Diagram D) (same : (c : C) → P c → at c ≡ other c) where
+module _ {C D : Type 0} (P : C → Type 0) (at other : C → Diagram D)
+    (same : (c : C) → P c → at c ≡ other c) where
   pub chain_same : {T : Type 0} (ask : Boundary T → D) (first : C) (later : List (Branch T C)) →
       AllBranches P first later → chain ask at first later ≡ chain ask other first later
   chain_same ask first [] p = same first p
@@ -89,8 +91,10 @@ module _ {C D : Type 0} (P : C → Type 0) (at other : C → Diagram D) (same : 
 pub node_same : {C : Type 0} (P : C → Type 0) (at other : C → Diagram Question) →
     ((c : C) → P c → at c ≡ other c) → (n : NodeOf C) → AllChildren P n →
     node_diagram at n ≡ node_diagram other n
-node_same P at other same (Versions key first later) p = chain_same P at other same (VersionBelow key) first later p
-node_same P at other same (Texts key first later) p = chain_same P at other same (TextBelow key) first later p
+node_same P at other same (Versions key first later) p =
+    chain_same P at other same (VersionBelow key) first later p
+node_same P at other same (Texts key first later) p =
+    chain_same P at other same (TextBelow key) first later p
 node_same P at other same (Flagged flag set unset) p =
     ap₂ (Test (IsSet flag)) (same set p.0) (same unset p.1)
 
@@ -118,6 +122,7 @@ diagram_node nodes k b h before =
     let whole : front ++ (n ∷ drop (k + 1) nodes) ≡ nodes =
     sym (split.0 ∙ append_assoc front (n ∷ []) (drop (k + 1) nodes)) in
     let kept : (c : Tree) → c.place ≤ k → diagram_of front c ≡ diagram_of nodes c =
-    λ c p. sym (diagram_before front (n ∷ drop (k + 1) nodes) c (omega arith)) ∙ ap (λ ms. diagram_of ms c) whole in
+    λ c p.
+    sym (diagram_before front (n ∷ drop (k + 1) nodes) c (omega arith)) ∙ ap (λ ms. diagram_of ms c) whole in
     ap (λ ms. diagram_of ms t) split.0 ∙ shorter ∙ last
     ∙ ap (turned_by b) (node_same (λ c. c.place ≤ k) (diagram_of front) (diagram_of nodes) kept n before)

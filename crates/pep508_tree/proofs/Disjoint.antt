@@ -1,6 +1,7 @@
--- When two trees of a sound interner never hold together: constant trees, one tree and its negation, and trees
--- that are split by their first variable, which are disjoint exactly where all their paired children are.
-use Rattle.std.proofs.Common.{◌≡◌, ◌↔◌, ◌&&◌, ℕ, Bool, true, false, not, List, refl, ap, ap₂, sym, ◌∙◌}
+-- When two trees of a sound interner never hold together: constant trees, one tree and its negation, and
+-- trees that are split by their first variable, which are disjoint exactly where all their paired children
+-- are.
+use Rattle.std.proofs.Common.{◌≡◌, ◌↔◌, ◌&&◌, Bool, true, false, not, List, refl, ap, ap₂, sym, ◌∙◌}
 use Rattle.version_ranges.specs.Turns.{flips}
 use Rattle.pep508_diagram.specs.Question.{Valuation, truth}
 use Rattle.pep508_tree.specs.Tree.{Tree, always, never, negation}
@@ -10,7 +11,7 @@ use Rattle.pep508_tree.specs.Disjoint.{AreDisjoint}
 use Rattle.pep508_tree.proofs.OneTree.{never_true, negation_holds}
 use Rattle.pep508_tree.proofs.Diagrams.{diagram_top}
 use Rattle.pep508_tree.proofs.Meanings.{each_child, chosen_all, children_from, holds_turned}
-use Rattle.pep508_tree.proofs.Moving.{StandsAt, moved_to}
+use Rattle.pep508_tree.proofs.Moving.{moved_to}
 
 and_turned : (x y : Bool) → (x && y) ≡ false → (y && x) ≡ false
 and_turned true true e = e
@@ -32,7 +33,8 @@ module _ (nodes : List NodeRecord) where
 
   -- a tree and its negation
   pub disjoint_negation : (a : Tree) → AreDisjoint nodes a (negation a)
-  disjoint_negation a v = ap (λ x. holds nodes a v && x) (negation_holds nodes a v) ∙ and_not (holds nodes a v)
+  disjoint_negation a v =
+      ap (λ x. holds nodes a v && x) (negation_holds nodes a v) ∙ and_not (holds nodes a v)
 
   always_holds : (v : Valuation) → holds nodes always v ≡ true
   always_holds v = ap (λ d. truth d v) (diagram_top nodes always refl)
@@ -67,7 +69,8 @@ module _ (nodes : List NodeRecord) (sound : AreSound nodes) where
     IsPairApart pair = AreDisjoint nodes (turned a.negated pair.0) (turned b.negated pair.1)
 
     together : (v : Valuation) → (holds nodes a v && holds nodes b v)
-        ≡ (holds nodes (turned a.negated (chosen pairs v).0) v && holds nodes (turned b.negated (chosen pairs v).1) v)
+        ≡ (holds nodes (turned a.negated (chosen pairs v).0) v
+        && holds nodes (turned b.negated (chosen pairs v).1) v)
     together v = ap₂ (λ x y. x && y) (s.first_is v) (s.second_is v)
 
     -- what trees of a pair say, with signs, stays where the node's variable is moved
@@ -82,12 +85,14 @@ module _ (nodes : List NodeRecord) (sound : AreSound nodes) where
         let w = moved.0 in
         let at = moved.1 in
         let made = each_child (λ pair. IsTree nodes pair.0 × IsTree nodes pair.1) pairs pair s.made is in
-        let above = each_child (λ pair. Above nodes (node_place pairs) pair.0 × Above nodes (node_place pairs) pair.1)
+        let above =
+        each_child (λ pair. Above nodes (node_place pairs) pair.0 × Above nodes (node_place pairs) pair.1)
         pairs pair s.above is in
         let first = still_turned a.negated pair.0 v w (at.still pair.0 made.0 above.0) in
         let second = still_turned b.negated pair.1 v w (at.still pair.1 made.1 above.1) in
         sym (ap₂ (λ x y. x && y) first second)
-        ∙ sym (ap (λ c. holds nodes (turned a.negated c.0) w && holds nodes (turned b.negated c.1) w) at.stands)
+        ∙ sym (ap (λ c. holds nodes (turned a.negated c.0) w && holds nodes (turned b.negated c.1) w)
+        at.stands)
         ∙ sym (together w) ∙ apart w
 
     -- trees are disjoint exactly where all their paired children are

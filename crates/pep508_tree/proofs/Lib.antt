@@ -7,3 +7,4 @@ pub mod Meanings
 pub mod Moving
 pub mod Disjoint
 pub mod Equal
+pub mod Storing

@@ -1,30 +1,21 @@
--- What trees with a node mean: what stands in the node at a valuation. A tree whose variables come after that of
--- the node does not change where that variable is moved.
-use Rattle.std.proofs.Common.{◌≡◌, ◌==◌, ◌⊎◌, inl, inr, ℕ, ◌+◌, ◌<◌, Bool, true, false, cond, List, [], ◌∷◌, length, get_or, refl, ap, sym, subst, ◌∙◌, true≢false}
-use Rattle.std.specs.Ordering.{is_eq}
-use Rattle.std.specs.Cmp.{unsigned_Decides}
+-- What trees with a node mean: what stands in the node at a valuation. A tree whose variables come after that
+-- of the node does not change where that variable is moved.
+use Rattle.std.proofs.Common.{◌≡◌, ◌⊎◌, inl, inr, ℕ, ◌+◌, ◌<◌, Bool, true, false, cond, List, [], ◌∷◌, length, get_or, refl, ap, sym, subst, ◌∙◌}
 use Rattle.version_ranges.specs.Turns.{flips}
-use Rattle.version_ranges.specs.Point.{Point}
-use Rattle.pep440_rs.specs.Record.{VersionRecord}
 use Rattle.pep440_rs.specs.Order.{version_cmp}
-use Rattle.pep508_marker.specs.declared.keys.MarkerValueString.{MarkerValueString}
-use Rattle.pep508_marker.specs.Keys.{text_key_rank}
 use Rattle.pep508_diagram.specs.declared.branch.Branch.{Branch}
-use Rattle.pep508_diagram.specs.declared.variable.VersionVariable.{VersionVariable}
-use Rattle.pep508_diagram.specs.declared.variable.Flag.{Flag}
 use Rattle.pep508_diagram.specs.Text.{text_cmp}
 use Rattle.pep508_diagram.specs.Diagram.{Diagram, Leaf}
-use Rattle.pep508_diagram.specs.Branches.{branch_at, AllBranches}
+use Rattle.pep508_diagram.specs.Branches.{AllBranches}
 use Rattle.pep508_diagram.specs.Chains.{IsChild}
-use Rattle.pep508_diagram.specs.Question.{Question, VersionBelow, TextBelow, IsSet, Valuation, version_rank, flag_place, place_of, with_version, with_text, with_flag, shares_variable, answer, marker, truth}
+use Rattle.pep508_diagram.specs.Question.{Question, Valuation, place_of, answer, marker, truth}
 use Rattle.pep508_diagram.proofs.Moved.{DiffersAt, skip}
-use Rattle.pep508_diagram.proofs.Questions.{asks, versions_share, texts_share}
-use Rattle.pep508_diagram.proofs.Places.{texts_same}
+use Rattle.pep508_diagram.proofs.Questions.{asks}
 use Rattle.pep508_diagram.proofs.Chains.{truth_chain_versions, truth_chain_texts, all_children, branch_at_child, behind_above}
 use Rattle.pep508_diagram.proofs.Turned.{turned_truth}
 use Rattle.pep508_tree.specs.Tree.{Tree}
 use Rattle.pep508_tree.specs.Meaning.{NodeOf, NodeRecord, Versions, Texts, Flagged, node_diagram, diagrams, diagram_of, holds, IsTree}
-use Rattle.pep508_tree.specs.Nodes.{AllChildren, IsChildIn, Above, AreSound, chosen, node_at, node_place, turned}
+use Rattle.pep508_tree.specs.Nodes.{AllChildren, IsChildIn, Above, AreSound, chosen, node_at, turned}
 use Rattle.pep508_tree.proofs.OneTree.{tree_at, root_behind, canonical_trees}
 
 -- ---- what stands at a valuation
@@ -104,7 +95,8 @@ holds_at nodes sound t k e here v =
 
 -- a tree behind a question's place holds alike where only the question's variable differs
 pub unmoved : (nodes : List NodeRecord) → AreSound nodes → (q : Question) (t : Tree) → IsTree nodes t →
-    Above nodes (place_of q) t → (v w : Valuation) → DiffersAt marker q v w → holds nodes t w ≡ holds nodes t v
+    Above nodes (place_of q) t → (v w : Valuation) → DiffersAt marker q v w →
+    holds nodes t w ≡ holds nodes t v
 unmoved nodes sound q t made above v w same =
     let d = diagram_of nodes t in
     skip asks d q v w same (canonical_trees nodes sound t made)

@@ -1,5 +1,5 @@
 -- Each child of a node stands at some valuation, which can be one that differs in the node's variable alone.
-use Rattle.std.proofs.Common.{◌≡◌, ◌==◌, inl, inr, ℕ, Bool, true, false, cond, List, [], ◌∷◌, refl, ap, sym, subst, ◌∙◌}
+use Rattle.std.proofs.Common.{◌≡◌, inl, inr, ℕ, Bool, true, false, cond, List, [], ◌∷◌, refl, ap, sym, ◌∙◌}
 use Rattle.std.specs.Ordering.{is_eq}
 use Rattle.std.specs.Cmp.{unsigned_Decides, tied_itself}
 use Rattle.std.specs.Cmp.Lexicographic.{nat_list_cmp_total}
@@ -14,7 +14,7 @@ use Rattle.pep508_diagram.specs.declared.variable.VersionVariable.{VersionVariab
 use Rattle.pep508_diagram.specs.declared.variable.Flag.{Flag}
 use Rattle.pep508_diagram.specs.Text.{text_cmp}
 use Rattle.pep508_diagram.specs.Branches.{branch_at}
-use Rattle.pep508_diagram.specs.Question.{Question, VersionBelow, TextBelow, IsSet, Valuation, version_rank, flag_place, lies_below, with_version, with_text, with_flag, shares_variable, answer, marker}
+use Rattle.pep508_diagram.specs.Question.{VersionBelow, TextBelow, IsSet, Valuation, version_rank, flag_place, lies_below, with_version, with_text, with_flag, shares_variable, answer, marker}
 use Rattle.pep508_diagram.proofs.Moved.{DiffersAt}
 use Rattle.pep508_diagram.proofs.Questions.{versions_share, texts_share}
 use Rattle.pep508_diagram.proofs.Chains.{child_point}
@@ -25,8 +25,8 @@ use Rattle.pep508_tree.proofs.Meanings.{unmoved}
 
 -- ---- valuations with one variable given
 
-version_differs : (v : Valuation) (key : VersionVariable) (p : Point VersionRecord) (b : Boundary VersionRecord) →
-    DiffersAt marker (VersionBelow key b) v (with_version v key p)
+version_differs : (v : Valuation) (key : VersionVariable) (p : Point VersionRecord)
+    (b : Boundary VersionRecord) → DiffersAt marker (VersionBelow key b) v (with_version v key p)
 unfolding answer
 version_differs v key p b (VersionBelow j c) free =
     ap (λ same. lies_below version_cmp (cond same p (v.version j)) c) (sym (versions_share key j b c) ∙ free)
@@ -41,7 +41,8 @@ text_differs v key p b (TextBelow j c) free =
     ap (λ same. lies_below text_cmp (cond same p (v.text j)) c) (sym (texts_share key j b c) ∙ free)
 text_differs v key p b (IsSet flag) free = refl
 
-flag_differs : (v : Valuation) (flag : Flag) (set : Bool) → DiffersAt marker (IsSet flag) v (with_flag v flag set)
+flag_differs : (v : Valuation) (flag : Flag) (set : Bool) →
+    DiffersAt marker (IsSet flag) v (with_flag v flag set)
 unfolding answer shares_variable
 flag_differs v flag set (VersionBelow j c) free = refl
 flag_differs v flag set (TextBelow j c) free = refl
@@ -63,8 +64,8 @@ flag_given v flag set =
 -- ---- children
 
 module _ (nodes : List NodeRecord) (sound : AreSound nodes) (v : Valuation) where
-  -- a valuation at which the child stands in the node, and at which all trees behind the node's variable hold as
-  -- they do at v
+  -- a valuation at which the child stands in the node, and at which all trees behind the node's variable hold
+  -- as they do at v
   pub record StandsAt {C : Type 0} (n : NodeOf C) (c : C) (w : Valuation) : Type 0 where
     pub stands : chosen n w ≡ c
     pub still : (t : Tree) → IsTree nodes t → Above nodes (node_place n) t → holds nodes t w ≡ holds nodes t v
@@ -100,7 +101,8 @@ module _ (nodes : List NodeRecord) (sound : AreSound nodes) (v : Valuation) wher
     record {
       stands = ap (λ b. cond b set unset) (flag_given v flag true) ∙ sym is;
       still = λ t made above.
-          unmoved nodes sound (IsSet flag) t made above v (with_flag v flag true) (flag_differs v flag true);
+          unmoved nodes sound (IsSet flag) t made above v (with_flag v flag true)
+          (flag_differs v flag true);
     },
   )
   moved_to (Flagged flag set unset) rising c (inr is) = (
@@ -108,6 +110,7 @@ module _ (nodes : List NodeRecord) (sound : AreSound nodes) (v : Valuation) wher
     record {
       stands = ap (λ b. cond b set unset) (flag_given v flag false) ∙ sym is;
       still = λ t made above.
-          unmoved nodes sound (IsSet flag) t made above v (with_flag v flag false) (flag_differs v flag false);
+          unmoved nodes sound (IsSet flag) t made above v (with_flag v flag false)
+          (flag_differs v flag false);
     },
   )

@@ -1,6 +1,6 @@
 -- A node's diagram, where children with one diagram are one: it is canonical, and nodes with one diagram are
 -- equal in the order.
-use Rattle.std.proofs.Common.{◌≡◌, ℕ, Bool, List, [], ◌∷◌, refl, ap, sym, subst, ◌∙◌, Ordering, Equal, nat_cmp}
+use Rattle.std.proofs.Common.{◌≡◌, ℕ, Bool, List, [], ◌∷◌, refl, ap, sym, subst, ◌∙◌, Ordering, Equal}
 use Rattle.std.specs.Ordering.{ordering_then}
 use Rattle.std.specs.Cmp.{tied_itself, then_total, on_total, nat_cmp_total, bool_cmp_total}
 use Rattle.std.specs.Cmp.Lexicographic.{slice_cmp, nat_list_cmp_total}
@@ -58,10 +58,11 @@ module _ (at : Tree → Diagram Question) (P : Tree → Type 0)
     apart_branches branch.child later p.1 differ.1,
   )
 
-  pub canonical_node : (n : NodeRecord) → IsRising n → AllChildren (λ c. IsCanonical (at c)) n → AreBehind at n →
-      AllChildren P n → ChildrenDiffer n → IsCanonical (node_diagram at n)
+  pub canonical_node : (n : NodeRecord) → IsRising n → AllChildren (λ c. IsCanonical (at c)) n →
+      AreBehind at n → AllChildren P n → ChildrenDiffer n → IsCanonical (node_diagram at n)
   canonical_node (Versions key first later) rising canonical behind p differ =
-      canonical_chain_versions at key first later rising canonical behind (apart_branches first later p differ)
+      canonical_chain_versions at key first later rising canonical behind
+      (apart_branches first later p differ)
   canonical_node (Texts key first later) rising canonical behind p differ =
       canonical_chain_texts at key first later rising canonical behind (apart_branches first later p differ)
   canonical_node (Flagged flag set unset) rising canonical behind p differ =
@@ -72,7 +73,8 @@ module _ (at : Tree → Diagram Question) (P : Tree → Type 0)
 
   one_branches : {T : Type 0} (cmp : T → T → Ordering) (first : Tree) (later : List (Branch T Tree))
       (other_first : Tree) (other_later : List (Branch T Tree)) → AllBranches P first later →
-      AllBranches P other_first other_later → AreSameBranches marker at cmp first later other_first other_later →
+      AllBranches P other_first other_later →
+      AreSameBranches marker at cmp first later other_first other_later →
       (first ≡ other_first) × (slice_cmp (branch_cmp cmp) later other_later ≡ Equal)
   one_branches cmp first [] other_first [] p q same = (one first other_first p q same, refl)
   one_branches cmp first [] other_first (other ∷ other_later) p q same = absurd same
@@ -88,19 +90,20 @@ module _ (at : Tree → Diagram Question) (P : Tree → Type 0)
       (other_first : Tree) (other_later : List (Branch VersionRecord Tree)) → key ≡ other →
       AreBehind at (Versions key first later) → AreBehind at (Versions other other_first other_later) →
       AllBranches P first later → AllBranches P other_first other_later →
-      AreOne (chain (VersionBelow key) at first later) (chain (VersionBelow other) at other_first other_later) →
+      AreOne (chain (VersionBelow key) at first later)
+      (chain (VersionBelow other) at other_first other_later) →
       node_cmp (Versions key first later) (Versions other other_first other_later) ≡ Equal
   unfolding node_cmp
   one_versions key other first later other_first other_later same behind other_behind p q =
       subst (λ k. AreBehind at (Versions k other_first other_later) →
-          AreOne (chain (VersionBelow key) at first later) (chain (VersionBelow k) at other_first other_later) →
-          node_cmp (Versions key first later) (Versions k other_first other_later) ≡ Equal) same
+      AreOne (chain (VersionBelow key) at first later) (chain (VersionBelow k) at other_first other_later) →
+      node_cmp (Versions key first later) (Versions k other_first other_later) ≡ Equal) same
       (λ also a.
-          let branches = chain_one_versions at key first later other_first other_later behind also a in
-          let parts = one_branches version_cmp first later other_first other_later p q branches in
-          let child = tied_trees first other_first parts.0 in
-          let place = tied_places (version_rank key ∷ []) in
-          λ i. ordering_then (place i) (ordering_then (parts.1 i) (ordering_then (child i) (child i))))
+      let branches = chain_one_versions at key first later other_first other_later behind also a in
+      let parts = one_branches version_cmp first later other_first other_later p q branches in
+      let child = tied_trees first other_first parts.0 in
+      let place = tied_places (version_rank key ∷ []) in
+      λ i. ordering_then (place i) (ordering_then (parts.1 i) (ordering_then (child i) (child i))))
       other_behind
 
   one_texts : (key other : MarkerValueString) (first : Tree) (later : List (Branch (List ℕ) Tree))
@@ -112,19 +115,20 @@ module _ (at : Tree → Diagram Question) (P : Tree → Type 0)
   unfolding node_cmp
   one_texts key other first later other_first other_later same behind other_behind p q =
       subst (λ k. AreBehind at (Texts k other_first other_later) →
-          AreOne (chain (TextBelow key) at first later) (chain (TextBelow k) at other_first other_later) →
-          node_cmp (Texts key first later) (Texts k other_first other_later) ≡ Equal) same
+      AreOne (chain (TextBelow key) at first later) (chain (TextBelow k) at other_first other_later) →
+      node_cmp (Texts key first later) (Texts k other_first other_later) ≡ Equal) same
       (λ also a.
-          let branches = chain_one_texts at key first later other_first other_later behind also a in
-          let parts = one_branches text_cmp first later other_first other_later p q branches in
-          let child = tied_trees first other_first parts.0 in
-          let place = tied_places (text_rank key ∷ []) in
-          λ i. ordering_then (place i) (ordering_then (parts.1 i) (ordering_then (child i) (child i))))
+      let branches = chain_one_texts at key first later other_first other_later behind also a in
+      let parts = one_branches text_cmp first later other_first other_later p q branches in
+      let child = tied_trees first other_first parts.0 in
+      let place = tied_places (text_rank key ∷ []) in
+      λ i. ordering_then (place i) (ordering_then (parts.1 i) (ordering_then (child i) (child i))))
       other_behind
 
   -- nodes with one diagram are equal in the order
   pub one_node : (n m : NodeRecord) → HasBoundary n → HasBoundary m → AreBehind at n → AreBehind at m →
-      AllChildren P n → AllChildren P m → AreOne (node_diagram at n) (node_diagram at m) → node_cmp n m ≡ Equal
+      AllChildren P n → AllChildren P m → AreOne (node_diagram at n) (node_diagram at m) →
+      node_cmp n m ≡ Equal
   unfolding node_cmp
   one_node (Versions key first later) (Versions other f l) wide other_wide behind other_behind p q a =
       let same = one_version_keys at key other first later f l wide other_wide a in
@@ -134,7 +138,8 @@ module _ (at : Tree → Diagram Question) (P : Tree → Type 0)
       one_texts key other first later f l same behind other_behind p q a
   one_node (Flagged flag set unset) (Flagged other s u) wide other_wide behind other_behind p q a =
       let same = one_flags flag other (at set) (at unset) (at s) (at u) a in
-      let place = ap (λ f. text_cmp (flag_place flag) (flag_place f)) (sym same) ∙ tied_places (flag_place flag) in
+      let place =
+      ap (λ f. text_cmp (flag_place flag) (flag_place f)) (sym same) ∙ tied_places (flag_place flag) in
       let first = tied_trees set s (one set s p.0 q.0 a.1) in
       let second = tied_trees unset u (one unset u p.1 q.1 a.2) in
       λ i. ordering_then (place i) (ordering_then (first i) (second i))

@@ -1,12 +1,12 @@
--- Trees of a sound interner: their diagrams are canonical, each stands at one place, and so one meaning has one
--- tree.
+-- Trees of a sound interner: their diagrams are canonical, each stands at one place, and so one meaning has
+-- one tree.
 use Rattle.std.proofs.Common.{◌≡◌, ◌↔◌, ◌⊎◌, inl, inr, ℕ, zero, suc, ◌+◌, ◌≤◌, ◌<◌, Bool, true, false, not, List, length, get_or, refl, ap, sym, subst, ◌∙◌, true≢false, arith, Equal}
 use Rattle.version_ranges.specs.Turns.{flips}
 use Rattle.pep508_diagram.specs.Diagram.{Diagram, Leaf, turned_by, leftmost}
 use Rattle.pep508_diagram.specs.Children.{RootBehind}
 use Rattle.pep508_diagram.specs.Question.{Question, Valuation, marker, truth, AreOne, IsCanonical}
 use Rattle.pep508_diagram.proofs.Alike.{alike_back}
-use Rattle.pep508_diagram.proofs.Questions.{asks, lowest, one_marker_diagram}
+use Rattle.pep508_diagram.proofs.Questions.{asks, one_marker_diagram}
 use Rattle.pep508_diagram.proofs.Turned.{leftmost_turned, alike_leftmost, alike_turned_back, turned_canonical, turned_truth}
 use Rattle.pep508_tree.specs.Tree.{Tree, always, never, negation}
 use Rattle.pep508_tree.specs.Meaning.{NodeRecord, node_diagram, diagrams, diagram_of, holds, IsTree}
@@ -57,7 +57,7 @@ module _ (nodes : List NodeRecord) (sound : AreSound nodes) where
   ]
 
   -- where each question is answered by yes, a tree holds unless it is negated
-  pub leftmost_tree : (m : ℕ) (t : Tree) → t.place < m → IsTree nodes t →
+  leftmost_tree : (m : ℕ) (t : Tree) → t.place < m → IsTree nodes t →
       leftmost (diagram_of nodes t) ≡ flips t.negated true
   leftmost_tree zero t small made = absurd (omega arith)
   leftmost_tree (suc m) t small made = elim (top_or_node t.place) [
@@ -75,6 +75,9 @@ module _ (nodes : List NodeRecord) (sound : AreSound nodes) where
         (leftmost_node at n ∙ rest ∙ ap (λ b. flips b true) (sound.each k here).plain)
   ]
 
+  pub leftmost_is : (t : Tree) → IsTree nodes t → leftmost (diagram_of nodes t) ≡ flips t.negated true
+  leftmost_is t made = leftmost_tree (t.place + 1) t (omega arith) made
+
   -- ---- what is known of a node's children
 
   abbrev IsSmall : ℕ → Tree → Type 0
@@ -82,20 +85,20 @@ module _ (nodes : List NodeRecord) (sound : AreSound nodes) where
 
   small_children : (m k : ℕ) → k < length nodes → k < m → AllChildren (IsSmall m) (node_at nodes k)
   small_children m k here small =
-      weaker_children (λ c. c.place ≤ k) (IsSmall m) (λ c before. (omega arith, omega arith)) (node_at nodes k)
-      (sound.each k here).before
+      weaker_children (λ c. c.place ≤ k) (IsSmall m) (λ c before. (omega arith, omega arith))
+      (node_at nodes k) (sound.each k here).before
 
   behind_children : (k : ℕ) → k < length nodes → AreBehind at (node_at nodes k)
   behind_children k here =
       let n = node_at nodes k in
       let s = sound.each k here in
-      weaker_children (λ c. (c.place ≤ k) × Above nodes (node_place n) c) (λ c. RootBehind (node_place n) (at c))
-      (λ c h. root_behind (node_place n) c (omega (arith, h.0)) h.1) n
+      weaker_children (λ c. (c.place ≤ k) × Above nodes (node_place n) c)
+      (λ c. RootBehind (node_place n) (at c)) (λ c h. root_behind (node_place n) c (omega (arith, h.0)) h.1) n
       (both_children (λ c. c.place ≤ k) (Above nodes (node_place n)) n s.before s.above)
 
   -- ---- one diagram stands at one place
 
-  pub one_tree_to : (m : ℕ) (a b : Tree) → a.place < m → b.place < m → IsTree nodes a → IsTree nodes b →
+  one_tree_to : (m : ℕ) (a b : Tree) → a.place < m → b.place < m → IsTree nodes a → IsTree nodes b →
       AreOne (diagram_of nodes a) (diagram_of nodes b) → a ≡ b
   one_tree_to zero a b small other_small made other_made one = absurd (omega arith)
   one_tree_to (suc m) a b small other_small made other_made one =
@@ -109,7 +112,8 @@ module _ (nodes : List NodeRecord) (sound : AreSound nodes) where
           | inr f ↦ absurd (top_not_node a b f.0 e f.1 (omega (arith, f.1)) one)
         ]
         | inr e ↦ elim (top_or_node b.place) [
-          | inl f ↦ absurd (top_not_node b a e.0 f e.1 (omega (arith, e.1)) (alike_back asks (at a) (at b) one))
+          | inl f ↦
+              absurd (top_not_node b a e.0 f e.1 (omega (arith, e.1)) (alike_back asks (at a) (at b) one))
           | inr f ↦
               let k = e.0 in
               let j = f.0 in
@@ -158,8 +162,8 @@ module _ (nodes : List NodeRecord) (sound : AreSound nodes) where
         weaker_children (IsSmall m) (λ c. IsCanonical (at c)) (λ c h. canonical_to m c h.0 h.1) n p in
         subst IsCanonical (sym (tree_at t k e.1 here))
         (turned_canonical marker t.negated (stored k)
-        (canonical_node at (IsSmall m) (λ c d h g. one_tree c d h.1 g.1) n s.rises inner (behind_children k here) p
-        s.differ))
+        (canonical_node at (IsSmall m) (λ c d h g. one_tree c d h.1 g.1) n s.rises inner
+        (behind_children k here) p s.differ))
   ]
 
   pub canonical_trees : (t : Tree) → IsTree nodes t → IsCanonical (diagram_of nodes t)

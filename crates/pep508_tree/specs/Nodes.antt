@@ -189,3 +189,24 @@ pub record Made (old new : List NodeRecord) (node : NodeRecord) (tree : Tree) : 
   pub made : IsTree new tree
   pub truth_is : (v : Valuation) → holds new tree v ≡ holds old (chosen node v) v
   pub above : (place : List ℕ) → text_cmp place (node_place node) ≡ Less → Above new place tree
+
+-- ---- nodes that are stored
+
+-- the node, with each child negated where the flag is set
+abbrev pub signed : Bool → NodeRecord → NodeRecord
+signed true node = turned_node node
+signed false node = node
+
+-- the same stands for each answer
+abbrev pub IsAlone : {C : Type 0} → NodeOf C → Type 0
+IsAlone (Versions key first later) = later ≡ []
+IsAlone (Texts key first later) = later ≡ []
+IsAlone (Flagged flag set unset) = set ≡ unset
+
+-- a node stands at a place, up to the spelling of equal versions
+pub record IsPlaced (nodes : List NodeRecord) (node : NodeRecord) (place : ℕ) : Type 0 where
+  pub index : ℕ
+  pub place_is : place ≡ index + 1
+  pub inside : index < length nodes
+  pub same : node_cmp (node_at nodes index) node ≡ Equal
+  pub sound : AreSound nodes
