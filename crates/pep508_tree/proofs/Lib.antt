@@ -1,5 +1,8 @@
 pub mod Same
 pub mod Diagrams
+pub mod Joins
+pub mod Orders
+pub mod Pairs
 pub mod Children
 pub mod OneNode
 pub mod OneTree
@@ -7,4 +10,5 @@ pub mod Meanings
 pub mod Moving
 pub mod Disjoint
 pub mod Equal
+pub mod Splitting
 pub mod Storing

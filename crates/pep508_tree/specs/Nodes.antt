@@ -1,5 +1,5 @@
 -- Nodes: what is asked of which variable, what stands for each answer, and the order of nodes.
-use Rattle.std.specs.Prelude.{◌≡◌, ◌⊎◌, ℕ, ◌≤◌, ◌<◌, ◌+◌, Bool, true, false, cond, List, [], ◌∷◌, length, map}
+use Rattle.std.specs.Prelude.{◌≡◌, ◌⊎◌, ℕ, ◌≤◌, ◌<◌, ◌+◌, ◌-◌, Bool, true, false, cond, List, [], ◌∷◌, length, map}
 use Rattle.std.specs.declared.cmp.Ordering.{Ordering}
 use Rattle.std.specs.declared.cmp.Ordering.TheVariants.{Less, Equal}
 use Rattle.std.specs.Ordering.{on, then_cmp, nat_cmp, bool_cmp}
@@ -149,6 +149,10 @@ no_node = Versions ImplementationVersion always []
 
 abbrev pub node_at : List NodeRecord → ℕ → NodeRecord
 node_at nodes k = get_or nodes k no_node
+
+-- the place of a tree's first variable, where it has a node
+abbrev pub first_place : List NodeRecord → Tree → List ℕ
+first_place nodes tree = node_place (node_at nodes (tree.place - 1))
 
 -- the tree asks first of a variable behind the place
 unfoldable pub Above : List NodeRecord → List ℕ → Tree → Type 0

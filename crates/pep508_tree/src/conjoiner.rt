@@ -1,11 +1,13 @@
 //! Conjunctions of marker trees.
 
-ghost use Rattle.std.specs.Prelude.{◌≡◌, ◌⊎◌, ◌<◌, [], IfOk, IfSome, refl};
+ghost use Rattle.std.specs.Prelude.{◌≡◌, ◌⊎◌, ◌<◌, false, [], List, MatchOption, IfOk, IfSome, refl};
 ghost use Rattle.std.specs.Cmp.{eq_by_cmp_equiv, partial_equiv_from_equiv, partial_order_from_agreeing_total};
-ghost use Rattle.std.specs.Ordering.{eq_by_cmp, as_partial_cmp};
-ghost use Rattle.pep508_tree.specs.Meaning.{IsTree, Extends};
+ghost use Rattle.std.specs.Ordering.{eq_by_cmp, as_partial_cmp, is_gt};
+ghost use Rattle.pep508_diagram.specs.Text.{text_cmp};
+ghost use Rattle.pep508_tree.specs.Meaning.{NodeRecord, IsTree, Extends};
 ghost use Rattle.pep508_tree.specs.Forms.{record_of};
-ghost use Rattle.pep508_tree.specs.Nodes.{node_place, Above, AllChildren, AreSound, IsRising, IsJoined, Splits, Made};
+ghost use Rattle.pep508_tree.specs.Nodes.{AreSound};
+ghost use Rattle.pep508_tree.specs.Nodes.{first_place, node_place, Above, AllChildren, IsRising, IsJoined, Splits, Made};
 ghost use Rattle.pep508_tree.specs.Conjunctions.{Conjunction};
 ghost use Rattle.pep508_tree.specs.Asked.{asked_cmp};
 ghost use Rattle.pep508_tree.specs.AskedLaws.{asked_total};
@@ -83,17 +85,24 @@ impl Model for Conjoiner {
 }
 
 /// The conjunction of two trees of which one is constant, or that are one tree or its negation.
-fn plain_conjunction(a: MarkerTree, b: MarkerTree) -> Option<MarkerTree> {
-    if a.is_false() || b.is_false() || a == b.negate() {
-        return Some(MarkerTree::FALSE);
+fn plain_conjunction(a: MarkerTree, b: MarkerTree) -> Option<MarkerTree>
+    ensures { MatchOption result ((0 < a.place) × (0 < b.place)) (λ tree.
+        (nodes : List NodeRecord) → IsTree nodes a → IsTree nodes b → Conjunction nodes nodes a b tree) }
+{
+    if a.place() == 0 {
+        return Some(if a.is_negated() { a } else { b });
     }
-    if a.is_true() || a == b {
-        return Some(b);
+    if b.place() == 0 {
+        return Some(if b.is_negated() { b } else { a });
     }
-    if b.is_true() {
-        return Some(a);
+    if a.place() != b.place() {
+        return None;
     }
-    None
+    Some(if a.is_negated() == b.is_negated() {
+        a
+    } else {
+        MarkerTree::FALSE
+    })
 }
 
 impl Conjoiner {
@@ -142,7 +151,8 @@ impl Conjoiner {
         requires b { IsTree self.now b }
         requires a_node { 0 < a.place }
         requires b_node { 0 < b.place }
-        ensures { (result ≡ (a, b)) ⊎ (result ≡ (b, a)) }
+        ensures either { (result ≡ (a, b)) ⊎ (result ≡ (b, a)) }
+        ensures ordered { is_gt (text_cmp (first_place self.now result.0) (first_place self.now result.1)) ≡ false }
     {
         self.table.in_order(a, b)
     }
@@ -152,6 +162,7 @@ impl Conjoiner {
         requires b { IsTree self.now b }
         requires a_node { 0 < a.place }
         requires b_node { 0 < b.place }
+        requires ordered { is_gt (text_cmp (first_place self.now a) (first_place self.now b)) ≡ false }
         ensures { IfOk result (λ pairs. Splits self.now a b (record_of pairs)) }
     {
         self.table.split(a, b)

@@ -7,7 +7,6 @@ mod conjoiner;
 mod interner;
 pub mod laws;
 mod node;
-mod pairing;
 mod table;
 mod tree;
 

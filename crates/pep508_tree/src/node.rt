@@ -15,10 +15,9 @@ ghost use Rattle.pep508_tree.specs.Nodes.{first_child, second_child, counterpart
 ghost use Rattle.pep508_tree.specs.Nodes.{branch_cmp, node_cmp};
 ghost use Rattle.pep508_tree.specs.NodeLaws.{nodes_total};
 
-use crate::pairing::paired;
 use crate::tree::MarkerTree;
 use pep440_version::Version;
-use pep508_diagram::{Branch, Flag, MarkerText, NodeValue, VersionVariable};
+use pep508_diagram::{Branch, Flag, MarkerText, NodeValue, VersionVariable, paired};
 use pep508_marker::MarkerValueString;
 use std::alloc::{AllocError, Global};
 use std::cmp::Ordering;

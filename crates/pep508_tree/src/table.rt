@@ -1,13 +1,13 @@
 //! What keeps the nodes of marker trees, each once.
 
-ghost use Rattle.std.specs.Prelude.{◌≡◌, ◌⊎◌, ℕ, ◌+◌, ◌-◌, ◌<◌, ◌≤◌, [], length, map, IfOk, MatchOption};
+ghost use Rattle.std.specs.Prelude.{◌≡◌, ◌⊎◌, ◌<◌, false, [], length, map, IfOk, IsTrue, ◌↔◌};
 ghost use Rattle.std.specs.Ordering.{is_gt};
-ghost use Rattle.std.specs.declared.cmp.Ordering.TheVariants.{Equal, Greater};
 ghost use Rattle.pep508_diagram.specs.Text.{text_cmp};
 ghost use Rattle.pep508_tree.specs.Meaning.{IsTree, Extends};
 ghost use Rattle.pep508_tree.specs.Forms.{record_of};
-ghost use Rattle.pep508_tree.specs.Nodes.{node_at, node_cmp, node_place, Above, AllChildren, IsRising, IsJoined};
-ghost use Rattle.pep508_tree.specs.Nodes.{AreSound, IsSoundNode, Splits, Made, turned_node, turned_branch, first_child};
+ghost use Rattle.pep508_tree.specs.Nodes.{AreSound};
+ghost use Rattle.pep508_tree.specs.Nodes.{first_place, node_place, Above, AllChildren, IsRising, IsJoined};
+ghost use Rattle.pep508_tree.specs.Nodes.{IsSoundNode, IsPlaced, IsAlone, Splits, Made, signed, turned_branch, first_child};
 
 use crate::node::{Form, Node, Pair};
 use crate::tree::MarkerTree;
@@ -50,10 +50,13 @@ fn turn<T>(later: &mut [Branch<T, MarkerTree>])
     }
 }
 
-/// The form with each child negated.
-fn turned(form: Form<MarkerTree>) -> Form<MarkerTree>
-    ensures { record_of result ≡ turned_node (record_of form) }
+/// The form, with each child negated where the flag is set.
+fn signed(form: Form<MarkerTree>, negated: bool) -> Form<MarkerTree>
+    ensures { record_of result ≡ signed negated (record_of form) }
 {
+    if !negated {
+        return form;
+    }
     match form {
         Form::Versions(key, first, mut later) => {
             turn(&mut later);
@@ -67,14 +70,25 @@ fn turned(form: Form<MarkerTree>) -> Form<MarkerTree>
     }
 }
 
-/// The first child, and whether it stands alone.
-fn first_of(form: &Form<MarkerTree>) -> (MarkerTree, bool)
-    ensures first { result.0 ≡ first_child (record_of form.now) }
+/// The first child, or the set one of a flag.
+fn first_of(form: &Form<MarkerTree>) -> MarkerTree
+    ensures { result ≡ first_child (record_of form.now) }
 {
     match form {
-        Form::Versions(_, first, later) => (*first, later.is_empty()),
-        Form::Texts(_, first, later) => (*first, later.is_empty()),
-        Form::Flagged(_, set, unset) => (*set, *set == *unset),
+        Form::Versions(_, first, _) => *first,
+        Form::Texts(_, first, _) => *first,
+        Form::Flagged(_, set, _) => *set,
+    }
+}
+
+/// Whether the same stands for each answer.
+fn is_alone(form: &Form<MarkerTree>) -> bool
+    ensures { IsTrue result ↔ IsAlone (record_of form.now) }
+{
+    match form {
+        Form::Versions(_, _, later) => later.is_empty(),
+        Form::Texts(_, _, later) => later.is_empty(),
+        Form::Flagged(_, set, unset) => set.cmp_places(*unset).is_eq(),
     }
 }
 
@@ -108,6 +122,7 @@ impl NodeTable {
         requires a_node { 0 < a.place }
         requires b_node { 0 < b.place }
         ensures either { (result ≡ (a, b)) ⊎ (result ≡ (b, a)) }
+        ensures ordered { is_gt (text_cmp (first_place self.now result.0) (first_place self.now result.1)) ≡ false }
     {
         let first: &Node = &self.nodes[a.place() - 1];
         let second: &Node = &self.nodes[b.place() - 1];
@@ -125,6 +140,7 @@ impl NodeTable {
         requires b { IsTree self.now b }
         requires a_node { 0 < a.place }
         requires b_node { 0 < b.place }
+        requires ordered { is_gt (text_cmp (first_place self.now a) (first_place self.now b)) ≡ false }
         ensures { IfOk result (λ pairs. Splits self.now a b (record_of pairs)) }
     {
         let first: &Node = &self.nodes[a.place() - 1];
@@ -136,23 +152,22 @@ impl NodeTable {
         }
     }
 
-    /// The place of a node that stands here, or is put here now.
+    /// The place of a node that stands here, or is put here now. A refusal stores nothing.
     fn place_of(&mut self, form: Form<MarkerTree>) -> Result<usize, AllocError>
         requires { IsSoundNode self.old (length self.old) (record_of form) }
-        ensures found { IfOk result (λ k. (k < length self.new)
-            × (node_cmp (node_at self.new k) (record_of form) ≡ Equal)) }
+        ensures found { IfOk result (λ place. IsPlaced self.new (record_of form) place) }
         ensures keeps { Extends self.old self.new }
     {
         let node = Rc::new(self.alloc, Node::new(form))?;
         if let Some(place) = self.places.get(&node) {
-            return Ok(*place);
+            return Ok(*place + 1);
         }
         let key = node.clone()?;
         self.nodes.reserve(1)?;
         let place = self.nodes.len();
         self.places.insert(key, place)?;
         match self.nodes.push(node) {
-            Ok(()) => Ok(place),
+            Ok(()) => Ok(place + 1),
             Err(_) => unreachable!(),
         }
     }
@@ -167,13 +182,12 @@ impl NodeTable {
         ensures made { IfOk result (λ tree. Made self.old self.new (record_of form) tree) }
         ensures keeps { Extends self.old self.new }
     {
-        let (first, alone) = first_of(&form);
-        if alone {
+        let first = first_of(&form);
+        if is_alone(&form) {
             return Ok(first);
         }
         let negated = first.is_negated();
-        let form = if negated { turned(form) } else { form };
-        let place = self.place_of(form)?;
-        Ok(MarkerTree::at_place(place + 1, negated))
+        let place = self.place_of(signed(form, negated))?;
+        Ok(MarkerTree::at_place(place, negated))
     }
 }
