@@ -9,6 +9,7 @@ pub mod OneTree
 pub mod Meanings
 pub mod Moving
 pub mod Disjoint
+pub mod Equal
 pub mod Splitting
 pub mod Storing
 pub mod Placing

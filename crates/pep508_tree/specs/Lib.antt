@@ -4,6 +4,7 @@ pub mod Comparisons
 pub mod Forms
 pub mod Nodes
 pub mod Conjunctions
+pub mod Disjoint
 pub mod Places
 pub mod NodeLaws
 pub mod Asked
@@ -11,4 +12,3 @@ pub mod AskedLaws
 pub mod Known
 pub mod Interning
 pub mod Joining
-pub mod Disjoint

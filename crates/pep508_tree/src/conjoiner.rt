@@ -7,6 +7,7 @@ ghost use Rattle.std.specs.List.{AllByRecursion};
 ghost use Rattle.pep508_diagram.specs.Text.{text_cmp};
 ghost use Rattle.pep508_tree.specs.Meaning.{NodeRecord, IsTree, Extends};
 ghost use Rattle.pep508_tree.specs.Forms.{record_of};
+ghost use Rattle.pep508_tree.specs.Nodes.{AreSound};
 ghost use Rattle.pep508_tree.specs.Nodes.{first_place, node_place, Above, AllChildren, IsRising, IsJoined, Splits, Made};
 ghost use Rattle.pep508_tree.specs.Conjunctions.{Conjunction, ArePairs, Meet};
 ghost use Rattle.pep508_tree.specs.Asked.{asked_cmp};
@@ -118,6 +119,13 @@ impl Conjoiner {
 
     fn allocator(&self) -> Global {
         self.table.allocator()
+    }
+
+    /// What the nodes keep. Does nothing.
+    pub fn are_sound(&self)
+        ensures { AreSound self.now }
+    {
+        self.table.are_sound()
     }
 
     /// The conjunction of two trees, if it was made before.

@@ -4,6 +4,7 @@ ghost use Rattle.std.specs.Prelude.{◌≡◌, ◌+◌, ◌^◌, ◌-◌, min, [
 ghost use Rattle.pep508_diagram.specs.Question.{Valuation};
 ghost use Rattle.pep508_tree.specs.Meaning.{IsTree, Extends, holds};
 ghost use Rattle.pep508_tree.specs.Interning.{counted};
+ghost use Rattle.pep508_tree.specs.Nodes.{AreSound};
 
 use crate::conjoiner::Conjoiner;
 use crate::tree::MarkerTree;
@@ -44,6 +45,13 @@ impl Interner {
         ensures { result ≡ self.now.conjunctions }
     {
         self.conjunctions
+    }
+
+    /// What the nodes keep. Does nothing.
+    pub(crate) fn are_sound(&self)
+        ensures { AreSound self.now.nodes }
+    {
+        self.conjoiner.are_sound()
     }
 
     /// The conjunction, counted.

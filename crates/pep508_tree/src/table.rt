@@ -5,6 +5,7 @@ ghost use Rattle.std.specs.Ordering.{is_gt};
 ghost use Rattle.pep508_diagram.specs.Text.{text_cmp};
 ghost use Rattle.pep508_tree.specs.Meaning.{IsTree, Extends};
 ghost use Rattle.pep508_tree.specs.Forms.{record_of};
+ghost use Rattle.pep508_tree.specs.Nodes.{AreSound};
 ghost use Rattle.pep508_tree.specs.Nodes.{first_place, node_place, Above, AllChildren, IsRising, IsJoined};
 ghost use Rattle.pep508_tree.specs.Nodes.{IsSoundNode, IsPlaced, IsAlone, Splits, Made, signed, turned_branch, first_child};
 
@@ -105,6 +106,13 @@ impl NodeTable {
 
     pub fn allocator(&self) -> Global {
         self.alloc
+    }
+
+    /// What the nodes keep, for callers that see their records alone. Does nothing.
+    pub fn are_sound(&self)
+        ensures { AreSound self.now }
+    {
+        let _ = &self.nodes;
     }
 
     /// The two trees, first the one whose first variable does not come after that of the other.
