@@ -169,7 +169,8 @@ impl Conjoiner {
         self.table.split(a, b)
     }
 
-    fn store(&mut self, form: Form<MarkerTree>) -> Result<MarkerTree, AllocError>
+    /// The tree of a form, of which each child asks for later variables only.
+    pub fn store(&mut self, form: Form<MarkerTree>) -> Result<MarkerTree, AllocError>
         requires made { AllChildren (IsTree self.old) (record_of form) }
         requires above { AllChildren (Above self.old (node_place (record_of form))) (record_of form) }
         requires rises { IsRising (record_of form) }

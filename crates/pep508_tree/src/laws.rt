@@ -4,7 +4,7 @@
 ghost use Rattle.std.specs.Prelude.{◌≡◌, ◌↔◌, IsTrue, true, false, not, List};
 ghost use Rattle.pep508_diagram.specs.Question.{Valuation};
 ghost use Rattle.pep508_tree.specs.Tree.{Tree, always, never, negation};
-ghost use Rattle.pep508_tree.specs.Meaning.{NodeRecord, IsTree, holds};
+ghost use Rattle.pep508_tree.specs.Meaning.{NodeRecord, IsTree, Extends, holds};
 
 use crate::{Interner, MarkerTree};
 
@@ -55,3 +55,12 @@ pub fn constants_are_named(interner: &Interner)
 {
     interner.are_sound()
 }
+
+/// A tree keeps its meaning while nodes are added to its interner.
+#[tactic(auto, using(crate::proofs::Conjoining::tree_kept, crate::proofs::Diagrams::holds_kept))]
+pub fn earlier_trees_keep()
+    ensures made { (old new : List NodeRecord) (tree : Tree) → Extends old new → IsTree old tree →
+        IsTree new tree }
+    ensures meaning { (old new : List NodeRecord) (tree : Tree) → Extends old new → IsTree old tree →
+        (v : Valuation) → holds new tree v ≡ holds old tree v }
+{}
