@@ -1,15 +1,21 @@
 -- Trees that are named alike.
-use Rattle.std.proofs.Common.{◌≡◌, ◌↔◌, ◌==◌, ◌&&◌, Bool, true, false, IsTrue, ℕ, refl, ap, sym, ◌∙◌, arith}
+use Rattle.std.proofs.Common.{◌≡◌, ◌↔◌, ◌==◌, ◌&&◌, Bool, true, false, not, IsTrue, ℕ, refl, ap, sym, ◌∙◌, arith}
 use Rattle.std.proofs.lemmas.Grind.{common_steps}
 use Rattle.std.proofs.lemmas.Bool.Decides.{nat_tests}
 use mathlib.Core.Bool.{beq}
 use Rattle.pep508_tree.specs.Tree.{Tree}
 
-bools_alike : (a b : Bool) → beq a b ≡ true → a ≡ b
+pub bools_alike : (a b : Bool) → beq a b ≡ true → a ≡ b
 bools_alike true true e = refl
 bools_alike true false e = absurd (cc)
 bools_alike false true e = absurd (cc)
 bools_alike false false e = refl
+
+pub bools_apart : (a b : Bool) → beq a b ≡ false → b ≡ not a
+bools_apart true true e = absurd (cc)
+bools_apart true false e = refl
+bools_apart false true e = refl
+bools_apart false false e = absurd (cc)
 
 both : (a b : Bool) → (a && b) ≡ true → (a ≡ true) × (b ≡ true)
 both true b e = (refl, e)

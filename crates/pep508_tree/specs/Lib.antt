@@ -1,2 +1,13 @@
 pub mod Tree
 pub mod Meaning
+pub mod Forms
+pub mod Nodes
+pub mod Conjunctions
+pub mod Disjoint
+pub mod Places
+pub mod NodeLaws
+pub mod Asked
+pub mod AskedLaws
+pub mod Known
+pub mod Interning
+pub mod Joining

@@ -11,14 +11,18 @@ use Rattle.pep508_diagram.specs.Chains.{chain}
 use Rattle.pep508_diagram.specs.Question.{Question, VersionBelow, TextBelow, IsSet, Valuation, truth}
 use Rattle.pep508_tree.specs.Tree.{Tree}
 
--- a node: the trees between a key's boundaries, or those for either truth of a flag
-pub data NodeRecord : Type 0 where
-  Versions : VersionVariable → Tree → List (Branch VersionRecord Tree) → NodeRecord
-  Texts : MarkerValueString → Tree → List (Branch (List ℕ) Tree) → NodeRecord
-  Flagged : Flag → Tree → Tree → NodeRecord
+-- a node: what stands between a key's boundaries, or for either truth of a flag
+pub data NodeOf (C : Type 0) : Type 0 where
+  Versions : VersionVariable → C → List (Branch VersionRecord C) → NodeOf C
+  Texts : MarkerValueString → C → List (Branch (List ℕ) C) → NodeOf C
+  Flagged : Flag → C → C → NodeOf C
+
+-- a node of trees
+abbrev pub NodeRecord : Type 0
+NodeRecord = NodeOf Tree
 
 -- the diagram of a node, from those of trees
-abbrev pub node_diagram : (Tree → Diagram Question) → NodeRecord → Diagram Question
+abbrev pub node_diagram : {C : Type 0} → (C → Diagram Question) → NodeOf C → Diagram Question
 node_diagram at (Versions key first later) = chain (VersionBelow key) at first later
 node_diagram at (Texts key first later) = chain (TextBelow key) at first later
 node_diagram at (Flagged flag set unset) = Test (IsSet flag) (at set) (at unset)

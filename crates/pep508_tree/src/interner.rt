@@ -1,38 +1,70 @@
-//! What keeps the diagrams of marker trees.
+//! What makes marker trees.
 
-ghost use Rattle.std.specs.Prelude.{◌≡◌, []};
+ghost use Rattle.std.specs.Prelude.{◌≡◌, ◌+◌, ◌^◌, ◌-◌, min, [], Bool, ◌&&◌, ◌||◌, IfOk};
+ghost use Rattle.pep508_diagram.specs.Question.{Valuation};
+ghost use Rattle.pep508_tree.specs.Meaning.{IsTree, Extends, holds};
+ghost use Rattle.pep508_tree.specs.Interning.{counted};
+ghost use Rattle.pep508_tree.specs.Nodes.{AreSound};
 
-use std::alloc::Global;
+use crate::conjoiner::Conjoiner;
+use crate::tree::MarkerTree;
+use std::alloc::{AllocError, Global};
 use std::marker::Model;
-
-/// A node of a diagram: a test and the trees for its answers. So far there is none.
-#[derive(Drop)]
-enum Node {}
 
 /// Makes marker trees, and keeps their nodes, in memory of the allocator that it was made with.
 ///
 /// The constant trees stand in every interner. Nodes are only added, so a tree keeps its meaning.
 #[derive(Drop)]
 pub struct Interner {
-    nodes: Vec<Node>,
+    conjoiner: Conjoiner,
+    conjunctions: u64,
 }
 
 impl Model for Interner {
-    ghost use Rattle.std.specs.Prelude.{List};
-    ghost use Rattle.pep508_tree.specs.declared.interner.Node.{Node};
+    ghost use Rattle.pep508_tree.specs.Interning.{InternerRecord};
 
-    ghost Value = { List Node };
+    ghost Value = { InternerRecord };
 
-    ghost view = { λ interner. interner.nodes.items };
+    ghost view = { λ interner. record { nodes = interner.conjoiner; conjunctions = interner.conjunctions } };
 }
 
 impl Interner {
     /// An interner of the constant trees alone. Takes no memory.
     pub fn new(alloc: Global) -> Interner
-        ensures { result ≡ [] }
+        ensures nodes { result.nodes ≡ [] }
+        ensures conjunctions { result.conjunctions ≡ 0 }
     {
         Interner {
-            nodes: Vec::new(alloc),
+            conjoiner: Conjoiner::new(alloc),
+            conjunctions: 0,
         }
+    }
+
+    /// How often `and` and `or` were called with this interner, refused calls among them. Stops at `u64::MAX`.
+    pub fn conjunctions(&self) -> u64
+        ensures { result ≡ self.now.conjunctions }
+    {
+        self.conjunctions
+    }
+
+    /// What the nodes keep. Does nothing.
+    pub(crate) fn are_sound(&self)
+        ensures { AreSound self.now.nodes }
+    {
+        self.conjoiner.are_sound()
+    }
+
+    /// The conjunction, counted.
+    pub(crate) fn conjoined(&mut self, a: MarkerTree, b: MarkerTree) -> Result<MarkerTree, AllocError>
+        requires a { IsTree self.old.nodes a }
+        requires b { IsTree self.old.nodes b }
+        ensures made { IfOk result (λ tree. IsTree self.new.nodes tree) }
+        ensures truth { IfOk result (λ tree. (v : Valuation) →
+            holds self.new.nodes tree v ≡ (holds self.old.nodes a v && holds self.old.nodes b v)) }
+        ensures keeps { Extends self.old.nodes self.new.nodes }
+        ensures counts { self.new.conjunctions ≡ counted self.old.conjunctions }
+    {
+        self.conjunctions = self.conjunctions.saturating_add(1);
+        self.conjoiner.conjunction(a, b)
     }
 }

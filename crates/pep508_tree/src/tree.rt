@@ -2,7 +2,9 @@
 
 ghost use Rattle.std.specs.Prelude.{◌≡◌, ◌↔◌, IsTrue};
 ghost use Rattle.pep508_tree.specs.Tree.{Tree, always, never, negation};
+ghost use Rattle.pep508_tree.specs.Nodes.{turned, tree_cmp};
 
+use std::cmp::Ordering;
 use std::marker::Model;
 
 /// A marker tree of an interner: for which environments and extras a requirement is meant (PEP 508,
@@ -46,6 +48,42 @@ impl MarkerTree {
             place: self.place,
             negated: !self.negated,
         }
+    }
+
+    /// The tree at a place of an interner.
+    pub(crate) fn at_place(place: usize, negated: bool) -> MarkerTree
+        ensures { result ≡ record { place = place; negated = negated } }
+    {
+        MarkerTree { place, negated }
+    }
+
+    pub(crate) fn place(self) -> usize
+        ensures { result ≡ self.place }
+    {
+        self.place
+    }
+
+    pub(crate) fn is_negated(self) -> bool
+        ensures { result ≡ self.negated }
+    {
+        self.negated
+    }
+
+    /// The tree, negated where the flag is set.
+    pub(crate) fn turned(self, turns: bool) -> MarkerTree
+        ensures { result ≡ turned turns self }
+    {
+        MarkerTree {
+            place: self.place,
+            negated: if turns { !self.negated } else { self.negated },
+        }
+    }
+
+    /// The order in which trees were made, a tree before its negation. It is no order of meanings.
+    pub(crate) fn cmp_places(self, other: MarkerTree) -> Ordering
+        ensures { result ≡ tree_cmp self other }
+    {
+        self.place.cmp(&other.place).then(self.negated.cmp(&other.negated))
     }
 
     /// Whether this is the tree that always holds.

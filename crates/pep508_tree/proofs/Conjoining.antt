@@ -1,0 +1,350 @@
+-- Conjunctions of trees: how they last while nodes are added, and how they are put together from those of the
+-- pairs that stand in two trees.
+use Rattle.std.proofs.Common.{◌≡◌, ◌⊎◌, inl, inr, ℕ, zero, suc, ◌+◌, ◌-◌, ◌<◌, ◌≤◌, Bool, true, false, not, cond, ◌&&◌, List, [], ◌∷◌, ◌++◌, length, get_or, take, map, refl, ap, ap₂, sym, subst, ◌∙◌, arith, length-append, append_assoc, Ordering, Less, is_eq, true≢false}
+use Rattle.std.proofs.lemmas.Bool.{cases_Bool}
+use Rattle.std.proofs.lemmas.List.{get_or_append_left, take_more, take_all}
+use Rattle.std.specs.List.{AllByRecursion}
+use Rattle.std.specs.Cmp.{IsTotalOrder}
+use Rattle.std.specs.Cmp.Lexicographic.{nat_list_cmp_total}
+use Rattle.version_ranges.specs.declared.boundary.Boundary.{Boundary}
+use Rattle.version_ranges.specs.Boundaries.{point_of, boundary_cmp}
+use Rattle.version_ranges.specs.Point.{Point, point_cmp}
+use Rattle.version_ranges.specs.Turns.{reaches, flips}
+use Rattle.pep440_rs.specs.Record.{VersionRecord}
+use Rattle.pep440_rs.specs.Order.{version_cmp}
+use Rattle.pep440_version.specs.OrderLaws.{version_cmp_total}
+use Rattle.pep508_diagram.specs.declared.branch.Branch.{Branch}
+use Rattle.pep508_diagram.specs.Text.{text_cmp}
+use Rattle.pep508_diagram.specs.Branches.{RisingBranches, branch_at, AllBranches, NeighboursDiffer}
+use Rattle.pep508_diagram.specs.Question.{Valuation, truth}
+use Rattle.pep508_diagram.proofs.Places.{equal_from}
+use Rattle.pep508_diagram.proofs.Branching.{before_unreached}
+use Rattle.pep508_tree.specs.Tree.{Tree, always, never, negation}
+use Rattle.pep508_tree.specs.Meaning.{NodeOf, NodeRecord, Versions, Texts, Flagged, holds, IsTree, Extends}
+use Rattle.pep508_tree.specs.Nodes.{AllChildren, IsRising, IsJoined, Above, Splits, Made, chosen, no_node, node_at, node_place, tree_cmp, turned}
+use Rattle.pep508_tree.specs.Joining.{children, joined, head, tail, node_joined}
+use Rattle.pep508_tree.specs.Conjunctions.{Conjunction, ArePairs, Meet}
+use Rattle.pep508_tree.proofs.Diagrams.{holds_kept}
+use Rattle.pep508_tree.proofs.OneNode.{tied_trees}
+use Rattle.pep508_tree.proofs.Storing.{above_kept, trees_same}
+
+-- ---- nodes that are added
+
+pub extends_itself : (nodes : List NodeRecord) → Extends nodes nodes
+extends_itself nodes = ([], sym (append_nil nodes))
+  where
+    append_nil : (xs : List NodeRecord) → xs ++ [] ≡ xs
+    append_nil [] = refl
+    append_nil (x ∷ xs) = ap (λ ys. x ∷ ys) (append_nil xs)
+
+pub extends_on : (old now new : List NodeRecord) → Extends old now → Extends now new → Extends old new
+extends_on old now new e f =
+    (e.0 ++ f.0, f.1 ∙ ap (λ nodes. nodes ++ f.0) e.1 ∙ append_assoc old e.0 f.0)
+
+pub tree_kept : (old new : List NodeRecord) → Extends old new → (t : Tree) → IsTree old t → IsTree new t
+tree_kept old new e t made = omega (arith, ap length e.1, length-append old e.0)
+
+above_back : (old new : List NodeRecord) → Extends old new → (place : List ℕ) (t : Tree) → IsTree old t →
+    Above new place t → Above old place t
+unfolding Above
+above_back old new e place t made above k f =
+    let same : node_at new k ≡ node_at old k =
+    ap (λ ns. node_at ns k) e.1 ∙ get_or_append_left old e.0 no_node k (omega arith) in
+    subst (λ n. text_cmp place (node_place n) ≡ Less) same (above k f)
+
+-- ---- conjunctions while nodes are added
+
+pub conjunction_later : (old now new : List NodeRecord) (a b t : Tree) → Extends now new →
+    Conjunction old now a b t → Conjunction old new a b t
+conjunction_later old now new a b t e c = record {
+  made = tree_kept now new e t c.made;
+  truth_is = λ v. holds_kept now new e t c.made v ∙ c.truth_is v;
+  above = λ place p q. above_kept now new e place t c.made (c.above place p q);
+}
+
+pub conjunction_earlier : (old now new : List NodeRecord) (a b t : Tree) → Extends old now → IsTree old a →
+    IsTree old b → Conjunction now new a b t → Conjunction old new a b t
+conjunction_earlier old now new a b t e made other c = record {
+  made = c.made;
+  truth_is = λ v. c.truth_is v ∙ ap₂ (λ x y. x && y) (holds_kept old now e a made v) (holds_kept old now e b other v);
+  above = λ place p q.
+      c.above place (above_kept old now e place a made p) (above_kept old now e place b other q);
+}
+
+pub conjunction_now : (old new : List NodeRecord) (a b t : Tree) → Extends old new → IsTree old a → IsTree old b →
+    Conjunction old new a b t → Conjunction new new a b t
+conjunction_now old new a b t e made other c = record {
+  made = c.made;
+  truth_is = λ v.
+      c.truth_is v ∙ ap₂ (λ x y. x && y) (sym (holds_kept old new e a made v)) (sym (holds_kept old new e b other v));
+  above = λ place p q. c.above place (above_back old new e place a made p) (above_back old new e place b other q);
+}
+
+and_turned : (x y : Bool) → (x && y) ≡ (y && x)
+and_turned true true = refl
+and_turned true false = refl
+and_turned false true = refl
+and_turned false false = refl
+
+pub conjunction_turned : (old new : List NodeRecord) (a b t : Tree) → Conjunction old new a b t →
+    Conjunction old new b a t
+conjunction_turned old new a b t c = record {
+  made = c.made;
+  truth_is = λ v. c.truth_is v ∙ and_turned (holds old a v) (holds old b v);
+  above = λ place p q. c.above place q p;
+}
+
+-- two trees in either order
+pub in_either : (old new : List NodeRecord) (a b t : Tree) (both : Tree × Tree) →
+    (both ≡ (a, b)) ⊎ (both ≡ (b, a)) → Conjunction old new both.0 both.1 t → Conjunction old new a b t
+in_either old new a b t both (inl e) c = subst (λ (p : Tree × Tree). Conjunction old new p.0 p.1 t) e c
+in_either old new a b t both (inr e) c =
+    conjunction_turned old new b a t (subst (λ (p : Tree × Tree). Conjunction old new p.0 p.1 t) e c)
+
+-- ---- lists whose elements meet a condition, each with each
+
+pub meet_push : {C D : Type 0} (R : C → D → Type 0) (xs : List C) (ys : List D) (x : C) (y : D) → Meet R xs ys →
+    R x y → Meet R (xs ++ x ∷ []) (ys ++ y ∷ [])
+meet_push R [] [] x y m r = (r, tt)
+meet_push R [] (z ∷ ys) x y m r = absurd m
+meet_push R (w ∷ xs) [] x y m r = absurd m
+meet_push R (w ∷ xs) (z ∷ ys) x y m r = (m.0, meet_push R xs ys x y m.1 r)
+
+pub meet_weaker : {C D : Type 0} (R S : C → D → Type 0) → ((x : C) (y : D) → R x y → S x y) → (xs : List C)
+    (ys : List D) → Meet R xs ys → Meet S xs ys
+meet_weaker R S so [] [] m = tt
+meet_weaker R S so [] (y ∷ ys) m = m
+meet_weaker R S so (x ∷ xs) [] m = m
+meet_weaker R S so (x ∷ xs) (y ∷ ys) m = (so x y m.0, meet_weaker R S so xs ys m.1)
+
+-- ---- branches whose children are given anew
+
+module _ {T C : Type 0} {cmp : T → T → Ordering} (o : IsTotalOrder cmp) where
+  joined_after : (P : Boundary T → Type 0) (last : Tree) (later : List (Branch T C)) (trees : List Tree) →
+      AllByRecursion P (map (λ branch. branch.boundary) later) →
+      AllByRecursion P (map (λ branch. branch.boundary) (joined last later trees))
+  joined_after P last [] trees all = tt
+  joined_after P last (b ∷ later) [] all = tt
+  joined_after P last (b ∷ later) (t ∷ trees) all = elim (cases_Bool (is_eq (tree_cmp t last))) [
+    | inl same ↦ rw same (joined_after P last later trees all.1)
+    | inr other ↦ rw other (all.0, joined_after P t later trees all.1)
+  ]
+
+  pub joined_rises : (last : Tree) (later : List (Branch T C)) (trees : List Tree) → RisingBranches cmp later →
+      RisingBranches cmp (joined last later trees)
+  joined_rises last [] trees rises = tt
+  joined_rises last (b ∷ later) [] rises = tt
+  joined_rises last (b ∷ later) (t ∷ trees) rises = elim (cases_Bool (is_eq (tree_cmp t last))) [
+    | inl same ↦ rw same (joined_rises last later trees rises.1)
+    | inr other ↦
+        rw other
+        (joined_after (λ c. boundary_cmp cmp b.boundary c ≡ Less) t later trees rises.0, joined_rises t later trees rises.1)
+  ]
+
+  pub joined_differs : (last : Tree) (later : List (Branch T C)) (trees : List Tree) →
+      NeighboursDiffer last (joined last later trees)
+  joined_differs last [] trees = tt
+  joined_differs last (b ∷ later) [] = tt
+  joined_differs last (b ∷ later) (t ∷ trees) = elim (cases_Bool (is_eq (tree_cmp t last))) [
+    | inl same ↦ rw same (joined_differs last later trees)
+    | inr other ↦
+        rw other
+        (λ e. true≢false (sym (ap is_eq (tied_trees t last (sym e))) ∙ other), joined_differs t later trees)
+  ]
+
+  -- what holds of each pair holds at each point
+  pub joined_at : (R : C → Tree → Type 0) (first : C) (last : Tree) (later : List (Branch T C)) (trees : List Tree) →
+      R first last → Meet R (map (λ branch. branch.child) later) trees → RisingBranches cmp later → (p : Point T) →
+      R (branch_at cmp first later p) (branch_at cmp last (joined last later trees) p)
+  joined_at R first last [] trees r m rises p = r
+  joined_at R first last (b ∷ later) [] r m rises p = absurd m
+  joined_at R first last (b ∷ later) (t ∷ trees) r m rises p =
+      elim (cases_Bool (reaches (point_cmp cmp) (point_of b.boundary) p)) [
+        | inl up ↦ elim (cases_Bool (is_eq (tree_cmp t last))) [
+          | inl same ↦
+              let one : t ≡ last = trees_same t last (equal_from (tree_cmp t last) same) in
+              rw (up, same) (joined_at R b.child last later trees (subst (R b.child) one m.0) m.1 rises.1 p)
+          | inr other ↦ rw (up, other, up) (joined_at R b.child t later trees m.0 m.1 rises.1 p)
+        ]
+        | inr over ↦ elim (cases_Bool (is_eq (tree_cmp t last))) [
+          | inl same ↦
+              let here : branch_at cmp first later p ≡ first = before_unreached o b.boundary first later p over rises.0 in
+              rw (over, same)
+              (subst (λ c. R c (branch_at cmp last (joined last later trees) p)) here
+              (joined_at R first last later trees r m.1 rises.1 p))
+          | inr other ↦ rw (over, other, over) r
+        ]
+      ]
+
+  pub joined_all : (P : Tree → Type 0) (R : C → Tree → Type 0) → ((c : C) (t : Tree) → R c t → P t) → (last : Tree)
+      (later : List (Branch T C)) (trees : List Tree) → P last → Meet R (map (λ branch. branch.child) later) trees →
+      AllBranches P last (joined last later trees)
+  joined_all P R so last [] trees p m = p
+  joined_all P R so last (b ∷ later) [] p m = absurd m
+  joined_all P R so last (b ∷ later) (t ∷ trees) p m = elim (cases_Bool (is_eq (tree_cmp t last))) [
+    | inl same ↦ rw same (joined_all P R so last later trees p m.1)
+    | inr other ↦ rw other (p, joined_all P R so t later trees (so b.child t m.0) m.1)
+  ]
+
+-- ---- nodes whose children are given anew
+
+module _ {C : Type 0} where
+  branches_list : {T : Type 0} (P : C → Type 0) (first : C) (later : List (Branch T C)) → AllBranches P first later →
+      AllByRecursion P (first ∷ map (λ branch. branch.child) later)
+  branches_list P first [] all = (all, tt)
+  branches_list P first (b ∷ later) all = (all.0, branches_list P b.child later all.1)
+
+  pub children_list : (P : C → Type 0) (n : NodeOf C) → AllChildren P n → AllByRecursion P (children n)
+  children_list P (Versions key first later) all = branches_list P first later all
+  children_list P (Texts key first later) all = branches_list P first later all
+  children_list P (Flagged flag set unset) all = (all.0, (all.1, tt))
+
+  pub each_of_list : (P : C → Type 0) (xs : List C) (i : ℕ) (x : C) → AllByRecursion P xs → i < length xs →
+      x ≡ get_or xs i x → P x
+  each_of_list P [] i x all inside e = absurd (omega arith)
+  each_of_list P (y ∷ xs) zero x all inside e = subst P (sym e) all.0
+  each_of_list P (y ∷ xs) (suc i) x all inside e = each_of_list P xs i x all.1 (omega arith) e
+
+  pub meet_with : {D : Type 0} (P : C → Type 0) (R : C → D → Type 0) (xs : List C) (ys : List D) →
+      AllByRecursion P xs → Meet R xs ys → Meet (λ x y. P x × R x y) xs ys
+  meet_with P R [] [] all m = tt
+  meet_with P R [] (y ∷ ys) all m = m
+  meet_with P R (x ∷ xs) [] all m = m
+  meet_with P R (x ∷ xs) (y ∷ ys) all m = ((all.0, m.0), meet_with P R xs ys all.1 m.1)
+
+  pub place_joined : (n : NodeOf C) (trees : List Tree) → node_place (node_joined n trees) ≡ node_place n
+  place_joined (Versions key first later) trees = refl
+  place_joined (Texts key first later) trees = refl
+  place_joined (Flagged flag set unset) trees = refl
+
+  pub rises_joined : (n : NodeOf C) (trees : List Tree) → IsRising n → IsRising (node_joined n trees)
+  rises_joined (Versions key first later) trees rises =
+      joined_rises version_cmp_total (head trees) later (tail trees) rises
+  rises_joined (Texts key first later) trees rises =
+      joined_rises nat_list_cmp_total (head trees) later (tail trees) rises
+  rises_joined (Flagged flag set unset) trees rises = tt
+
+  pub is_joined : (n : NodeOf C) (trees : List Tree) → IsJoined (node_joined n trees)
+  is_joined (Versions key first later) trees = joined_differs version_cmp_total (head trees) later (tail trees)
+  is_joined (Texts key first later) trees = joined_differs nat_list_cmp_total (head trees) later (tail trees)
+  is_joined (Flagged flag set unset) trees = tt
+
+  module _ (R : C → Tree → Type 0) where
+    pub children_joined : (P : Tree → Type 0) → ((c : C) (t : Tree) → R c t → P t) → (n : NodeOf C)
+        (trees : List Tree) → Meet R (children n) trees → AllChildren P (node_joined n trees)
+    children_joined P so (Versions key first later) [] m = absurd m
+    children_joined P so (Versions key first later) (t ∷ trees) m =
+        joined_all version_cmp_total P R so t later trees (so first t m.0) m.1
+    children_joined P so (Texts key first later) [] m = absurd m
+    children_joined P so (Texts key first later) (t ∷ trees) m =
+        joined_all nat_list_cmp_total P R so t later trees (so first t m.0) m.1
+    children_joined P so (Flagged flag set unset) [] m = absurd m
+    children_joined P so (Flagged flag set unset) (t ∷ []) m = absurd m.1
+    children_joined P so (Flagged flag set unset) (t ∷ u ∷ trees) m = (so set t m.0, so unset u m.1.0)
+
+    pub chosen_joined : (n : NodeOf C) (trees : List Tree) → Meet R (children n) trees → IsRising n →
+        (v : Valuation) → R (chosen n v) (chosen (node_joined n trees) v)
+    chosen_joined (Versions key first later) [] m rises v = absurd m
+    chosen_joined (Versions key first later) (t ∷ trees) m rises v =
+        joined_at version_cmp_total R first t later trees m.0 m.1 rises (v.version key)
+    chosen_joined (Texts key first later) [] m rises v = absurd m
+    chosen_joined (Texts key first later) (t ∷ trees) m rises v =
+        joined_at nat_list_cmp_total R first t later trees m.0 m.1 rises (v.text key)
+    chosen_joined (Flagged flag set unset) [] m rises v = absurd m
+    chosen_joined (Flagged flag set unset) (t ∷ []) m rises v = absurd m.1
+    chosen_joined (Flagged flag set unset) (t ∷ u ∷ trees) m rises v = elim (cases_Bool (v.flag flag)) [
+      | inl set_is ↦ rw set_is m.0
+      | inr unset_is ↦ rw unset_is m.1.0
+    ]
+
+-- ---- conjunctions of pairs
+
+-- the conjunctions of the first so many pairs stand, and nodes were only added
+pub record AreConjoined (old now : List NodeRecord) (a b : Tree) (pairs : List (Tree × Tree)) (trees : List Tree)
+    (i : ℕ) : Type 0 where
+  pub keeps : Extends old now
+  pub met : Meet (ArePairs old now a b) (take i pairs) trees
+
+pub conjoined_none : (nodes : List NodeRecord) (a b : Tree) (pairs : List (Tree × Tree)) (trees : List Tree) →
+    trees ≡ [] → AreConjoined nodes nodes a b pairs trees 0
+conjoined_none nodes a b pairs trees e = record {
+  keeps = extends_itself nodes;
+  met = subst (Meet (ArePairs nodes nodes a b) (take 0 pairs)) (sym e) tt;
+}
+
+pub conjoined_more : (old now new : List NodeRecord) (a b : Tree) (pairs : List (Tree × Tree))
+    (trees more : List Tree) (i : ℕ) (pair : Tree × Tree) (t : Tree) → AreConjoined old now a b pairs trees i →
+    i < length pairs → pair ≡ get_or pairs i pair → IsTree old pair.0 × IsTree old pair.1 → Extends now new →
+    Conjunction now new (turned a.negated pair.0) (turned b.negated pair.1) t → more ≡ trees ++ t ∷ [] →
+    AreConjoined old new a b pairs more (i + 1)
+conjoined_more old now new a b pairs trees more i pair t s inside e made keeps c pushed = record {
+  keeps = extends_on old now new s.keeps keeps;
+  met =
+      let later : Meet (ArePairs old new a b) (take i pairs) trees =
+      meet_weaker (ArePairs old now a b) (ArePairs old new a b)
+      (λ p u d. conjunction_later old now new (turned a.negated p.0) (turned b.negated p.1) u keeps d)
+      (take i pairs) trees s.met in
+      let here : ArePairs old new a b pair t =
+      conjunction_earlier old now new (turned a.negated pair.0) (turned b.negated pair.1) t s.keeps made.0 made.1 c in
+      let longer : take (i + 1) pairs ≡ take i pairs ++ pair ∷ [] =
+      take_more pairs i pair inside ∙ ap (λ p. take i pairs ++ p ∷ []) (sym e) in
+      subst (λ xs. Meet (ArePairs old new a b) xs more) (sym longer)
+      (subst (Meet (ArePairs old new a b) (take i pairs ++ pair ∷ [])) (sym pushed)
+      (meet_push (ArePairs old new a b) (take i pairs) trees pair t later here));
+}
+
+pub conjoined_all : (old now : List NodeRecord) (a b : Tree) (pairs : List (Tree × Tree)) (trees : List Tree)
+    (i : ℕ) → AreConjoined old now a b pairs trees i → length pairs ≤ i → Meet (ArePairs old now a b) pairs trees
+conjoined_all old now a b pairs trees i s all =
+    subst (λ xs. Meet (ArePairs old now a b) xs trees) (take_all i pairs all) s.met
+
+above_turned : (nodes : List NodeRecord) (place : List ℕ) (turns : Bool) (t : Tree) → Above nodes place t →
+    Above nodes place (turned turns t)
+unfolding Above
+above_turned nodes place turns t above = above
+
+module _ (old now : List NodeRecord) (a b : Tree) (pairs : NodeOf (Tree × Tree)) (trees : List Tree)
+    (s : Splits old a b pairs) (met : Meet (ArePairs old now a b) (children pairs) trees) where
+  pub made_children : AllChildren (IsTree now) (node_joined pairs trees)
+  made_children =
+      children_joined (ArePairs old now a b) (IsTree now) (λ p t c. c.made) pairs trees met
+
+  pub above_children : AllChildren (Above now (node_place (node_joined pairs trees))) (node_joined pairs trees)
+  above_children =
+      let behind = λ (p : Tree × Tree). Above old (node_place pairs) p.0 × Above old (node_place pairs) p.1 in
+      subst (λ place. AllChildren (Above now place) (node_joined pairs trees)) (sym (place_joined pairs trees))
+      (children_joined (λ p t. behind p × ArePairs old now a b p t) (Above now (node_place pairs))
+      (λ p t c. c.1.above (node_place pairs) (above_turned old (node_place pairs) a.negated p.0 c.0.0)
+      (above_turned old (node_place pairs) b.negated p.1 c.0.1))
+      pairs trees
+      (meet_with behind (ArePairs old now a b) (children pairs) trees (children_list behind pairs s.above) met))
+
+  pub conjunction_made : (new : List NodeRecord) (tree : Tree) → Made now new (node_joined pairs trees) tree →
+      Conjunction old new a b tree
+  conjunction_made new tree made = record {
+    made = made.made;
+    truth_is = λ v.
+        made.truth_is v
+        ∙ (chosen_joined (ArePairs old now a b) pairs trees met s.rises v).truth_is v
+        ∙ ap₂ (λ x y. x && y) (sym (s.first_is v)) (sym (s.second_is v));
+    above = λ place p q.
+        made.above place (ap (λ other. text_cmp place other) (place_joined pairs trees) ∙ s.first place p q);
+  }
+
+-- ---- two trees in either order
+
+pub meet_by : {C D : Type 0} (R : C → D → Type 0) (xs other : List C) (ys more : List D) → xs ≡ other → more ≡ ys →
+    Meet R xs ys → Meet R other more
+meet_by R xs other ys more e f m = subst (λ zs. Meet R zs more) e (subst (Meet R xs) (sym f) m)
+
+pub either_sum : (a b : Tree) (both : Tree × Tree) → (both ≡ (a, b)) ⊎ (both ≡ (b, a)) →
+    both.0.place + both.1.place ≡ a.place + b.place
+either_sum a b both (inl e) = ap (λ (p : Tree × Tree). p.0.place + p.1.place) e
+either_sum a b both (inr e) = ap (λ (p : Tree × Tree). p.0.place + p.1.place) e ∙ omega arith
+
+pub either_made : (nodes : List NodeRecord) (a b : Tree) (both : Tree × Tree) →
+    (both ≡ (a, b)) ⊎ (both ≡ (b, a)) → IsTree nodes a → IsTree nodes b → IsTree nodes both.0 × IsTree nodes both.1
+either_made nodes a b both (inl e) made other =
+    subst (λ (p : Tree × Tree). IsTree nodes p.0 × IsTree nodes p.1) (sym e) (made, other)
+either_made nodes a b both (inr e) made other =
+    subst (λ (p : Tree × Tree). IsTree nodes p.0 × IsTree nodes p.1) (sym e) (other, made)

@@ -1,0 +1,43 @@
+//! Conjunction and disjunction of marker trees.
+
+ghost use Rattle.std.specs.Prelude.{◌≡◌, ◌&&◌, ◌||◌, IfOk};
+ghost use Rattle.pep508_diagram.specs.Question.{Valuation};
+ghost use Rattle.pep508_tree.specs.Meaning.{IsTree, Extends, holds};
+ghost use Rattle.pep508_tree.specs.Interning.{counted};
+
+use crate::interner::Interner;
+use crate::tree::MarkerTree;
+use std::alloc::AllocError;
+
+impl MarkerTree {
+    /// The tree that holds where both hold. The only refusal is want of memory, and earlier trees mean what they
+    /// meant, refused or not.
+    ///
+    /// Takes no more steps than the product of the numbers of the two trees' nodes, and recursion as deep as the
+    /// variables on a path. Counts as one of the interner's conjunctions.
+    pub fn and(self, interner: &mut Interner, other: MarkerTree) -> Result<MarkerTree, AllocError>
+        requires made { IsTree interner.old.nodes self }
+        requires other_made { IsTree interner.old.nodes other }
+        ensures made { IfOk result (λ tree. IsTree interner.new.nodes tree) }
+        ensures truth { IfOk result (λ tree. (v : Valuation) → holds interner.new.nodes tree v
+            ≡ (holds interner.old.nodes self v && holds interner.old.nodes other v)) }
+        ensures keeps { Extends interner.old.nodes interner.new.nodes }
+        ensures counts { interner.new.conjunctions ≡ counted interner.old.conjunctions }
+    {
+        interner.conjoined(self, other)
+    }
+
+    /// The tree that holds where one of both holds. Refusal, cost and count are those of `and`.
+    pub fn or(self, interner: &mut Interner, other: MarkerTree) -> Result<MarkerTree, AllocError>
+        requires made { IsTree interner.old.nodes self }
+        requires other_made { IsTree interner.old.nodes other }
+        ensures made { IfOk result (λ tree. IsTree interner.new.nodes tree) }
+        ensures truth { IfOk result (λ tree. (v : Valuation) → holds interner.new.nodes tree v
+            ≡ (holds interner.old.nodes self v || holds interner.old.nodes other v)) }
+        ensures keeps { Extends interner.old.nodes interner.new.nodes }
+        ensures counts { interner.new.conjunctions ≡ counted interner.old.conjunctions }
+    {
+        let neither = interner.conjoined(self.negate(), other.negate())?;
+        Ok(neither.negate())
+    }
+}

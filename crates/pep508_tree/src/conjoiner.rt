@@ -1,0 +1,229 @@
+//! Conjunctions of marker trees.
+
+ghost use Rattle.std.specs.Prelude.{◌≡◌, ◌⊎◌, ◌+◌, ◌<◌, false, [], List, MatchOption, IfOk, IfSome, refl};
+ghost use Rattle.std.specs.Cmp.{eq_by_cmp_equiv, partial_equiv_from_equiv, partial_order_from_agreeing_total};
+ghost use Rattle.std.specs.Ordering.{eq_by_cmp, as_partial_cmp, is_gt};
+ghost use Rattle.std.specs.List.{AllByRecursion};
+ghost use Rattle.pep508_diagram.specs.Text.{text_cmp};
+ghost use Rattle.pep508_tree.specs.Meaning.{NodeRecord, IsTree, Extends};
+ghost use Rattle.pep508_tree.specs.Forms.{record_of};
+ghost use Rattle.pep508_tree.specs.Nodes.{AreSound};
+ghost use Rattle.pep508_tree.specs.Nodes.{first_place, node_place, Above, AllChildren, IsRising, IsJoined, Splits, Made};
+ghost use Rattle.pep508_tree.specs.Conjunctions.{Conjunction, ArePairs, Meet};
+ghost use Rattle.pep508_tree.specs.Asked.{asked_cmp};
+ghost use Rattle.pep508_tree.specs.AskedLaws.{asked_total};
+
+use crate::node::{Form, Pair};
+use crate::table::NodeTable;
+use crate::tree::MarkerTree;
+use std::alloc::{AllocError, Global};
+use std::cmp::Ordering;
+use std::collections::BTreeMap;
+use std::marker::Model;
+
+/// Two trees whose conjunction was made.
+#[derive(Drop)]
+pub(crate) struct Asked {
+    first: MarkerTree,
+    second: MarkerTree,
+}
+
+impl PartialEq for Asked {
+    ghost eq = { eq_by_cmp asked_cmp };
+
+    ghost laws = { partial_equiv_from_equiv (eq_by_cmp_equiv asked_total) };
+
+    fn eq(&self, other: &Asked) -> bool {
+        self.cmp(other).is_eq()
+    }
+}
+
+impl Eq for Asked {
+    ghost laws = { eq_by_cmp_equiv asked_total };
+}
+
+impl PartialOrd for Asked {
+    ghost partial_cmp = { as_partial_cmp asked_cmp };
+
+    ghost laws = { partial_order_from_agreeing_total asked_cmp asked_total (λ x y. refl) (λ x y. refl) };
+
+    fn partial_cmp(&self, other: &Asked) -> Option<Ordering> {
+        Some(self.cmp(other))
+    }
+}
+
+impl Ord for Asked {
+    ghost cmp = { asked_cmp };
+
+    ghost total = { asked_total };
+
+    ghost matches_partial_cmp = { λ x y. refl };
+
+    ghost matches_eq = { λ x y. refl };
+
+    fn cmp(&self, other: &Asked) -> Ordering {
+        self.first.cmp_places(other.first).then(self.second.cmp_places(other.second))
+    }
+}
+
+/// Combines trees, and keeps what it combined.
+#[derive(Drop)]
+pub(crate) struct Conjoiner {
+    table: NodeTable,
+    known: BTreeMap<Asked, MarkerTree>,
+}
+
+impl Model for Conjoiner {
+    ghost use Rattle.std.specs.Prelude.{List};
+    ghost use Rattle.pep508_tree.specs.Meaning.{NodeRecord};
+    ghost use Rattle.pep508_tree.specs.Known.{AreKnown};
+
+    ghost Value = { List NodeRecord };
+
+    ghost view = { λ conjoiner. conjoiner.table };
+
+    ghost invariant = { λ conjoiner. AreKnown conjoiner.table conjoiner.known };
+}
+
+/// The conjunction of two trees of which one is constant, or that are one tree or its negation.
+fn plain_conjunction(a: MarkerTree, b: MarkerTree) -> Option<MarkerTree>
+    ensures { MatchOption result ((0 < a.place) × (0 < b.place)) (λ tree.
+        (nodes : List NodeRecord) → IsTree nodes a → IsTree nodes b → Conjunction nodes nodes a b tree) }
+{
+    if a.place() == 0 {
+        return Some(if a.is_negated() { a } else { b });
+    }
+    if b.place() == 0 {
+        return Some(if b.is_negated() { b } else { a });
+    }
+    if a.place() != b.place() {
+        return None;
+    }
+    Some(if a.is_negated() == b.is_negated() {
+        a
+    } else {
+        MarkerTree::FALSE
+    })
+}
+
+impl Conjoiner {
+    /// Without any node. Takes no memory.
+    pub fn new(alloc: Global) -> Conjoiner
+        ensures { result ≡ [] }
+    {
+        Conjoiner {
+            table: NodeTable::new(alloc),
+            known: BTreeMap::new(alloc),
+        }
+    }
+
+    fn allocator(&self) -> Global {
+        self.table.allocator()
+    }
+
+    /// What the nodes keep. Does nothing.
+    pub fn are_sound(&self)
+        ensures { AreSound self.now }
+    {
+        self.table.are_sound()
+    }
+
+    /// The conjunction of two trees, if it was made before.
+    fn recall(&self, a: MarkerTree, b: MarkerTree) -> Option<MarkerTree>
+        ensures { IfSome result (λ tree. Conjunction self.now self.now a b tree) }
+    {
+        let asked = Asked { first: a, second: b };
+        self.known.get(&asked).copied()
+    }
+
+    /// Keeps the conjunction of two trees.
+    fn keep(&mut self, a: MarkerTree, b: MarkerTree, tree: MarkerTree) -> Result<(), AllocError>
+        requires a { IsTree self.old a }
+        requires b { IsTree self.old b }
+        requires conjunction { Conjunction self.old self.old a b tree }
+        ensures { self.new ≡ self.old }
+    {
+        self.known.insert(Asked { first: a, second: b }, tree)?;
+        Ok(())
+    }
+
+    fn in_order(&self, a: MarkerTree, b: MarkerTree) -> (MarkerTree, MarkerTree)
+        requires a { IsTree self.now a }
+        requires b { IsTree self.now b }
+        requires a_node { 0 < a.place }
+        requires b_node { 0 < b.place }
+        ensures either { (result ≡ (a, b)) ⊎ (result ≡ (b, a)) }
+        ensures ordered { is_gt (text_cmp (first_place self.now result.0) (first_place self.now result.1)) ≡ false }
+    {
+        self.table.in_order(a, b)
+    }
+
+    fn split(&self, a: MarkerTree, b: MarkerTree) -> Result<Form<Pair>, AllocError>
+        requires a { IsTree self.now a }
+        requires b { IsTree self.now b }
+        requires a_node { 0 < a.place }
+        requires b_node { 0 < b.place }
+        requires ordered { is_gt (text_cmp (first_place self.now a) (first_place self.now b)) ≡ false }
+        ensures { IfOk result (λ pairs. Splits self.now a b (record_of pairs)) }
+    {
+        self.table.split(a, b)
+    }
+
+    /// The tree of a form, of which each child asks for later variables only.
+    pub fn store(&mut self, form: Form<MarkerTree>) -> Result<MarkerTree, AllocError>
+        requires made { AllChildren (IsTree self.old) (record_of form) }
+        requires above { AllChildren (Above self.old (node_place (record_of form))) (record_of form) }
+        requires rises { IsRising (record_of form) }
+        requires joined { IsJoined (record_of form) }
+        ensures made { IfOk result (λ tree. Made self.old self.new (record_of form) tree) }
+        ensures keeps { Extends self.old self.new }
+    {
+        self.table.store(form)
+    }
+
+    /// The conjunction of two trees: no more steps than the product of the numbers of their nodes, each as long
+    /// as the two nodes' boundaries. Recursion is as deep as the variables on a path.
+    #[cycle(conjoining)]
+    pub fn conjunction(&mut self, a: MarkerTree, b: MarkerTree) -> Result<MarkerTree, AllocError>
+        requires a { IsTree self.old a }
+        requires b { IsTree self.old b }
+        ensures made { IfOk result (λ tree. Conjunction self.old self.new a b tree) }
+        ensures keeps { Extends self.old self.new }
+    {
+        if let Some(tree) = plain_conjunction(a, b) {
+            return Ok(tree);
+        }
+        let (a, b) = self.in_order(a, b);
+        if let Some(tree) = self.recall(a, b) {
+            return Ok(tree);
+        }
+        let alloc = self.allocator();
+        let pairs = self.split(a, b)?;
+        let children = pairs.children(alloc)?;
+        let trees = self.conjunctions(a, b, &children)?;
+        let tree = self.store(pairs.joined(alloc, &trees)?)?;
+        self.keep(a, b, tree)?;
+        Ok(tree)
+    }
+
+    /// The conjunctions of pairs of what stands in two trees, with the signs of these.
+    #[cycle(conjoining)]
+    fn conjunctions(
+        &mut self,
+        a: MarkerTree,
+        b: MarkerTree,
+        pairs: &[Pair],
+    ) -> Result<Vec<MarkerTree>, AllocError>
+        requires made { AllByRecursion (λ pair. IsTree self.old pair.0 × IsTree self.old pair.1) pairs.now }
+        requires falls { AllByRecursion (λ pair. pair.0.place + pair.1.place < a.place + b.place) pairs.now }
+        ensures made { IfOk result (λ trees. Meet (ArePairs self.old self.new a b) pairs.now trees.items) }
+        ensures keeps { Extends self.old self.new }
+    {
+        let mut trees = Vec::new(self.allocator());
+        for pair in pairs {
+            let tree = self.conjunction(pair.0.turned(a.is_negated()), pair.1.turned(b.is_negated()))?;
+            trees.push(tree)?;
+        }
+        Ok(trees)
+    }
+}

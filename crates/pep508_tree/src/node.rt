@@ -1,0 +1,363 @@
+//! What marker trees are made of.
+
+ghost use Rattle.std.specs.Prelude.{◌≡◌, [], ◌∷◌, map, IfOk, refl};
+ghost use Rattle.std.specs.Cmp.{eq_by_cmp_equiv, partial_equiv_from_equiv, partial_order_from_agreeing_total};
+ghost use Rattle.std.specs.Ordering.{eq_by_cmp, as_partial_cmp};
+ghost use Rattle.std.specs.Cmp.Lexicographic.{slice_cmp};
+ghost use Rattle.pep508_diagram.specs.Text.{text_cmp};
+ghost use Rattle.pep508_diagram.specs.Question.{text_rank, flag_rank, flag_text};
+ghost use Rattle.pep508_marker.specs.Keys.{text_key_rank};
+ghost use Rattle.std.specs.declared.cmp.Ordering.TheVariants.{Equal};
+ghost use Rattle.pep508_tree.specs.Forms.{record_of};
+ghost use Rattle.pep508_tree.specs.Joining.{children, joined, node_joined, head, tail};
+ghost use Rattle.pep508_tree.specs.Nodes.{node_rank, node_text, node_place, version_branches, text_branches};
+ghost use Rattle.pep508_tree.specs.Nodes.{first_child, second_child, counterpart, IsRising, Paired};
+ghost use Rattle.pep508_tree.specs.Nodes.{branch_cmp, node_cmp};
+ghost use Rattle.pep508_tree.specs.NodeLaws.{nodes_total};
+
+use crate::tree::MarkerTree;
+use pep440_version::Version;
+use pep508_diagram::{Branch, Flag, MarkerText, NodeValue, VersionVariable, paired};
+use pep508_marker::MarkerValueString;
+use std::alloc::{AllocError, Global};
+use std::cmp::Ordering;
+use std::marker::Model;
+
+/// What stands in two trees for one answer.
+pub(crate) type Pair = (MarkerTree, MarkerTree);
+
+/// What is asked of one variable, and what stands for each answer: between a key's boundaries, the first below
+/// them all, or for either truth of a flag.
+#[derive(Drop)]
+pub(crate) enum Form<C> {
+    Versions(VersionVariable, C, Vec<Branch<Version, C>>),
+    Texts(MarkerValueString, C, Vec<Branch<MarkerText, C>>),
+    Flagged(Flag, C, C),
+}
+
+fn children_of<T>(alloc: Global, first: Pair, later: &[Branch<T, Pair>]) -> Result<Vec<Pair>, AllocError>
+    ensures { IfOk result (λ pairs. pairs.items ≡ first ∷ map (λ branch. branch.child) later.now) }
+{
+    let mut pairs = Vec::new(alloc);
+    pairs.push(first)?;
+    for branch in later {
+        pairs.push(branch.child)?;
+    }
+    Ok(pairs)
+}
+
+/// Branches between the same boundaries with other trees. Neighbours that are one tree are joined.
+fn joined<T: Drop>(
+    alloc: Global,
+    first: MarkerTree,
+    later: Vec<Branch<T, Pair>>,
+    trees: &[MarkerTree],
+) -> Result<Vec<Branch<T, MarkerTree>>, AllocError>
+    ensures { IfOk result (λ branches. branches.items ≡ joined first later.items trees.now) }
+{
+    let mut branches = Vec::new(alloc);
+    let mut last = first;
+    let mut left = trees;
+    for branch in later {
+        if let Some((tree, rest)) = left.split_first() {
+            left = rest;
+            if tree.cmp_places(last).is_ne() {
+                last = *tree;
+                branches.push(Branch {
+                    boundary: branch.boundary,
+                    child: last,
+                })?;
+            }
+        }
+    }
+    Ok(branches)
+}
+
+/// The first of trees, and the others.
+fn first_and_others(trees: &[MarkerTree]) -> (MarkerTree, &[MarkerTree])
+    ensures first { result.0 ≡ head trees.now }
+    ensures others { result.1.now ≡ tail trees.now }
+{
+    match trees.split_first() {
+        Some((first, others)) => (*first, others),
+        None => (MarkerTree::TRUE, trees),
+    }
+}
+
+impl Form<Pair> {
+    /// The children, in turn.
+    pub fn children(&self, alloc: Global) -> Result<Vec<Pair>, AllocError>
+        ensures { IfOk result (λ pairs. pairs.items ≡ children (record_of self.now)) }
+    {
+        match self {
+            Form::Versions(_, first, later) => children_of(alloc, *first, later),
+            Form::Texts(_, first, later) => children_of(alloc, *first, later),
+            Form::Flagged(_, set, unset) => Ok(vec![in alloc; *set, *unset]?),
+        }
+    }
+
+    /// The form with a tree for each of its children, in turn.
+    pub fn joined(self, alloc: Global, trees: &[MarkerTree]) -> Result<Form<MarkerTree>, AllocError>
+        ensures { IfOk result (λ form. record_of form ≡ node_joined (record_of self) trees.now) }
+    {
+        let (first, others) = first_and_others(trees);
+        Ok(match self {
+            Form::Versions(key, _, later) => Form::Versions(key, first, joined(alloc, first, later, others)?),
+            Form::Texts(key, _, later) => Form::Texts(key, first, joined(alloc, first, later, others)?),
+            Form::Flagged(flag, _, _) => Form::Flagged(flag, first, first_and_others(others).0),
+        })
+    }
+}
+
+/// A node of a diagram.
+#[derive(Drop)]
+pub(crate) struct Node {
+    form: Form<MarkerTree>,
+}
+
+impl Model for Node {
+    ghost use Rattle.pep508_tree.specs.Meaning.{NodeRecord};
+    ghost use Rattle.pep508_tree.specs.Forms.{record_of};
+
+    ghost Value = { NodeRecord };
+
+    ghost view = { λ node. record_of node.form };
+}
+
+/// The place of a key among those whose values are texts.
+fn text_key_rank(key: MarkerValueString) -> u8
+    ensures { result ≡ text_key_rank key }
+{
+    key as u8
+}
+
+/// The kind of a flag and its key.
+fn flag_rank(flag: &Flag) -> u8
+    ensures { result ≡ flag_rank flag.now }
+{
+    match flag {
+        Flag::In(key, _) => 16 + text_key_rank(*key),
+        Flag::Contains(key, _) => 30 + text_key_rank(*key),
+        Flag::Extra(_) => 44,
+        Flag::Arbitrary(_) => 45,
+    }
+}
+
+/// The text that a flag is about.
+fn flag_text(flag: &Flag) -> &str
+    ensures { result.now ≡ flag_text flag.now }
+{
+    match flag {
+        Flag::In(_, text) => text.as_str(),
+        Flag::Contains(_, text) => text.as_str(),
+        Flag::Extra(name) => name.as_str(),
+        Flag::Arbitrary(text) => text.as_str(),
+    }
+}
+
+fn copy_of_flag(alloc: Global, flag: &Flag) -> Result<Flag, AllocError>
+    ensures { IfOk result (λ copy. copy ≡ flag.now) }
+{
+    Ok(match flag {
+        Flag::In(key, text) => Flag::In(*key, text.copied(alloc)?),
+        Flag::Contains(key, text) => Flag::Contains(*key, text.copied(alloc)?),
+        Flag::Extra(name) => Flag::Extra(name.try_clone(alloc)?),
+        Flag::Arbitrary(text) => Flag::Arbitrary(text.copied(alloc)?),
+    })
+}
+
+fn cmp_branches<T: NodeValue>(a: &[Branch<T, MarkerTree>], b: &[Branch<T, MarkerTree>]) -> Ordering
+    ensures { result ≡ slice_cmp (branch_cmp T.cmp) a.now b.now }
+{
+    let mut left = a;
+    let mut right = b;
+    loop {
+        match (left.split_first(), right.split_first()) {
+            (None, None) => return Ordering::Equal,
+            (None, Some(_)) => return Ordering::Less,
+            (Some(_), None) => return Ordering::Greater,
+            (Some((x, xs)), Some((y, ys))) => {
+                let order = x.boundary.cmp(&y.boundary).then(x.child.cmp_places(y.child));
+                if order.is_ne() {
+                    return order;
+                }
+                left = xs;
+                right = ys;
+            }
+        }
+    }
+}
+
+impl Node {
+    pub fn new(form: Form<MarkerTree>) -> Node
+        ensures { result ≡ record_of form }
+    {
+        Node { form }
+    }
+
+    /// The place of the variable among the kinds of variables and their keys.
+    fn rank(&self) -> u8
+        ensures { result ≡ node_rank self.now }
+    {
+        match &self.form {
+            Form::Versions(VersionVariable::ImplementationVersion, _, _) => 0,
+            Form::Versions(VersionVariable::PythonFullVersion, _, _) => 1,
+            Form::Texts(key, _, _) => 2 + text_key_rank(*key),
+            Form::Flagged(flag, _, _) => flag_rank(flag),
+        }
+    }
+
+    /// The text that the variable is about, if it is a flag.
+    fn text(&self) -> &str
+        ensures { result.now ≡ node_text self.now }
+    {
+        match &self.form {
+            Form::Flagged(flag, _, _) => flag_text(flag),
+            _ => "",
+        }
+    }
+
+    /// By the variables alone.
+    pub fn cmp_variable(&self, other: &Node) -> Ordering
+        ensures { result ≡ text_cmp (node_place self.now) (node_place other.now) }
+    {
+        self.rank().cmp(&other.rank()).then(self.text().cmp(other.text()))
+    }
+
+    fn versions(&self) -> &[Branch<Version, MarkerTree>]
+        ensures { result.now ≡ version_branches self.now }
+    {
+        match &self.form {
+            Form::Versions(_, _, later) => later,
+            _ => &[],
+        }
+    }
+
+    fn texts(&self) -> &[Branch<MarkerText, MarkerTree>]
+        ensures { result.now ≡ text_branches self.now }
+    {
+        match &self.form {
+            Form::Texts(_, _, later) => later,
+            _ => &[],
+        }
+    }
+
+    fn first(&self) -> MarkerTree
+        ensures { result ≡ first_child self.now }
+    {
+        match &self.form {
+            Form::Versions(_, first, _) => *first,
+            Form::Texts(_, first, _) => *first,
+            Form::Flagged(_, set, _) => *set,
+        }
+    }
+
+    fn second(&self) -> MarkerTree
+        ensures { result ≡ second_child self.now }
+    {
+        match &self.form {
+            Form::Versions(_, first, _) => *first,
+            Form::Texts(_, first, _) => *first,
+            Form::Flagged(_, _, unset) => *unset,
+        }
+    }
+
+    /// The pairs of what stands here and in a node of the same variable, of which the children are given.
+    fn paired(
+        &self,
+        alloc: Global,
+        first: MarkerTree,
+        versions: &[Branch<Version, MarkerTree>],
+        texts: &[Branch<MarkerText, MarkerTree>],
+        second: MarkerTree,
+    ) -> Result<Form<Pair>, AllocError>
+        requires rising { IsRising self.now }
+        requires other_rising { IsRising (counterpart self.now first versions.now texts.now second) }
+        ensures { IfOk result (λ pairs.
+            Paired self.now (counterpart self.now first versions.now texts.now second) (record_of pairs)) }
+    {
+        match &self.form {
+            Form::Versions(key, own, later) => {
+                let pairs = paired(alloc, *own, later, first, versions)?;
+                Ok(Form::Versions(*key, (*own, first), pairs))
+            }
+            Form::Texts(key, own, later) => {
+                let pairs = paired(alloc, *own, later, first, texts)?;
+                Ok(Form::Texts(*key, (*own, first), pairs))
+            }
+            Form::Flagged(flag, set, unset) => {
+                let flag = copy_of_flag(alloc, flag)?;
+                Ok(Form::Flagged(flag, (*set, first), (*unset, second)))
+            }
+        }
+    }
+
+    /// The pairs of each child and a tree that does not ask for the variable.
+    pub fn with_tree(
+        &self,
+        alloc: Global,
+        tree: MarkerTree,
+    ) -> Result<Form<Pair>, AllocError>
+        requires { IsRising self.now }
+        ensures { IfOk result (λ pairs.
+            Paired self.now (counterpart self.now tree [] [] tree) (record_of pairs)) }
+    {
+        self.paired(alloc, tree, &[], &[], tree)
+    }
+
+    /// The pairs of what stands here and in a node of the same variable.
+    pub fn with_node(&self, alloc: Global, other: &Node) -> Result<Form<Pair>, AllocError>
+        requires same { text_cmp (node_place self.now) (node_place other.now) ≡ Equal }
+        requires rising { IsRising self.now }
+        requires other_rising { IsRising other.now }
+        ensures { IfOk result (λ pairs. Paired self.now other.now (record_of pairs)) }
+    {
+        self.paired(alloc, other.first(), other.versions(), other.texts(), other.second())
+    }
+}
+
+impl PartialEq for Node {
+    ghost eq = { eq_by_cmp node_cmp };
+
+    ghost laws = { partial_equiv_from_equiv (eq_by_cmp_equiv nodes_total) };
+
+    fn eq(&self, other: &Node) -> bool {
+        self.cmp(other).is_eq()
+    }
+}
+
+impl Eq for Node {
+    ghost laws = { eq_by_cmp_equiv nodes_total };
+}
+
+impl PartialOrd for Node {
+    ghost partial_cmp = { as_partial_cmp node_cmp };
+
+    ghost laws = { partial_order_from_agreeing_total node_cmp nodes_total (λ x y. refl) (λ x y. refl) };
+
+    fn partial_cmp(&self, other: &Node) -> Option<Ordering> {
+        Some(self.cmp(other))
+    }
+}
+
+impl Ord for Node {
+    ghost cmp = { node_cmp };
+
+    ghost total = { nodes_total };
+
+    ghost matches_partial_cmp = { λ x y. refl };
+
+    ghost matches_eq = { λ x y. refl };
+
+    fn cmp(&self, other: &Node) -> Ordering {
+        let variables = self.cmp_variable(other);
+        if variables.is_ne() {
+            return variables;
+        }
+        let versions = cmp_branches(self.versions(), other.versions());
+        let texts = cmp_branches(self.texts(), other.texts());
+        let firsts = self.first().cmp_places(other.first());
+        let seconds = self.second().cmp_places(other.second());
+        versions.then(texts.then(firsts.then(seconds)))
+    }
+}

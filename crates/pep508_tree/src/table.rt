@@ -1,0 +1,193 @@
+//! What keeps the nodes of marker trees, each once.
+
+ghost use Rattle.std.specs.Prelude.{◌≡◌, ◌⊎◌, ◌<◌, false, [], length, map, IfOk, IsTrue, ◌↔◌};
+ghost use Rattle.std.specs.Ordering.{is_gt};
+ghost use Rattle.pep508_diagram.specs.Text.{text_cmp};
+ghost use Rattle.pep508_tree.specs.Meaning.{IsTree, Extends};
+ghost use Rattle.pep508_tree.specs.Forms.{record_of};
+ghost use Rattle.pep508_tree.specs.Nodes.{AreSound};
+ghost use Rattle.pep508_tree.specs.Nodes.{first_place, node_place, Above, AllChildren, IsRising, IsJoined};
+ghost use Rattle.pep508_tree.specs.Nodes.{IsSoundNode, IsPlaced, IsAlone, Splits, Made, signed, turned_branch, first_child};
+
+use crate::node::{Form, Node, Pair};
+use crate::tree::MarkerTree;
+use pep508_diagram::Branch;
+use std::alloc::{AllocError, Global};
+use std::cmp::Ordering;
+use std::collections::BTreeMap;
+use std::marker::Model;
+use std::rc::Rc;
+
+/// The nodes in the order in which they were made, and where each stands. A node and its key are one value with
+/// two owners.
+#[derive(Drop)]
+pub(crate) struct NodeTable {
+    nodes: Vec<Rc<Node>>,
+    places: BTreeMap<Rc<Node>, usize>,
+    alloc: Global,
+}
+
+impl Model for NodeTable {
+    ghost use Rattle.std.specs.Prelude.{List, map};
+    ghost use Rattle.pep508_tree.specs.Meaning.{NodeRecord};
+    ghost use Rattle.pep508_tree.specs.Nodes.{AreSound};
+    ghost use Rattle.pep508_tree.specs.Places.{nodes_of, StandAt};
+
+    ghost Value = { List NodeRecord };
+
+    ghost view = { λ table. nodes_of table.nodes.items };
+
+    ghost invariant = { λ table.
+        AreSound (nodes_of table.nodes.items) × StandAt (nodes_of table.nodes.items) table.places };
+}
+
+/// The children of a list of branches, negated.
+fn turn<T>(later: &mut [Branch<T, MarkerTree>])
+    ensures { later.new ≡ map turned_branch later.old }
+{
+    for branch in later.iter_mut() {
+        branch.child = branch.child.negate();
+    }
+}
+
+/// The form, with each child negated where the flag is set.
+fn signed(form: Form<MarkerTree>, negated: bool) -> Form<MarkerTree>
+    ensures { record_of result ≡ signed negated (record_of form) }
+{
+    if !negated {
+        return form;
+    }
+    match form {
+        Form::Versions(key, first, mut later) => {
+            turn(&mut later);
+            Form::Versions(key, first.negate(), later)
+        }
+        Form::Texts(key, first, mut later) => {
+            turn(&mut later);
+            Form::Texts(key, first.negate(), later)
+        }
+        Form::Flagged(flag, set, unset) => Form::Flagged(flag, set.negate(), unset.negate()),
+    }
+}
+
+/// The first child, or the set one of a flag.
+fn first_of(form: &Form<MarkerTree>) -> MarkerTree
+    ensures { result ≡ first_child (record_of form.now) }
+{
+    match form {
+        Form::Versions(_, first, _) => *first,
+        Form::Texts(_, first, _) => *first,
+        Form::Flagged(_, set, _) => *set,
+    }
+}
+
+/// Whether the same stands for each answer.
+fn is_alone(form: &Form<MarkerTree>) -> bool
+    ensures { IsTrue result ↔ IsAlone (record_of form.now) }
+{
+    match form {
+        Form::Versions(_, _, later) => later.is_empty(),
+        Form::Texts(_, _, later) => later.is_empty(),
+        Form::Flagged(_, set, unset) => set.cmp_places(*unset).is_eq(),
+    }
+}
+
+impl NodeTable {
+    /// A table without nodes. Takes no memory.
+    pub fn new(alloc: Global) -> NodeTable
+        ensures { result ≡ [] }
+    {
+        NodeTable {
+            nodes: Vec::new(alloc),
+            places: BTreeMap::new(alloc),
+            alloc,
+        }
+    }
+
+    pub fn allocator(&self) -> Global {
+        self.alloc
+    }
+
+    /// What the nodes keep, for callers that see their records alone. Does nothing.
+    pub fn are_sound(&self)
+        ensures { AreSound self.now }
+    {
+        let _ = &self.nodes;
+    }
+
+    /// The two trees, first the one whose first variable does not come after that of the other.
+    pub fn in_order(&self, a: MarkerTree, b: MarkerTree) -> (MarkerTree, MarkerTree)
+        requires a { IsTree self.now a }
+        requires b { IsTree self.now b }
+        requires a_node { 0 < a.place }
+        requires b_node { 0 < b.place }
+        ensures either { (result ≡ (a, b)) ⊎ (result ≡ (b, a)) }
+        ensures ordered { is_gt (text_cmp (first_place self.now result.0) (first_place self.now result.1)) ≡ false }
+    {
+        let first: &Node = &self.nodes[a.place() - 1];
+        let second: &Node = &self.nodes[b.place() - 1];
+        if first.cmp_variable(second).is_gt() { (b, a) } else { (a, b) }
+    }
+
+    /// The pairs of what stands in two trees for each answer about the variable that comes first in them, without
+    /// the trees' signs. The first tree's variable does not come after that of the second.
+    pub fn split(
+        &self,
+        a: MarkerTree,
+        b: MarkerTree,
+    ) -> Result<Form<Pair>, AllocError>
+        requires a { IsTree self.now a }
+        requires b { IsTree self.now b }
+        requires a_node { 0 < a.place }
+        requires b_node { 0 < b.place }
+        requires ordered { is_gt (text_cmp (first_place self.now a) (first_place self.now b)) ≡ false }
+        ensures { IfOk result (λ pairs. Splits self.now a b (record_of pairs)) }
+    {
+        let first: &Node = &self.nodes[a.place() - 1];
+        let second: &Node = &self.nodes[b.place() - 1];
+        if first.cmp_variable(second).is_eq() {
+            first.with_node(self.alloc, second)
+        } else {
+            first.with_tree(self.alloc, b.turned(b.is_negated()))
+        }
+    }
+
+    /// The place of a node that stands here, or is put here now. A refusal stores nothing.
+    fn place_of(&mut self, form: Form<MarkerTree>) -> Result<usize, AllocError>
+        requires { IsSoundNode self.old (length self.old) (record_of form) }
+        ensures found { IfOk result (λ place. IsPlaced self.new (record_of form) place) }
+        ensures keeps { Extends self.old self.new }
+    {
+        let node = Rc::new(self.alloc, Node::new(form))?;
+        if let Some(place) = self.places.get(&node) {
+            return Ok(*place + 1);
+        }
+        let key = node.clone()?;
+        self.nodes.reserve(1)?;
+        let place = self.nodes.len();
+        self.places.insert(key, place)?;
+        match self.nodes.push(node) {
+            Ok(()) => Ok(place + 1),
+            Err(_) => unreachable!(),
+        }
+    }
+
+    /// The tree of a form, of which each child asks for later variables only: its only child, where it has one,
+    /// and else the tree of its node.
+    pub fn store(&mut self, form: Form<MarkerTree>) -> Result<MarkerTree, AllocError>
+        requires made { AllChildren (IsTree self.old) (record_of form) }
+        requires above { AllChildren (Above self.old (node_place (record_of form))) (record_of form) }
+        requires rises { IsRising (record_of form) }
+        requires joined { IsJoined (record_of form) }
+        ensures made { IfOk result (λ tree. Made self.old self.new (record_of form) tree) }
+        ensures keeps { Extends self.old self.new }
+    {
+        let first = first_of(&form);
+        if is_alone(&form) {
+            return Ok(first);
+        }
+        let negated = first.is_negated();
+        let place = self.place_of(signed(form, negated))?;
+        Ok(MarkerTree::at_place(place, negated))
+    }
+}
