@@ -78,7 +78,7 @@ module _ (nodes : List NodeRecord) where
         ((place : List ℕ) → Above nodes place a → text_cmp place (node_place na) ≡ Less) → Splits nodes a b pairs
     splits_by made other_made one falls two paired first =
         let each : (P : Tree × Tree → Type 0) →
-            ((p : Tree × Tree) → IsChildIn p.0 na → IsChildIn p.1 nb → P p) → AllChildren P pairs =
+        ((p : Tree × Tree) → IsChildIn p.0 na → IsChildIn p.1 nb → P p) → AllChildren P pairs =
         λ P f. weaker_children _ P (λ p is. f p is.0 is.1) pairs paired.children in
         record {
           rises = paired.rises;
