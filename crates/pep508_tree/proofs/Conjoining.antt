@@ -1,6 +1,6 @@
 -- Conjunctions of trees: how they last while nodes are added, and how they are put together from those of the
 -- pairs that stand in two trees.
-use Rattle.std.proofs.Common.{◌≡◌, ◌⊎◌, inl, inr, ℕ, zero, suc, ◌+◌, ◌-◌, ◌<◌, ◌≤◌, Bool, true, false, not, cond, ◌&&◌, List, [], ◌∷◌, ◌++◌, length, get_or, take, map, refl, ap, ap₂, sym, subst, ◌∙◌, arith, length-append, append_assoc, Ordering, Less, is_eq, true≢false}
+use Rattle.std.proofs.Common.{◌≡◌, ◌⊎◌, inl, inr, ℕ, zero, suc, ◌+◌, ◌<◌, ◌≤◌, Bool, true, false, ◌&&◌, List, [], ◌∷◌, ◌++◌, length, get_or, take, map, refl, ap, ap₂, sym, subst, ◌∙◌, arith, length-append, append_assoc, Ordering, Less, is_eq, true≢false}
 use Rattle.std.proofs.lemmas.Bool.{cases_Bool}
 use Rattle.std.proofs.lemmas.List.{get_or_append_left, take_more, take_all}
 use Rattle.std.specs.List.{AllByRecursion}
@@ -9,17 +9,15 @@ use Rattle.std.specs.Cmp.Lexicographic.{nat_list_cmp_total}
 use Rattle.version_ranges.specs.declared.boundary.Boundary.{Boundary}
 use Rattle.version_ranges.specs.Boundaries.{point_of, boundary_cmp}
 use Rattle.version_ranges.specs.Point.{Point, point_cmp}
-use Rattle.version_ranges.specs.Turns.{reaches, flips}
-use Rattle.pep440_rs.specs.Record.{VersionRecord}
-use Rattle.pep440_rs.specs.Order.{version_cmp}
+use Rattle.version_ranges.specs.Turns.{reaches}
 use Rattle.pep440_version.specs.OrderLaws.{version_cmp_total}
 use Rattle.pep508_diagram.specs.declared.branch.Branch.{Branch}
 use Rattle.pep508_diagram.specs.Text.{text_cmp}
 use Rattle.pep508_diagram.specs.Branches.{RisingBranches, branch_at, AllBranches, NeighboursDiffer}
-use Rattle.pep508_diagram.specs.Question.{Valuation, truth}
+use Rattle.pep508_diagram.specs.Question.{Valuation}
 use Rattle.pep508_diagram.proofs.Places.{equal_from}
 use Rattle.pep508_diagram.proofs.Branching.{before_unreached}
-use Rattle.pep508_tree.specs.Tree.{Tree, always, never, negation}
+use Rattle.pep508_tree.specs.Tree.{Tree}
 use Rattle.pep508_tree.specs.Meaning.{NodeOf, NodeRecord, Versions, Texts, Flagged, holds, IsTree, Extends}
 use Rattle.pep508_tree.specs.Nodes.{AllChildren, IsRising, IsJoined, Above, Splits, Made, chosen, no_node, node_at, node_place, tree_cmp, turned}
 use Rattle.pep508_tree.specs.Joining.{children, joined, head, tail, node_joined}

@@ -1,5 +1,5 @@
 -- What an interner remembers lasts while nodes are added.
-use Rattle.std.proofs.Common.{◌≡◌, List, Option, Some, None, IfSome}
+use Rattle.std.proofs.Common.{List, Option, Some, None, IfSome}
 use Rattle.std.specs.BTreeMap.{BTreeMap, get}
 use Rattle.pep508_tree.specs.declared.conjoiner.Asked.{Asked}
 use Rattle.pep508_tree.specs.Tree.{Tree}

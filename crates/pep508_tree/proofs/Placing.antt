@@ -1,5 +1,5 @@
 -- One more node in the table.
-use Rattle.std.proofs.Common.{◌≡◌, ℕ, ◌+◌, ◌<◌, Bool, true, false, cond, List, [], ◌∷◌, ◌++◌, Option, Some, None, length, map, MatchOption, refl, ap, sym, subst, ◌∙◌, inl, inr, arith, length-append, Ordering, Equal, is_eq, true≢false}
+use Rattle.std.proofs.Common.{◌≡◌, ℕ, ◌+◌, ◌<◌, Bool, true, false, cond, List, [], ◌∷◌, ◌++◌, Option, Some, None, length, MatchOption, refl, ap, sym, subst, ◌∙◌, inl, inr, arith, length-append, Equal, is_eq, true≢false}
 use Rattle.std.specs.Ordering.{on}
 use Rattle.std.specs.Cmp.{tied_itself}
 use Rattle.std.specs.BTreeMap.{BTreeMap, get, is_at}

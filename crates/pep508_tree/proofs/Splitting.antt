@@ -1,17 +1,15 @@
 -- Two trees by the variable that comes first in them.
-use Rattle.std.proofs.Common.{◌≡◌, ◌⊎◌, inl, inr, ℕ, zero, suc, ◌+◌, ◌-◌, ◌<◌, ◌≤◌, Bool, true, false, List, [], ◌∷◌, length, get_or, map, refl, ap, sym, subst, ◌∙◌, arith, Ordering, Less, Equal, Greater, is_eq, is_gt, true≢false}
+use Rattle.std.proofs.Common.{◌≡◌, inl, inr, ℕ, zero, suc, ◌+◌, ◌-◌, ◌<◌, ◌≤◌, Bool, true, false, List, [], ◌∷◌, length, get_or, refl, ap, sym, subst, ◌∙◌, arith, Ordering, Less, Equal, Greater, is_eq, is_gt, true≢false}
 use Rattle.std.specs.Ordering.{ordering_reverse}
-use Rattle.std.specs.Cmp.{IsTotalOrder}
 use Rattle.std.specs.Cmp.Lexicographic.{nat_list_cmp_total}
 use Rattle.std.specs.declared.rc.Rc.{Rc}
-use Rattle.version_ranges.specs.Turns.{flips}
 use Rattle.pep508_diagram.specs.Text.{text_cmp}
 use Rattle.pep508_diagram.specs.Question.{Valuation}
 use Rattle.pep508_diagram.proofs.Places.{texts_same}
 use Rattle.pep508_diagram.proofs.Turned.{flips_twice}
 use Rattle.pep508_tree.specs.Tree.{Tree}
 use Rattle.pep508_tree.specs.Meaning.{NodeOf, NodeRecord, Versions, Texts, Flagged, holds, IsTree}
-use Rattle.pep508_tree.specs.Nodes.{AllChildren, IsChildIn, Above, AreSound, Paired, Splits, chosen, counterpart, first_place, no_node, node_at, node_place, turned}
+use Rattle.pep508_tree.specs.Nodes.{AllChildren, IsChildIn, Above, AreSound, Paired, Splits, chosen, counterpart, node_at, node_place, turned}
 use Rattle.pep508_tree.specs.Places.{nodes_of}
 use Rattle.pep508_tree.proofs.Children.{weaker_children}
 use Rattle.pep508_tree.proofs.Meanings.{chosen_child, each_child, holds_at, holds_turned}
@@ -78,7 +76,7 @@ module _ (nodes : List NodeRecord) where
         ((place : List ℕ) → Above nodes place a → text_cmp place (node_place na) ≡ Less) → Splits nodes a b pairs
     splits_by made other_made one falls two paired first =
         let each : (P : Tree × Tree → Type 0) →
-            ((p : Tree × Tree) → IsChildIn p.0 na → IsChildIn p.1 nb → P p) → AllChildren P pairs =
+        ((p : Tree × Tree) → IsChildIn p.0 na → IsChildIn p.1 nb → P p) → AllChildren P pairs =
         λ P f. weaker_children _ P (λ p is. f p is.0 is.1) pairs paired.children in
         record {
           rises = paired.rises;

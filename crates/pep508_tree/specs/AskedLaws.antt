@@ -1,6 +1,5 @@
 -- The order of pairs of trees is one.
 use Rattle.std.specs.Cmp.{IsTotalOrder, then_total, on_total}
-use Rattle.pep508_tree.specs.declared.conjoiner.Asked.{Asked}
 use Rattle.pep508_tree.specs.Asked.{asked_cmp}
 use Rattle.pep508_tree.specs.NodeLaws.{trees_total}
 

@@ -1,5 +1,5 @@
 -- Nodes whose children are given anew, in turn.
-use Rattle.std.specs.Prelude.{ℕ, ◌==◌, Bool, ◌&&◌, cond, List, [], ◌∷◌, map}
+use Rattle.std.specs.Prelude.{cond, List, [], ◌∷◌, map}
 use Rattle.std.specs.Ordering.{is_eq}
 use Rattle.pep508_diagram.specs.declared.branch.Branch.{Branch}
 use Rattle.pep508_tree.specs.Tree.{Tree, always}

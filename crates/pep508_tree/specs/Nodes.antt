@@ -16,7 +16,7 @@ use Rattle.pep508_diagram.specs.Branches.{RisingBranches, branch_at, AllBranches
 use Rattle.pep508_diagram.specs.Chains.{IsChild}
 use Rattle.pep508_diagram.specs.Question.{Valuation, version_rank, text_rank, flag_rank, flag_text}
 use Rattle.pep508_tree.specs.Tree.{Tree, always, negation}
-use Rattle.pep508_tree.specs.Meaning.{NodeOf, NodeRecord, Versions, Texts, Flagged, holds, IsTree, Extends}
+use Rattle.pep508_tree.specs.Meaning.{NodeOf, NodeRecord, Versions, Texts, Flagged, holds, IsTree}
 
 -- the tree, with its leaves turned where the flag is set
 abbrev pub turned : Bool → Tree → Tree

@@ -62,7 +62,9 @@ impl Ord for Asked {
     ghost matches_eq = { λ x y. refl };
 
     fn cmp(&self, other: &Asked) -> Ordering {
-        self.first.cmp_places(other.first).then(self.second.cmp_places(other.second))
+        self.first
+            .cmp_places(other.first)
+            .then(self.second.cmp_places(other.second))
     }
 }
 
@@ -132,7 +134,10 @@ impl Conjoiner {
     fn recall(&self, a: MarkerTree, b: MarkerTree) -> Option<MarkerTree>
         ensures { IfSome result (λ tree. Conjunction self.now self.now a b tree) }
     {
-        let asked = Asked { first: a, second: b };
+        let asked = Asked {
+            first: a,
+            second: b,
+        };
         self.known.get(&asked).copied()
     }
 
@@ -143,7 +148,13 @@ impl Conjoiner {
         requires conjunction { Conjunction self.old self.old a b tree }
         ensures { self.new ≡ self.old }
     {
-        self.known.insert(Asked { first: a, second: b }, tree)?;
+        self.known.insert(
+            Asked {
+                first: a,
+                second: b,
+            },
+            tree,
+        )?;
         Ok(())
     }
 
@@ -221,7 +232,10 @@ impl Conjoiner {
     {
         let mut trees = Vec::new(self.allocator());
         for pair in pairs {
-            let tree = self.conjunction(pair.0.turned(a.is_negated()), pair.1.turned(b.is_negated()))?;
+            let tree = self.conjunction(
+                pair.0.turned(a.is_negated()),
+                pair.1.turned(b.is_negated()),
+            )?;
             trees.push(tree)?;
         }
         Ok(trees)

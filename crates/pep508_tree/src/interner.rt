@@ -55,7 +55,11 @@ impl Interner {
     }
 
     /// The conjunction, counted.
-    pub(crate) fn conjoined(&mut self, a: MarkerTree, b: MarkerTree) -> Result<MarkerTree, AllocError>
+    pub(crate) fn conjoined(
+        &mut self,
+        a: MarkerTree,
+        b: MarkerTree,
+    ) -> Result<MarkerTree, AllocError>
         requires a { IsTree self.old.nodes a }
         requires b { IsTree self.old.nodes b }
         ensures made { IfOk result (λ tree. IsTree self.new.nodes tree) }

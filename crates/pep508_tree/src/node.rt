@@ -35,7 +35,11 @@ pub(crate) enum Form<C> {
     Flagged(Flag, C, C),
 }
 
-fn children_of<T>(alloc: Global, first: Pair, later: &[Branch<T, Pair>]) -> Result<Vec<Pair>, AllocError>
+fn children_of<T>(
+    alloc: Global,
+    first: Pair,
+    later: &[Branch<T, Pair>],
+) -> Result<Vec<Pair>, AllocError>
     ensures { IfOk result (λ pairs. pairs.items ≡ first ∷ map (λ branch. branch.child) later.now) }
 {
     let mut pairs = Vec::new(alloc);
@@ -102,8 +106,16 @@ impl Form<Pair> {
     {
         let (first, others) = first_and_others(trees);
         Ok(match self {
-            Form::Versions(key, _, later) => Form::Versions(key, first, joined(alloc, first, later, others)?),
-            Form::Texts(key, _, later) => Form::Texts(key, first, joined(alloc, first, later, others)?),
+            Form::Versions(key, _, later) => Form::Versions(
+                key,
+                first,
+                joined(alloc, first, later, others)?,
+            ),
+            Form::Texts(key, _, later) => Form::Texts(
+                key,
+                first,
+                joined(alloc, first, later, others)?,
+            ),
             Form::Flagged(flag, _, _) => Form::Flagged(flag, first, first_and_others(others).0),
         })
     }
@@ -177,7 +189,10 @@ fn cmp_branches<T: NodeValue>(a: &[Branch<T, MarkerTree>], b: &[Branch<T, Marker
             (None, Some(_)) => return Ordering::Less,
             (Some(_), None) => return Ordering::Greater,
             (Some((x, xs)), Some((y, ys))) => {
-                let order = x.boundary.cmp(&y.boundary).then(x.child.cmp_places(y.child));
+                let order = x
+                    .boundary
+                    .cmp(&y.boundary)
+                    .then(x.child.cmp_places(y.child));
                 if order.is_ne() {
                     return order;
                 }
@@ -221,7 +236,9 @@ impl Node {
     pub fn cmp_variable(&self, other: &Node) -> Ordering
         ensures { result ≡ text_cmp (node_place self.now) (node_place other.now) }
     {
-        self.rank().cmp(&other.rank()).then(self.text().cmp(other.text()))
+        self.rank()
+            .cmp(&other.rank())
+            .then(self.text().cmp(other.text()))
     }
 
     fn versions(&self) -> &[Branch<Version, MarkerTree>]
@@ -293,11 +310,7 @@ impl Node {
     }
 
     /// The pairs of each child and a tree that does not ask for the variable.
-    pub fn with_tree(
-        &self,
-        alloc: Global,
-        tree: MarkerTree,
-    ) -> Result<Form<Pair>, AllocError>
+    pub fn with_tree(&self, alloc: Global, tree: MarkerTree) -> Result<Form<Pair>, AllocError>
         requires { IsRising self.now }
         ensures { IfOk result (λ pairs.
             Paired self.now (counterpart self.now tree [] [] tree) (record_of pairs)) }
@@ -312,7 +325,13 @@ impl Node {
         requires other_rising { IsRising other.now }
         ensures { IfOk result (λ pairs. Paired self.now other.now (record_of pairs)) }
     {
-        self.paired(alloc, other.first(), other.versions(), other.texts(), other.second())
+        self.paired(
+            alloc,
+            other.first(),
+            other.versions(),
+            other.texts(),
+            other.second(),
+        )
     }
 }
 

@@ -126,16 +126,16 @@ impl NodeTable {
     {
         let first: &Node = &self.nodes[a.place() - 1];
         let second: &Node = &self.nodes[b.place() - 1];
-        if first.cmp_variable(second).is_gt() { (b, a) } else { (a, b) }
+        if first.cmp_variable(second).is_gt() {
+            (b, a)
+        } else {
+            (a, b)
+        }
     }
 
     /// The pairs of what stands in two trees for each answer about the variable that comes first in them, without
     /// the trees' signs. The first tree's variable does not come after that of the second.
-    pub fn split(
-        &self,
-        a: MarkerTree,
-        b: MarkerTree,
-    ) -> Result<Form<Pair>, AllocError>
+    pub fn split(&self, a: MarkerTree, b: MarkerTree) -> Result<Form<Pair>, AllocError>
         requires a { IsTree self.now a }
         requires b { IsTree self.now b }
         requires a_node { 0 < a.place }

@@ -83,7 +83,9 @@ impl MarkerTree {
     pub(crate) fn cmp_places(self, other: MarkerTree) -> Ordering
         ensures { result ≡ tree_cmp self other }
     {
-        self.place.cmp(&other.place).then(self.negated.cmp(&other.negated))
+        self.place
+            .cmp(&other.place)
+            .then(self.negated.cmp(&other.negated))
     }
 
     /// Whether this is the tree that always holds.

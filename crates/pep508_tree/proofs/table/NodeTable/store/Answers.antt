@@ -1,4 +1,4 @@
-use Rattle.std.proofs.Common.{◌≡◌, ◌∙◌, ◌+◌, ℕ, length, true≢false, ap, sym, subst}
+use Rattle.std.proofs.Common.{◌∙◌, ℕ, length, true≢false, ap, sym, subst}
 use Rattle.pep508_tree.specs.Forms.{record_of}
 use Rattle.pep508_tree.specs.Nodes.{Made, IsSoundNode, signed, node_at, node_cmp}
 use Rattle.pep508_tree.proofs.Storing.{made_alone, signed_sound, made_at}
