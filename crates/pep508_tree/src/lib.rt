@@ -6,6 +6,7 @@
 
 mod algebra;
 mod conjoiner;
+mod disjointness;
 mod interner;
 pub mod laws;
 mod node;
