@@ -1,5 +1,5 @@
 -- Pairs of trees that never hold together, one after the other.
-use Rattle.std.proofs.Common.{◌≡◌, ◌↔◌, ◌⊎◌, IsTrue, inl, inr, ℕ, ◌+◌, ◌<◌, Bool, true, false, cond, List, [], ◌∷◌, ◌++◌, length, get_or, map, take, refl, ap, sym, subst, ◌∙◌, Ordering, is_eq}
+use Rattle.std.proofs.Common.{◌≡◌, ◌↔◌, ◌⊎◌, IsTrue, inl, inr, ℕ, ◌+◌, ◌<◌, Bool, true, cond, List, [], ◌∷◌, ◌++◌, length, get_or, map, take, ap, sym, subst, ◌∙◌, is_eq}
 use Rattle.std.proofs.lemmas.Bool.{cases_Bool}
 use Rattle.std.proofs.lemmas.List.{take_more}
 use Rattle.std.specs.List.{AllByRecursion}
@@ -52,7 +52,8 @@ either_apart nodes a b both (inr e) = (
 -- one more pair
 pub apart_more : (nodes : List NodeRecord) (key : Asked) (old new : BTreeSet Asked) → AreApart nodes old →
     AreDisjoint nodes key.first key.second →
-    ((q : Asked) → contains asked_cmp new q ≡ cond (is_eq (asked_cmp key q)) true (contains asked_cmp old q)) →
+    ((q : Asked) → contains asked_cmp new q ≡ cond (is_eq (asked_cmp key q)) true
+    (contains asked_cmp old q)) →
     AreApart nodes new
 apart_more nodes key old new all apart updates asked there = elim (cases_Bool (is_eq (asked_cmp key asked))) [
   | inl same ↦
@@ -67,7 +68,8 @@ apart_more nodes key old new all apart updates asked there = elim (cases_Bool (i
 ]
 
 -- what is true of all pairs is true of two trees
-pub apart_by_pairs : (nodes : List NodeRecord) → AreSound nodes → (a b : Tree) (pairs : NodeOf (Tree × Tree)) →
+pub apart_by_pairs : (nodes : List NodeRecord) → AreSound nodes →
+    (a b : Tree) (pairs : NodeOf (Tree × Tree)) →
     Splits nodes a b pairs → (list : List (Tree × Tree)) → list ≡ children pairs → (answer : Bool) →
     (IsTrue answer ↔ AllByRecursion (IsPairApart nodes a b) list) → (IsTrue answer ↔ AreDisjoint nodes a b)
 apart_by_pairs nodes sound a b pairs s list same answer exact =

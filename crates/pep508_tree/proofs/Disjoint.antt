@@ -75,7 +75,8 @@ module _ (nodes : List NodeRecord) (sound : AreSound nodes) where
     still_turned turns t v w same =
         holds_turned nodes turns t w ∙ ap (flips turns) same ∙ sym (holds_turned nodes turns t v)
 
-    child_apart : AreDisjoint nodes a b → (pair : Tree × Tree) → IsChildIn pair pairs → IsPairApart nodes a b pair
+    child_apart : AreDisjoint nodes a b → (pair : Tree × Tree) → IsChildIn pair pairs →
+        IsPairApart nodes a b pair
     child_apart apart pair is v =
         let moved = moved_to nodes sound v pairs s.rises pair is in
         let w = moved.0 in

@@ -28,7 +28,8 @@ length_nodes (o ∷ owners) = ap (λ n. suc n) (length_nodes owners)
 
 -- the node that an owner of the table has
 pub node_is : {A : Type 0} (owners : List (Rc NodeRecord A)) (nodes : List NodeRecord) (t : Tree) (p : ℕ)
-    (r : Rc NodeRecord A) (n : NodeRecord) → nodes_of owners ≡ nodes → p ≡ t.place → 0 < t.place → IsTree nodes t →
+    (r : Rc NodeRecord A) (n : NodeRecord) → nodes_of owners ≡ nodes → p ≡ t.place → 0 < t.place →
+    IsTree nodes t →
     r ≡ get_or owners (p - 1) r → n ≡ r.value → n ≡ node_at nodes (t.place - 1)
 node_is owners nodes t p r n view place some made e value =
     value
@@ -73,7 +74,8 @@ module _ (nodes : List NodeRecord) where
   module _ (a b : Tree) (na nb : NodeRecord) (pairs : NodeOf (Tree × Tree)) where
     pub splits_by : IsTree nodes a → IsTree nodes b → IsSide (node_place na) a na →
         ((c : Tree) → IsChildIn c na → c.place < a.place) → IsSide (node_place na) b nb → Paired na nb pairs →
-        ((place : List ℕ) → Above nodes place a → text_cmp place (node_place na) ≡ Less) → Splits nodes a b pairs
+        ((place : List ℕ) → Above nodes place a → text_cmp place (node_place na) ≡ Less) →
+        Splits nodes a b pairs
     splits_by made other_made one falls two paired first =
         let each : (P : Tree × Tree → Type 0) →
         ((p : Tree × Tree) → IsChildIn p.0 na → IsChildIn p.1 nb → P p) → AllChildren P pairs =
@@ -119,7 +121,8 @@ module _ (nodes : List NodeRecord) (sound : AreSound nodes) where
       record {
         no_later = λ c is. omega (arith, node_falls t some made c is);
         above = λ c is.
-            each_child (Above nodes place) n c (subst (λ p. AllChildren (Above nodes p) n) e (sound.each k inside).above) is;
+            each_child (Above nodes place) n c
+            (subst (λ p. AllChildren (Above nodes p) n) e (sound.each k inside).above) is;
         holds_is = λ v.
             holds_at nodes sound t k (place_minus t some) inside v
             ∙ sym (holds_turned nodes t.negated (chosen n v) v);
@@ -134,7 +137,8 @@ module _ (nodes : List NodeRecord) (sound : AreSound nodes) where
   -- trees of one first variable
   pub split_same : (a b : Tree) (na nb : NodeRecord) (pairs : NodeOf (Tree × Tree)) → IsTree nodes a →
       IsTree nodes b → 0 < a.place → 0 < b.place → na ≡ node_at nodes (a.place - 1) →
-      nb ≡ node_at nodes (b.place - 1) → text_cmp (node_place na) (node_place nb) ≡ Equal → Paired na nb pairs →
+      nb ≡ node_at nodes (b.place - 1) → text_cmp (node_place na) (node_place nb) ≡ Equal →
+      Paired na nb pairs →
       Splits nodes a b pairs
   split_same a b na nb pairs made other_made some other_some e f same paired =
       let at = node_at nodes (a.place - 1) in
@@ -174,7 +178,8 @@ module _ (nodes : List NodeRecord) (sound : AreSound nodes) where
       record {
         no_later = λ c is. omega (arith, ap (λ (x : Tree). x.place) (alone_in n u c is));
         above = λ c is.
-            subst (λ x. Above nodes (node_place n) x) (sym (alone_in n u c is)) (above_sign (node_place n) t.negated t above);
+            subst (λ x. Above nodes (node_place n) x) (sym (alone_in n u c is))
+            (above_sign (node_place n) t.negated t above);
         holds_is = λ v.
             ap (λ x. holds nodes x v) (back t)
             ∙ ap (λ x. holds nodes (turned t.negated x) v)
@@ -185,7 +190,8 @@ module _ (nodes : List NodeRecord) (sound : AreSound nodes) where
   pub split_before : (a b : Tree) (na nb : NodeRecord) (pairs : NodeOf (Tree × Tree)) → IsTree nodes a →
       IsTree nodes b → 0 < a.place → 0 < b.place → na ≡ node_at nodes (a.place - 1) →
       nb ≡ node_at nodes (b.place - 1) → text_cmp (node_place na) (node_place nb) ≡ Less →
-      Paired na (counterpart na (turned b.negated b) [] [] (turned b.negated b)) pairs → Splits nodes a b pairs
+      Paired na (counterpart na (turned b.negated b) [] [] (turned b.negated b)) pairs →
+      Splits nodes a b pairs
   split_before a b na nb pairs made other_made some other_some e f less paired =
       let at = node_at nodes (a.place - 1) in
       let u = turned b.negated b in

@@ -181,7 +181,8 @@ pub record Splits (nodes : List NodeRecord) (a b : Tree) (pairs : NodeOf (Tree �
   pub rises : IsRising pairs
   pub made : AllChildren (λ pair. IsTree nodes pair.0 × IsTree nodes pair.1) pairs
   pub falls : AllChildren (λ pair. pair.0.place + pair.1.place < a.place + b.place) pairs
-  pub above : AllChildren (λ pair. Above nodes (node_place pairs) pair.0 × Above nodes (node_place pairs) pair.1)
+  pub above : AllChildren (λ pair. Above nodes (node_place pairs) pair.0 × Above nodes (node_place pairs)
+      pair.1)
       pairs
   pub first_is : (v : Valuation) → holds nodes a v ≡ holds nodes (turned a.negated (chosen pairs v).0) v
   pub second_is : (v : Valuation) → holds nodes b v ≡ holds nodes (turned b.negated (chosen pairs v).1) v

@@ -32,10 +32,7 @@ impl Asked {
     pub fn new(first: MarkerTree, second: MarkerTree) -> Asked
         ensures { result ≡ record { first = first; second = second } }
     {
-        Asked {
-            first,
-            second,
-        }
+        Asked { first, second }
     }
 }
 
@@ -166,12 +163,14 @@ impl Conjoiner {
         requires a_node { 0 < a.place }
         requires b_node { 0 < b.place }
         ensures either { (result ≡ (a, b)) ⊎ (result ≡ (b, a)) }
-        ensures ordered { is_gt (text_cmp (first_place self.now result.0) (first_place self.now result.1)) ≡ false }
+        ensures ordered { is_gt (text_cmp (first_place self.now result.0) (first_place self.now result.1))
+            ≡ false }
     {
         self.table.in_order(a, b)
     }
 
-    /// The pairs of what stands in two trees for each answer about their first variable, without the trees' signs.
+    /// The pairs of what stands in two trees for each answer about their first variable, without the trees'
+    /// signs.
     pub fn split(&self, a: MarkerTree, b: MarkerTree) -> Result<Form<Pair>, AllocError>
         requires a { IsTree self.now a }
         requires b { IsTree self.now b }
@@ -195,8 +194,8 @@ impl Conjoiner {
         self.table.store(form)
     }
 
-    /// The conjunction of two trees: no more steps than the product of the numbers of their nodes, each as long
-    /// as the two nodes' boundaries. Recursion is as deep as the variables on a path.
+    /// The conjunction of two trees: no more steps than the product of the numbers of their nodes, each as
+    /// long as the two nodes' boundaries. Recursion is as deep as the variables on a path.
     #[cycle(conjoining)]
     pub fn conjunction(&mut self, a: MarkerTree, b: MarkerTree) -> Result<MarkerTree, AllocError>
         requires a { IsTree self.old a }

@@ -25,8 +25,8 @@ fn plain_disjointness(a: MarkerTree, b: MarkerTree) -> Option<bool>
 }
 
 impl Conjoiner {
-    /// Whether two trees never hold together. `apart` has pairs of which this is known, and gets further ones. No
-    /// more steps than a conjunction takes.
+    /// Whether two trees never hold together. `apart` has pairs of which this is known, and gets more.
+    /// No more steps than a conjunction takes.
     #[cycle(disjoining)]
     pub fn are_disjoint(
         &self,
@@ -87,8 +87,8 @@ impl Conjoiner {
 }
 
 impl MarkerTree {
-    /// Whether no environment and no extras make both trees hold. Makes no tree and counts nothing; the only refusal
-    /// is want of memory for the pairs that were looked at. No more steps than `and` takes.
+    /// Whether no environment and no extras make both trees hold. Makes no tree and counts nothing; the only
+    /// refusal is want of memory for the pairs that were looked at. No more steps than `and` takes.
     pub fn is_disjoint(
         self,
         alloc: Global,

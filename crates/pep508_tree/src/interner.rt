@@ -42,7 +42,8 @@ impl Interner {
         }
     }
 
-    /// How often `and` and `or` were called with this interner, refused calls among them. Stops at `u64::MAX`.
+    /// How often `and` and `or` were called with this interner, refused calls among them. Stops at
+    /// `u64::MAX`.
     pub fn conjunctions(&self) -> u64
         ensures { result ≡ self.now.conjunctions }
     {

@@ -22,7 +22,10 @@ are_disjoint-pairs_are_disjoint-requires t c =
       omega (arith, c.decreases),
       (
         subst (AllByRecursion are_made) same (children_list are_made pairs c.in_ok-split.ensures.made),
-        (subst (AllByRecursion fall) same (children_list fall pairs c.in_ok-split.ensures.falls), c.requires.known),
+        (
+          subst (AllByRecursion fall) same (children_list fall pairs c.in_ok-split.ensures.falls),
+          c.requires.known,
+        ),
       ),
     )
 
@@ -32,10 +35,12 @@ are_disjoint-returns-then-not-branch-clause-exact t c =
     let a = c.in_order-a.result.0 in
     let b = c.in_order-a.result.1 in
     let pairs = record_of c.in_ok-split.field-0 in
-    let apart = apart_by_pairs c.args.self.now c.are_sound.ensures a b pairs c.in_ok-split.ensures c.deref.result.now
+    let apart = apart_by_pairs c.args.self.now c.are_sound.ensures a b pairs c.in_ok-split.ensures
+    c.deref.result.now
     (c.deref.ensures.value ∙ c.in_ok-pairs.ensures) c.in_ok-pairs_are_disjoint.field-0
     c.in_ok-pairs_are_disjoint.ensures.exact in
-    let either = either_apart c.args.self.now c.args.a c.args.b c.in_order-a.result c.in_order-a.ensures.either in
+    let either = either_apart c.args.self.now c.args.a c.args.b c.in_order-a.result
+    c.in_order-a.ensures.either in
     let both : IsTrue c.in_ok-pairs_are_disjoint.field-0 ↔ AreDisjoint c.args.self.now c.args.a c.args.b =
     (λ answer. either.0 (apart.0 answer), λ d. apart.1 (either.1 d)) in
     subst (λ answer. IsTrue answer ↔ AreDisjoint c.args.self.now c.args.a c.args.b) c.if-not-branch.true both
@@ -45,10 +50,12 @@ are_disjoint-returns-clause-exact t c =
     let a = c.in_order-a.result.0 in
     let b = c.in_order-a.result.1 in
     let pairs = record_of c.in_ok-split.field-0 in
-    let apart = apart_by_pairs c.args.self.now c.are_sound.ensures a b pairs c.in_ok-split.ensures c.deref.result.now
+    let apart = apart_by_pairs c.args.self.now c.are_sound.ensures a b pairs c.in_ok-split.ensures
+    c.deref.result.now
     (c.deref.ensures.value ∙ c.in_ok-pairs.ensures) c.in_ok-pairs_are_disjoint.field-0
     c.in_ok-pairs_are_disjoint.ensures.exact in
-    let either = either_apart c.args.self.now c.args.a c.args.b c.in_order-a.result c.in_order-a.ensures.either in
+    let either = either_apart c.args.self.now c.args.a c.args.b c.in_order-a.result
+    c.in_order-a.ensures.either in
     let both : IsTrue c.in_ok-pairs_are_disjoint.field-0 ↔ AreDisjoint c.args.self.now c.args.a c.args.b =
     (λ answer. either.0 (apart.0 answer), λ d. apart.1 (either.1 d)) in
     subst (λ answer. IsTrue answer ↔ AreDisjoint c.args.self.now c.args.a c.args.b) c.if-not-branch.false both
@@ -58,7 +65,8 @@ are_disjoint-returns-clause-known t c =
     let a = c.in_order-a.result.0 in
     let b = c.in_order-a.result.1 in
     let pairs = record_of c.in_ok-split.field-0 in
-    let apart = apart_by_pairs c.args.self.now c.are_sound.ensures a b pairs c.in_ok-split.ensures c.deref.result.now
+    let apart = apart_by_pairs c.args.self.now c.are_sound.ensures a b pairs c.in_ok-split.ensures
+    c.deref.result.now
     (c.deref.ensures.value ∙ c.in_ok-pairs.ensures) c.in_ok-pairs_are_disjoint.field-0
     c.in_ok-pairs_are_disjoint.ensures.exact in
     apart_more c.args.self.now c.new-asked.result c.pairs_are_disjoint.new.apart c.insert.new.self
@@ -76,14 +84,17 @@ pairs_are_disjoint-returns-then-not-branch-clause-exact t c =
     let second : c.turned-second.result ≡ turned c.args.b.negated pair.1 =
     c.turned-second.ensures ∙ ap (λ s. turned s pair.1) c.is_negated-in-loop-pair.ensures in
     let exact : IsTrue c.in_ok-are_disjoint.field-0 ↔ IsPairApart c.args.self.now c.args.a c.args.b pair =
-    subst (λ x. IsTrue c.in_ok-are_disjoint.field-0 ↔ AreDisjoint c.args.self.now x (turned c.args.b.negated pair.1)) first
-    (subst (λ y. IsTrue c.in_ok-are_disjoint.field-0 ↔ AreDisjoint c.args.self.now c.turned-first.result y) second
+    subst (λ x. IsTrue c.in_ok-are_disjoint.field-0 ↔ AreDisjoint c.args.self.now x
+    (turned c.args.b.negated pair.1)) first
+    (subst (λ y. IsTrue c.in_ok-are_disjoint.field-0 ↔ AreDisjoint c.args.self.now c.turned-first.result y)
+    second
     c.in_ok-are_disjoint.ensures.exact) in
     let P = IsPairApart c.args.self.now c.args.a c.args.b in (
       λ answer. absurd (true≢false (sym answer)),
       λ all.
           sym c.if-not-branch.true
-          ∙ exact.1 (each_of_list P c.args.pairs.now c.loop-pair.pair-index pair all c.loop-pair-test.true c.pair-item.is),
+          ∙ exact.1 (each_of_list P c.args.pairs.now c.loop-pair.pair-index pair all c.loop-pair-test.true
+          c.pair-item.is),
     )
 
 pub pairs_are_disjoint-loop-pair-preserved : goal.pairs_are_disjoint-loop-pair-preserved
@@ -94,8 +105,10 @@ pairs_are_disjoint-loop-pair-preserved t c =
     let second : c.turned-second.result ≡ turned c.args.b.negated pair.1 =
     c.turned-second.ensures ∙ ap (λ s. turned s pair.1) c.is_negated-in-loop-pair.ensures in
     let exact : IsTrue c.in_ok-are_disjoint.field-0 ↔ IsPairApart c.args.self.now c.args.a c.args.b pair =
-    subst (λ x. IsTrue c.in_ok-are_disjoint.field-0 ↔ AreDisjoint c.args.self.now x (turned c.args.b.negated pair.1)) first
-    (subst (λ y. IsTrue c.in_ok-are_disjoint.field-0 ↔ AreDisjoint c.args.self.now c.turned-first.result y) second
+    subst (λ x. IsTrue c.in_ok-are_disjoint.field-0 ↔ AreDisjoint c.args.self.now x
+    (turned c.args.b.negated pair.1)) first
+    (subst (λ y. IsTrue c.in_ok-are_disjoint.field-0 ↔ AreDisjoint c.args.self.now c.turned-first.result y)
+    second
     c.in_ok-are_disjoint.ensures.exact) in
     let P = IsPairApart c.args.self.now c.args.a c.args.b in (
       all_more P c.args.pairs.now c.loop-pair.pair-index pair c.loop-pair.invariant.0 c.loop-pair-test.true
