@@ -1,6 +1,6 @@
 -- Conjunctions of trees: how they last while nodes are added, and how they are put together from those of the
 -- pairs that stand in two trees.
-use Rattle.std.proofs.Common.{◌≡◌, ◌⊎◌, inl, inr, ℕ, zero, suc, ◌+◌, ◌-◌, ◌<◌, ◌≤◌, Bool, true, false, not, cond, ◌&&◌, List, [], ◌∷◌, ◌++◌, length, get_or, take, map, refl, ap, ap₂, sym, subst, ◌∙◌, arith, length-append, append_assoc, Ordering, Less, is_eq, true≢false}
+use Rattle.std.proofs.Common.{◌≡◌, ◌⊎◌, inl, inr, ℕ, zero, suc, ◌+◌, ◌<◌, ◌≤◌, Bool, true, false, ◌&&◌, List, [], ◌∷◌, ◌++◌, length, get_or, take, map, refl, ap, ap₂, sym, subst, ◌∙◌, arith, length-append, append_assoc, Ordering, Less, is_eq, true≢false}
 use Rattle.std.proofs.lemmas.Bool.{cases_Bool}
 use Rattle.std.proofs.lemmas.List.{get_or_append_left, take_more, take_all}
 use Rattle.std.specs.List.{AllByRecursion}
@@ -9,17 +9,15 @@ use Rattle.std.specs.Cmp.Lexicographic.{nat_list_cmp_total}
 use Rattle.version_ranges.specs.declared.boundary.Boundary.{Boundary}
 use Rattle.version_ranges.specs.Boundaries.{point_of, boundary_cmp}
 use Rattle.version_ranges.specs.Point.{Point, point_cmp}
-use Rattle.version_ranges.specs.Turns.{reaches, flips}
-use Rattle.pep440_rs.specs.Record.{VersionRecord}
-use Rattle.pep440_rs.specs.Order.{version_cmp}
+use Rattle.version_ranges.specs.Turns.{reaches}
 use Rattle.pep440_version.specs.OrderLaws.{version_cmp_total}
 use Rattle.pep508_diagram.specs.declared.branch.Branch.{Branch}
 use Rattle.pep508_diagram.specs.Text.{text_cmp}
 use Rattle.pep508_diagram.specs.Branches.{RisingBranches, branch_at, AllBranches, NeighboursDiffer}
-use Rattle.pep508_diagram.specs.Question.{Valuation, truth}
+use Rattle.pep508_diagram.specs.Question.{Valuation}
 use Rattle.pep508_diagram.proofs.Places.{equal_from}
 use Rattle.pep508_diagram.proofs.Branching.{before_unreached}
-use Rattle.pep508_tree.specs.Tree.{Tree, always, never, negation}
+use Rattle.pep508_tree.specs.Tree.{Tree}
 use Rattle.pep508_tree.specs.Meaning.{NodeOf, NodeRecord, Versions, Texts, Flagged, holds, IsTree, Extends}
 use Rattle.pep508_tree.specs.Nodes.{AllChildren, IsRising, IsJoined, Above, Splits, Made, chosen, no_node, node_at, node_place, tree_cmp, turned}
 use Rattle.pep508_tree.specs.Joining.{children, joined, head, tail, node_joined}
@@ -66,18 +64,22 @@ pub conjunction_earlier : (old now new : List NodeRecord) (a b t : Tree) → Ext
     IsTree old b → Conjunction now new a b t → Conjunction old new a b t
 conjunction_earlier old now new a b t e made other c = record {
   made = c.made;
-  truth_is = λ v. c.truth_is v ∙ ap₂ (λ x y. x && y) (holds_kept old now e a made v) (holds_kept old now e b other v);
+  truth_is = λ v. c.truth_is v ∙ ap₂ (λ x y. x && y) (holds_kept old now e a made v)
+      (holds_kept old now e b other v);
   above = λ place p q.
       c.above place (above_kept old now e place a made p) (above_kept old now e place b other q);
 }
 
-pub conjunction_now : (old new : List NodeRecord) (a b t : Tree) → Extends old new → IsTree old a → IsTree old b →
+pub conjunction_now : (old new : List NodeRecord) (a b t : Tree) → Extends old new → IsTree old a →
+    IsTree old b →
     Conjunction old new a b t → Conjunction new new a b t
 conjunction_now old new a b t e made other c = record {
   made = c.made;
   truth_is = λ v.
-      c.truth_is v ∙ ap₂ (λ x y. x && y) (sym (holds_kept old new e a made v)) (sym (holds_kept old new e b other v));
-  above = λ place p q. c.above place (above_back old new e place a made p) (above_back old new e place b other q);
+      c.truth_is v ∙ ap₂ (λ x y. x && y) (sym (holds_kept old new e a made v))
+      (sym (holds_kept old new e b other v));
+  above = λ place p q. c.above place (above_back old new e place a made p)
+      (above_back old new e place b other q);
 }
 
 and_turned : (x y : Bool) → (x && y) ≡ (y && x)
@@ -103,7 +105,8 @@ in_either old new a b t both (inr e) c =
 
 -- ---- lists whose elements meet a condition, each with each
 
-pub meet_push : {C D : Type 0} (R : C → D → Type 0) (xs : List C) (ys : List D) (x : C) (y : D) → Meet R xs ys →
+pub meet_push : {C D : Type 0} (R : C → D → Type 0) (xs : List C) (ys : List D) (x : C) (y : D) →
+    Meet R xs ys →
     R x y → Meet R (xs ++ x ∷ []) (ys ++ y ∷ [])
 meet_push R [] [] x y m r = (r, tt)
 meet_push R [] (z ∷ ys) x y m r = absurd m
@@ -130,15 +133,19 @@ module _ {T C : Type 0} {cmp : T → T → Ordering} (o : IsTotalOrder cmp) wher
     | inr other ↦ rw other (all.0, joined_after P t later trees all.1)
   ]
 
-  pub joined_rises : (last : Tree) (later : List (Branch T C)) (trees : List Tree) → RisingBranches cmp later →
+  pub joined_rises : (last : Tree) (later : List (Branch T C)) (trees : List Tree) →
+      RisingBranches cmp later →
       RisingBranches cmp (joined last later trees)
   joined_rises last [] trees rises = tt
   joined_rises last (b ∷ later) [] rises = tt
   joined_rises last (b ∷ later) (t ∷ trees) rises = elim (cases_Bool (is_eq (tree_cmp t last))) [
     | inl same ↦ rw same (joined_rises last later trees rises.1)
     | inr other ↦
-        rw other
-        (joined_after (λ c. boundary_cmp cmp b.boundary c ≡ Less) t later trees rises.0, joined_rises t later trees rises.1)
+        rw other (
+          joined_after (λ c. boundary_cmp cmp b.boundary c ≡ Less) t later trees rises.0,
+          joined_rises t later
+              trees rises.1,
+        )
   ]
 
   pub joined_differs : (last : Tree) (later : List (Branch T C)) (trees : List Tree) →
@@ -153,8 +160,10 @@ module _ {T C : Type 0} {cmp : T → T → Ordering} (o : IsTotalOrder cmp) wher
   ]
 
   -- what holds of each pair holds at each point
-  pub joined_at : (R : C → Tree → Type 0) (first : C) (last : Tree) (later : List (Branch T C)) (trees : List Tree) →
-      R first last → Meet R (map (λ branch. branch.child) later) trees → RisingBranches cmp later → (p : Point T) →
+  pub joined_at : (R : C → Tree → Type 0) (first : C) (last : Tree) (later : List (Branch T C))
+      (trees : List Tree) →
+      R first last → Meet R (map (λ branch. branch.child) later) trees → RisingBranches cmp later →
+      (p : Point T) →
       R (branch_at cmp first later p) (branch_at cmp last (joined last later trees) p)
   joined_at R first last [] trees r m rises p = r
   joined_at R first last (b ∷ later) [] r m rises p = absurd m
@@ -168,7 +177,8 @@ module _ {T C : Type 0} {cmp : T → T → Ordering} (o : IsTotalOrder cmp) wher
         ]
         | inr over ↦ elim (cases_Bool (is_eq (tree_cmp t last))) [
           | inl same ↦
-              let here : branch_at cmp first later p ≡ first = before_unreached o b.boundary first later p over rises.0 in
+              let here : branch_at cmp first later p ≡ first = before_unreached o b.boundary first later p
+              over rises.0 in
               rw (over, same)
               (subst (λ c. R c (branch_at cmp last (joined last later trees) p)) here
               (joined_at R first last later trees r m.1 rises.1 p))
@@ -176,8 +186,10 @@ module _ {T C : Type 0} {cmp : T → T → Ordering} (o : IsTotalOrder cmp) wher
         ]
       ]
 
-  pub joined_all : (P : Tree → Type 0) (R : C → Tree → Type 0) → ((c : C) (t : Tree) → R c t → P t) → (last : Tree)
-      (later : List (Branch T C)) (trees : List Tree) → P last → Meet R (map (λ branch. branch.child) later) trees →
+  pub joined_all : (P : Tree → Type 0) (R : C → Tree → Type 0) → ((c : C) (t : Tree) → R c t → P t) →
+      (last : Tree)
+      (later : List (Branch T C)) (trees : List Tree) → P last →
+      Meet R (map (λ branch. branch.child) later) trees →
       AllBranches P last (joined last later trees)
   joined_all P R so last [] trees p m = p
   joined_all P R so last (b ∷ later) [] p m = absurd m
@@ -189,7 +201,8 @@ module _ {T C : Type 0} {cmp : T → T → Ordering} (o : IsTotalOrder cmp) wher
 -- ---- nodes whose children are given anew
 
 module _ {C : Type 0} where
-  branches_list : {T : Type 0} (P : C → Type 0) (first : C) (later : List (Branch T C)) → AllBranches P first later →
+  branches_list : {T : Type 0} (P : C → Type 0) (first : C) (later : List (Branch T C)) →
+      AllBranches P first later →
       AllByRecursion P (first ∷ map (λ branch. branch.child) later)
   branches_list P first [] all = (all, tt)
   branches_list P first (b ∷ later) all = (all.0, branches_list P b.child later all.1)
@@ -225,7 +238,8 @@ module _ {C : Type 0} where
   rises_joined (Flagged flag set unset) trees rises = tt
 
   pub is_joined : (n : NodeOf C) (trees : List Tree) → IsJoined (node_joined n trees)
-  is_joined (Versions key first later) trees = joined_differs version_cmp_total (head trees) later (tail trees)
+  is_joined (Versions key first later) trees = joined_differs version_cmp_total (head trees) later
+      (tail trees)
   is_joined (Texts key first later) trees = joined_differs nat_list_cmp_total (head trees) later (tail trees)
   is_joined (Flagged flag set unset) trees = tt
 
@@ -260,7 +274,8 @@ module _ {C : Type 0} where
 -- ---- conjunctions of pairs
 
 -- the conjunctions of the first so many pairs stand, and nodes were only added
-pub record AreConjoined (old now : List NodeRecord) (a b : Tree) (pairs : List (Tree × Tree)) (trees : List Tree)
+pub record AreConjoined (old now : List NodeRecord) (a b : Tree) (pairs : List (Tree × Tree))
+    (trees : List Tree)
     (i : ℕ) : Type 0 where
   pub keeps : Extends old now
   pub met : Meet (ArePairs old now a b) (take i pairs) trees
@@ -273,7 +288,8 @@ conjoined_none nodes a b pairs trees e = record {
 }
 
 pub conjoined_more : (old now new : List NodeRecord) (a b : Tree) (pairs : List (Tree × Tree))
-    (trees more : List Tree) (i : ℕ) (pair : Tree × Tree) (t : Tree) → AreConjoined old now a b pairs trees i →
+    (trees more : List Tree) (i : ℕ) (pair : Tree × Tree) (t : Tree) →
+    AreConjoined old now a b pairs trees i →
     i < length pairs → pair ≡ get_or pairs i pair → IsTree old pair.0 × IsTree old pair.1 → Extends now new →
     Conjunction now new (turned a.negated pair.0) (turned b.negated pair.1) t → more ≡ trees ++ t ∷ [] →
     AreConjoined old new a b pairs more (i + 1)
@@ -285,7 +301,8 @@ conjoined_more old now new a b pairs trees more i pair t s inside e made keeps c
       (λ p u d. conjunction_later old now new (turned a.negated p.0) (turned b.negated p.1) u keeps d)
       (take i pairs) trees s.met in
       let here : ArePairs old new a b pair t =
-      conjunction_earlier old now new (turned a.negated pair.0) (turned b.negated pair.1) t s.keeps made.0 made.1 c in
+      conjunction_earlier old now new (turned a.negated pair.0) (turned b.negated pair.1) t s.keeps made.0
+      made.1 c in
       let longer : take (i + 1) pairs ≡ take i pairs ++ pair ∷ [] =
       take_more pairs i pair inside ∙ ap (λ p. take i pairs ++ p ∷ []) (sym e) in
       subst (λ xs. Meet (ArePairs old new a b) xs more) (sym longer)
@@ -294,7 +311,8 @@ conjoined_more old now new a b pairs trees more i pair t s inside e made keeps c
 }
 
 pub conjoined_all : (old now : List NodeRecord) (a b : Tree) (pairs : List (Tree × Tree)) (trees : List Tree)
-    (i : ℕ) → AreConjoined old now a b pairs trees i → length pairs ≤ i → Meet (ArePairs old now a b) pairs trees
+    (i : ℕ) → AreConjoined old now a b pairs trees i → length pairs ≤ i →
+    Meet (ArePairs old now a b) pairs trees
 conjoined_all old now a b pairs trees i s all =
     subst (λ xs. Meet (ArePairs old now a b) xs trees) (take_all i pairs all) s.met
 
@@ -309,15 +327,18 @@ module _ (old now : List NodeRecord) (a b : Tree) (pairs : NodeOf (Tree × Tree)
   made_children =
       children_joined (ArePairs old now a b) (IsTree now) (λ p t c. c.made) pairs trees met
 
-  pub above_children : AllChildren (Above now (node_place (node_joined pairs trees))) (node_joined pairs trees)
+  pub above_children : AllChildren (Above now (node_place (node_joined pairs trees)))
+      (node_joined pairs trees)
   above_children =
       let behind = λ (p : Tree × Tree). Above old (node_place pairs) p.0 × Above old (node_place pairs) p.1 in
-      subst (λ place. AllChildren (Above now place) (node_joined pairs trees)) (sym (place_joined pairs trees))
+      subst (λ place. AllChildren (Above now place) (node_joined pairs trees))
+      (sym (place_joined pairs trees))
       (children_joined (λ p t. behind p × ArePairs old now a b p t) (Above now (node_place pairs))
       (λ p t c. c.1.above (node_place pairs) (above_turned old (node_place pairs) a.negated p.0 c.0.0)
       (above_turned old (node_place pairs) b.negated p.1 c.0.1))
       pairs trees
-      (meet_with behind (ArePairs old now a b) (children pairs) trees (children_list behind pairs s.above) met))
+      (meet_with behind (ArePairs old now a b) (children pairs) trees (children_list behind pairs s.above)
+      met))
 
   pub conjunction_made : (new : List NodeRecord) (tree : Tree) → Made now new (node_joined pairs trees) tree →
       Conjunction old new a b tree
@@ -333,7 +354,8 @@ module _ (old now : List NodeRecord) (a b : Tree) (pairs : NodeOf (Tree × Tree)
 
 -- ---- two trees in either order
 
-pub meet_by : {C D : Type 0} (R : C → D → Type 0) (xs other : List C) (ys more : List D) → xs ≡ other → more ≡ ys →
+pub meet_by : {C D : Type 0} (R : C → D → Type 0) (xs other : List C) (ys more : List D) → xs ≡ other →
+    more ≡ ys →
     Meet R xs ys → Meet R other more
 meet_by R xs other ys more e f m = subst (λ zs. Meet R zs more) e (subst (Meet R xs) (sym f) m)
 
@@ -343,7 +365,8 @@ either_sum a b both (inl e) = ap (λ (p : Tree × Tree). p.0.place + p.1.place) 
 either_sum a b both (inr e) = ap (λ (p : Tree × Tree). p.0.place + p.1.place) e ∙ omega arith
 
 pub either_made : (nodes : List NodeRecord) (a b : Tree) (both : Tree × Tree) →
-    (both ≡ (a, b)) ⊎ (both ≡ (b, a)) → IsTree nodes a → IsTree nodes b → IsTree nodes both.0 × IsTree nodes both.1
+    (both ≡ (a, b)) ⊎ (both ≡ (b, a)) → IsTree nodes a → IsTree nodes b →
+    IsTree nodes both.0 × IsTree nodes both.1
 either_made nodes a b both (inl e) made other =
     subst (λ (p : Tree × Tree). IsTree nodes p.0 × IsTree nodes p.1) (sym e) (made, other)
 either_made nodes a b both (inr e) made other =

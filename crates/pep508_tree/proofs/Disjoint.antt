@@ -7,7 +7,7 @@ use Rattle.pep508_diagram.specs.Question.{Valuation, truth}
 use Rattle.pep508_tree.specs.Tree.{Tree, always, never, negation}
 use Rattle.pep508_tree.specs.Meaning.{NodeOf, NodeRecord, holds, IsTree}
 use Rattle.pep508_tree.specs.Nodes.{AllChildren, IsChildIn, Above, AreSound, Splits, chosen, node_place, turned}
-use Rattle.pep508_tree.specs.Disjoint.{AreDisjoint}
+use Rattle.pep508_tree.specs.Disjoint.{AreDisjoint, IsPairApart}
 use Rattle.pep508_tree.proofs.OneTree.{never_true, negation_holds}
 use Rattle.pep508_tree.proofs.Diagrams.{diagram_top}
 use Rattle.pep508_tree.proofs.Meanings.{each_child, chosen_all, children_from, holds_turned}
@@ -64,10 +64,6 @@ module _ (nodes : List NodeRecord) (sound : AreSound nodes) where
       )
 
   module _ (a b : Tree) (pairs : NodeOf (Tree × Tree)) (s : Splits nodes a b pairs) where
-    -- the pair's trees, with the signs of a and b, are disjoint
-    abbrev pub IsPairApart : Tree × Tree → Type 0
-    IsPairApart pair = AreDisjoint nodes (turned a.negated pair.0) (turned b.negated pair.1)
-
     together : (v : Valuation) → (holds nodes a v && holds nodes b v)
         ≡ (holds nodes (turned a.negated (chosen pairs v).0) v
         && holds nodes (turned b.negated (chosen pairs v).1) v)
@@ -79,7 +75,8 @@ module _ (nodes : List NodeRecord) (sound : AreSound nodes) where
     still_turned turns t v w same =
         holds_turned nodes turns t w ∙ ap (flips turns) same ∙ sym (holds_turned nodes turns t v)
 
-    child_apart : AreDisjoint nodes a b → (pair : Tree × Tree) → IsChildIn pair pairs → IsPairApart pair
+    child_apart : AreDisjoint nodes a b → (pair : Tree × Tree) → IsChildIn pair pairs →
+        IsPairApart nodes a b pair
     child_apart apart pair is v =
         let moved = moved_to nodes sound v pairs s.rises pair is in
         let w = moved.0 in
@@ -96,8 +93,8 @@ module _ (nodes : List NodeRecord) (sound : AreSound nodes) where
         ∙ sym (together w) ∙ apart w
 
     -- trees are disjoint exactly where all their paired children are
-    pub splits_disjoint : AreDisjoint nodes a b ↔ AllChildren IsPairApart pairs
+    pub splits_disjoint : AreDisjoint nodes a b ↔ AllChildren (IsPairApart nodes a b) pairs
     splits_disjoint = (
-      λ apart. children_from IsPairApart pairs (child_apart apart),
-      λ all v. together v ∙ chosen_all IsPairApart pairs v all v,
+      λ apart. children_from (IsPairApart nodes a b) pairs (child_apart apart),
+      λ all v. together v ∙ chosen_all (IsPairApart nodes a b) pairs v all v,
     )

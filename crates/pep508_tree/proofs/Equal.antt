@@ -9,7 +9,8 @@ use Rattle.pep508_tree.proofs.OneTree.{same_tree}
 use Rattle.pep508_tree.proofs.Same.{same_trees}
 
 -- trees of one interner are named alike exactly where they mean the same
-pub equal_means : (nodes : List NodeRecord) → AreSound nodes → (a b : Tree) → IsTree nodes a → IsTree nodes b →
+pub equal_means : (nodes : List NodeRecord) → AreSound nodes → (a b : Tree) → IsTree nodes a →
+    IsTree nodes b →
     IsTrue ((a.place == b.place) && beq a.negated b.negated)
     ↔ ((v : Valuation) → holds nodes a v ≡ holds nodes b v)
 equal_means nodes sound a b made other_made =

@@ -1,5 +1,5 @@
 -- What an interner remembers lasts while nodes are added.
-use Rattle.std.proofs.Common.{◌≡◌, List, Option, Some, None, IfSome}
+use Rattle.std.proofs.Common.{List, Option, Some, None, IfSome}
 use Rattle.std.specs.BTreeMap.{BTreeMap, get}
 use Rattle.pep508_tree.specs.declared.conjoiner.Asked.{Asked}
 use Rattle.pep508_tree.specs.Tree.{Tree}
@@ -23,6 +23,7 @@ each_later : (old new : List NodeRecord) (asked : Asked) (answer : Option Tree) 
 each_later old new asked None e k = k
 each_later old new asked (Some tree) e k = known_later old new asked tree e k
 
-pub known_kept : (old new : List NodeRecord) (known : BTreeMap Asked Tree) → Extends old new → AreKnown old known →
+pub known_kept : (old new : List NodeRecord) (known : BTreeMap Asked Tree) → Extends old new →
+    AreKnown old known →
     AreKnown new known
 known_kept old new known e all asked = each_later old new asked (get asked_cmp known asked) e (all asked)

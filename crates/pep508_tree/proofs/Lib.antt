@@ -16,3 +16,4 @@ pub mod Placing
 pub mod Conjoining
 pub mod Knowing
 pub mod Plain
+pub mod Disjoining

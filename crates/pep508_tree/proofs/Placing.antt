@@ -1,5 +1,5 @@
 -- One more node in the table.
-use Rattle.std.proofs.Common.{◌≡◌, ℕ, ◌+◌, ◌<◌, Bool, true, false, cond, List, [], ◌∷◌, ◌++◌, Option, Some, None, length, map, MatchOption, refl, ap, sym, subst, ◌∙◌, inl, inr, arith, length-append, Ordering, Equal, is_eq, true≢false}
+use Rattle.std.proofs.Common.{◌≡◌, ℕ, ◌+◌, ◌<◌, Bool, true, false, cond, List, [], ◌∷◌, ◌++◌, Option, Some, None, length, MatchOption, refl, ap, sym, subst, ◌∙◌, inl, inr, arith, length-append, Equal, is_eq, true≢false}
 use Rattle.std.specs.Ordering.{on}
 use Rattle.std.specs.Cmp.{tied_itself}
 use Rattle.std.specs.BTreeMap.{BTreeMap, get, is_at}
@@ -42,8 +42,10 @@ module _ {A : Type 0} where
   abbrev pub place_in : BTreeMap (Rc NodeRecord A) ℕ → Rc NodeRecord A → Option ℕ
   place_in places node = get (on (λ owner. owner.value) node_cmp) places node
 
-  pub stand_answer : (nodes : List NodeRecord) (places : BTreeMap (Rc NodeRecord A) ℕ) (node : Rc NodeRecord A)
-      (answer : Option ℕ) → StandAt nodes places → answer ≡ place_in places node → StandsAs nodes node.value answer
+  pub stand_answer : (nodes : List NodeRecord) (places : BTreeMap (Rc NodeRecord A) ℕ)
+      (node : Rc NodeRecord A)
+      (answer : Option ℕ) → StandAt nodes places → answer ≡ place_in places node →
+      StandsAs nodes node.value answer
   stand_answer nodes places node answer stand e = subst (StandsAs nodes node.value) (sym e) (stand node)
 
   pub stand_same : (nodes : List NodeRecord) (old new : BTreeMap (Rc NodeRecord A) ℕ) →
@@ -60,7 +62,8 @@ module _ {A : Type 0} where
 
   module _ (nodes : List NodeRecord) (n : NodeRecord) (k : ℕ) (here : k ≡ length nodes) where
     pub stand_pushed : (key : Rc NodeRecord A) (old new : BTreeMap (Rc NodeRecord A) ℕ) → key.value ≡ n →
-        ((q : Rc NodeRecord A) → place_in new q ≡ cond (is_eq (node_cmp key.value q.value)) (Some k) (place_in old q)) →
+        ((q : Rc NodeRecord A) → place_in new q ≡ cond (is_eq (node_cmp key.value q.value)) (Some k)
+        (place_in old q)) →
         StandAt nodes old → StandAt (nodes ++ n ∷ []) new
     stand_pushed key old new e updates stand q =
         subst (StandsAs (nodes ++ n ∷ []) q.value)
@@ -76,10 +79,12 @@ module _ {A : Type 0} where
 
   pub put_in : (items new : List (Rc NodeRecord A)) (places new_places : BTreeMap (Rc NodeRecord A) ℕ)
       (node key : Rc NodeRecord A) (n : NodeRecord) (k : ℕ) → new ≡ items ++ node ∷ [] → node.value ≡ n →
-      key.value ≡ node.value → k ≡ length items → AreSound (nodes_of items) × StandAt (nodes_of items) places →
+      key.value ≡ node.value → k ≡ length items →
+      AreSound (nodes_of items) × StandAt (nodes_of items) places →
       IsSoundNode (nodes_of items) (length (nodes_of items)) n → None ≡ place_in places node →
       ((q : Rc NodeRecord A) → place_in new_places q
-      ≡ cond (is_eq (node_cmp key.value q.value)) (Some k) (place_in places q)) → IsPut items new new_places n k
+      ≡ cond (is_eq (node_cmp key.value q.value)) (Some k) (place_in places q)) →
+      IsPut items new new_places n k
   put_in items new places new_places node key n k pushed is copy here right fits absent updates =
       let nodes = nodes_of items in
       let all : nodes_of new ≡ nodes ++ n ∷ [] =

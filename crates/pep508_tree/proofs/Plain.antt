@@ -1,5 +1,5 @@
 -- Conjunctions with a constant tree, with the same tree, and with its negation.
-use Rattle.std.proofs.Common.{◌≡◌, ℕ, Bool, true, false, not, ◌&&◌, List, refl, ap, ap₂, sym, subst, ◌∙◌, arith}
+use Rattle.std.proofs.Common.{◌≡◌, ℕ, Bool, true, false, ◌&&◌, List, refl, ap, sym, subst, ◌∙◌, arith}
 use Rattle.pep508_tree.specs.Tree.{Tree, always, never, negation}
 use Rattle.pep508_tree.specs.Meaning.{NodeRecord, holds, IsTree}
 use Rattle.pep508_tree.specs.Nodes.{Above}

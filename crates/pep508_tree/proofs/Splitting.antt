@@ -1,17 +1,15 @@
 -- Two trees by the variable that comes first in them.
-use Rattle.std.proofs.Common.{◌≡◌, ◌⊎◌, inl, inr, ℕ, zero, suc, ◌+◌, ◌-◌, ◌<◌, ◌≤◌, Bool, true, false, List, [], ◌∷◌, length, get_or, map, refl, ap, sym, subst, ◌∙◌, arith, Ordering, Less, Equal, Greater, is_eq, is_gt, true≢false}
+use Rattle.std.proofs.Common.{◌≡◌, inl, inr, ℕ, zero, suc, ◌+◌, ◌-◌, ◌<◌, ◌≤◌, Bool, true, false, List, [], ◌∷◌, length, get_or, refl, ap, sym, subst, ◌∙◌, arith, Ordering, Less, Equal, Greater, is_eq, is_gt, true≢false}
 use Rattle.std.specs.Ordering.{ordering_reverse}
-use Rattle.std.specs.Cmp.{IsTotalOrder}
 use Rattle.std.specs.Cmp.Lexicographic.{nat_list_cmp_total}
 use Rattle.std.specs.declared.rc.Rc.{Rc}
-use Rattle.version_ranges.specs.Turns.{flips}
 use Rattle.pep508_diagram.specs.Text.{text_cmp}
 use Rattle.pep508_diagram.specs.Question.{Valuation}
 use Rattle.pep508_diagram.proofs.Places.{texts_same}
 use Rattle.pep508_diagram.proofs.Turned.{flips_twice}
 use Rattle.pep508_tree.specs.Tree.{Tree}
 use Rattle.pep508_tree.specs.Meaning.{NodeOf, NodeRecord, Versions, Texts, Flagged, holds, IsTree}
-use Rattle.pep508_tree.specs.Nodes.{AllChildren, IsChildIn, Above, AreSound, Paired, Splits, chosen, counterpart, first_place, no_node, node_at, node_place, turned}
+use Rattle.pep508_tree.specs.Nodes.{AllChildren, IsChildIn, Above, AreSound, Paired, Splits, chosen, counterpart, node_at, node_place, turned}
 use Rattle.pep508_tree.specs.Places.{nodes_of}
 use Rattle.pep508_tree.proofs.Children.{weaker_children}
 use Rattle.pep508_tree.proofs.Meanings.{chosen_child, each_child, holds_at, holds_turned}
@@ -30,7 +28,8 @@ length_nodes (o ∷ owners) = ap (λ n. suc n) (length_nodes owners)
 
 -- the node that an owner of the table has
 pub node_is : {A : Type 0} (owners : List (Rc NodeRecord A)) (nodes : List NodeRecord) (t : Tree) (p : ℕ)
-    (r : Rc NodeRecord A) (n : NodeRecord) → nodes_of owners ≡ nodes → p ≡ t.place → 0 < t.place → IsTree nodes t →
+    (r : Rc NodeRecord A) (n : NodeRecord) → nodes_of owners ≡ nodes → p ≡ t.place → 0 < t.place →
+    IsTree nodes t →
     r ≡ get_or owners (p - 1) r → n ≡ r.value → n ≡ node_at nodes (t.place - 1)
 node_is owners nodes t p r n view place some made e value =
     value
@@ -75,7 +74,8 @@ module _ (nodes : List NodeRecord) where
   module _ (a b : Tree) (na nb : NodeRecord) (pairs : NodeOf (Tree × Tree)) where
     pub splits_by : IsTree nodes a → IsTree nodes b → IsSide (node_place na) a na →
         ((c : Tree) → IsChildIn c na → c.place < a.place) → IsSide (node_place na) b nb → Paired na nb pairs →
-        ((place : List ℕ) → Above nodes place a → text_cmp place (node_place na) ≡ Less) → Splits nodes a b pairs
+        ((place : List ℕ) → Above nodes place a → text_cmp place (node_place na) ≡ Less) →
+        Splits nodes a b pairs
     splits_by made other_made one falls two paired first =
         let each : (P : Tree × Tree → Type 0) →
         ((p : Tree × Tree) → IsChildIn p.0 na → IsChildIn p.1 nb → P p) → AllChildren P pairs =
@@ -121,7 +121,8 @@ module _ (nodes : List NodeRecord) (sound : AreSound nodes) where
       record {
         no_later = λ c is. omega (arith, node_falls t some made c is);
         above = λ c is.
-            each_child (Above nodes place) n c (subst (λ p. AllChildren (Above nodes p) n) e (sound.each k inside).above) is;
+            each_child (Above nodes place) n c
+            (subst (λ p. AllChildren (Above nodes p) n) e (sound.each k inside).above) is;
         holds_is = λ v.
             holds_at nodes sound t k (place_minus t some) inside v
             ∙ sym (holds_turned nodes t.negated (chosen n v) v);
@@ -136,7 +137,8 @@ module _ (nodes : List NodeRecord) (sound : AreSound nodes) where
   -- trees of one first variable
   pub split_same : (a b : Tree) (na nb : NodeRecord) (pairs : NodeOf (Tree × Tree)) → IsTree nodes a →
       IsTree nodes b → 0 < a.place → 0 < b.place → na ≡ node_at nodes (a.place - 1) →
-      nb ≡ node_at nodes (b.place - 1) → text_cmp (node_place na) (node_place nb) ≡ Equal → Paired na nb pairs →
+      nb ≡ node_at nodes (b.place - 1) → text_cmp (node_place na) (node_place nb) ≡ Equal →
+      Paired na nb pairs →
       Splits nodes a b pairs
   split_same a b na nb pairs made other_made some other_some e f same paired =
       let at = node_at nodes (a.place - 1) in
@@ -176,7 +178,8 @@ module _ (nodes : List NodeRecord) (sound : AreSound nodes) where
       record {
         no_later = λ c is. omega (arith, ap (λ (x : Tree). x.place) (alone_in n u c is));
         above = λ c is.
-            subst (λ x. Above nodes (node_place n) x) (sym (alone_in n u c is)) (above_sign (node_place n) t.negated t above);
+            subst (λ x. Above nodes (node_place n) x) (sym (alone_in n u c is))
+            (above_sign (node_place n) t.negated t above);
         holds_is = λ v.
             ap (λ x. holds nodes x v) (back t)
             ∙ ap (λ x. holds nodes (turned t.negated x) v)
@@ -187,7 +190,8 @@ module _ (nodes : List NodeRecord) (sound : AreSound nodes) where
   pub split_before : (a b : Tree) (na nb : NodeRecord) (pairs : NodeOf (Tree × Tree)) → IsTree nodes a →
       IsTree nodes b → 0 < a.place → 0 < b.place → na ≡ node_at nodes (a.place - 1) →
       nb ≡ node_at nodes (b.place - 1) → text_cmp (node_place na) (node_place nb) ≡ Less →
-      Paired na (counterpart na (turned b.negated b) [] [] (turned b.negated b)) pairs → Splits nodes a b pairs
+      Paired na (counterpart na (turned b.negated b) [] [] (turned b.negated b)) pairs →
+      Splits nodes a b pairs
   split_before a b na nb pairs made other_made some other_some e f less paired =
       let at = node_at nodes (a.place - 1) in
       let u = turned b.negated b in

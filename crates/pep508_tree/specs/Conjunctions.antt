@@ -1,8 +1,8 @@
 -- What a conjunction of two trees is.
-use Rattle.std.specs.Prelude.{◌≡◌, ℕ, Bool, ◌&&◌, List, [], ◌∷◌}
+use Rattle.std.specs.Prelude.{◌≡◌, ℕ, ◌&&◌, List, [], ◌∷◌}
 use Rattle.pep508_diagram.specs.Question.{Valuation}
 use Rattle.pep508_tree.specs.Tree.{Tree}
-use Rattle.pep508_tree.specs.Meaning.{NodeRecord, holds, IsTree, Extends}
+use Rattle.pep508_tree.specs.Meaning.{NodeRecord, holds, IsTree}
 use Rattle.pep508_tree.specs.Nodes.{Above, turned}
 
 -- the conjunction of two trees

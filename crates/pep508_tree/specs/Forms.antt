@@ -1,5 +1,4 @@
 -- The nodes that the program keeps, as records.
-use Rattle.std.specs.Prelude.{List}
 use Rattle.pep508_tree.specs.declared.node.Form.{Form}
 use Rattle.pep508_tree.specs.declared.node.Form.TheVariants as form
 use Rattle.pep508_tree.specs.Meaning.{NodeOf, Versions, Texts, Flagged}

@@ -1,5 +1,5 @@
 -- Nodes whose children are given anew, in turn.
-use Rattle.std.specs.Prelude.{ℕ, ◌==◌, Bool, ◌&&◌, cond, List, [], ◌∷◌, map}
+use Rattle.std.specs.Prelude.{cond, List, [], ◌∷◌, map}
 use Rattle.std.specs.Ordering.{is_eq}
 use Rattle.pep508_diagram.specs.declared.branch.Branch.{Branch}
 use Rattle.pep508_tree.specs.Tree.{Tree, always}
@@ -12,8 +12,7 @@ children (Versions key first later) = first ∷ map (λ branch. branch.child) la
 children (Texts key first later) = first ∷ map (λ branch. branch.child) later
 children (Flagged flag set unset) = set ∷ unset ∷ []
 
--- branches between the same boundaries, with these trees; a tree that stands on both sides of a boundary stands
--- once
+-- branches between the same boundaries, with these trees; a tree on both sides of a boundary stands once
 abbrev pub joined : {T C : Type 0} → Tree → List (Branch T C) → List Tree → List (Branch T Tree)
 joined last [] trees = []
 joined last (branch ∷ later) [] = []
@@ -32,6 +31,7 @@ tail (tree ∷ trees) = trees
 
 -- the node with these trees as children, neighbours that are one tree joined
 abbrev pub node_joined : {C : Type 0} → NodeOf C → List Tree → NodeRecord
-node_joined (Versions key first later) trees = Versions key (head trees) (joined (head trees) later (tail trees))
+node_joined (Versions key first later) trees = Versions key (head trees)
+    (joined (head trees) later (tail trees))
 node_joined (Texts key first later) trees = Texts key (head trees) (joined (head trees) later (tail trees))
 node_joined (Flagged flag set unset) trees = Flagged flag (head trees) (head (tail trees))

@@ -1,5 +1,5 @@
 -- What an interner remembers of trees that were combined.
-use Rattle.std.specs.Prelude.{◌≡◌, ℕ, List, IfSome}
+use Rattle.std.specs.Prelude.{List, IfSome}
 use Rattle.std.specs.BTreeMap.{BTreeMap, get}
 use Rattle.pep508_tree.specs.declared.conjoiner.Asked.{Asked}
 use Rattle.pep508_tree.specs.Tree.{Tree}

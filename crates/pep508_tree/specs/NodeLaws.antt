@@ -1,16 +1,14 @@
 -- The order of nodes is one.
-use Rattle.std.specs.Prelude.{List}
 use Rattle.std.specs.Cmp.{IsTotalOrder, then_total, on_total, nat_cmp_total, bool_cmp_total}
 use Rattle.std.specs.Cmp.Lexicographic.{lists_total, nat_list_cmp_total}
 use Rattle.std.specs.declared.cmp.Ordering.{Ordering}
 use Rattle.version_ranges.specs.OrderLaws.{boundaries_total}
 use Rattle.pep440_version.specs.OrderLaws.{version_cmp_total}
-use Rattle.pep440_rs.specs.Order.{version_cmp}
-use Rattle.pep508_diagram.specs.Text.{text_cmp}
 use Rattle.pep508_tree.specs.Nodes.{tree_cmp, branch_cmp, node_cmp, node_place, version_branches, text_branches, first_child, second_child}
 
 pub trees_total : IsTotalOrder tree_cmp
-trees_total = then_total (on_total (λ tree. tree.place) nat_cmp_total) (on_total (λ tree. tree.negated) bool_cmp_total)
+trees_total = then_total (on_total (λ tree. tree.place) nat_cmp_total)
+    (on_total (λ tree. tree.negated) bool_cmp_total)
 
 pub branches_total : {T : Type 0} {cmp : T → T → Ordering} → IsTotalOrder cmp → IsTotalOrder (branch_cmp cmp)
 branches_total {cmp = cmp} total =

@@ -16,7 +16,7 @@ use Rattle.pep508_diagram.specs.Branches.{RisingBranches, branch_at, AllBranches
 use Rattle.pep508_diagram.specs.Chains.{IsChild}
 use Rattle.pep508_diagram.specs.Question.{Valuation, version_rank, text_rank, flag_rank, flag_text}
 use Rattle.pep508_tree.specs.Tree.{Tree, always, negation}
-use Rattle.pep508_tree.specs.Meaning.{NodeOf, NodeRecord, Versions, Texts, Flagged, holds, IsTree, Extends}
+use Rattle.pep508_tree.specs.Meaning.{NodeOf, NodeRecord, Versions, Texts, Flagged, holds, IsTree}
 
 -- the tree, with its leaves turned where the flag is set
 abbrev pub turned : Bool → Tree → Tree
@@ -181,7 +181,8 @@ pub record Splits (nodes : List NodeRecord) (a b : Tree) (pairs : NodeOf (Tree �
   pub rises : IsRising pairs
   pub made : AllChildren (λ pair. IsTree nodes pair.0 × IsTree nodes pair.1) pairs
   pub falls : AllChildren (λ pair. pair.0.place + pair.1.place < a.place + b.place) pairs
-  pub above : AllChildren (λ pair. Above nodes (node_place pairs) pair.0 × Above nodes (node_place pairs) pair.1)
+  pub above : AllChildren (λ pair. Above nodes (node_place pairs) pair.0 × Above nodes (node_place pairs)
+      pair.1)
       pairs
   pub first_is : (v : Valuation) → holds nodes a v ≡ holds nodes (turned a.negated (chosen pairs v).0) v
   pub second_is : (v : Valuation) → holds nodes b v ≡ holds nodes (turned b.negated (chosen pairs v).1) v

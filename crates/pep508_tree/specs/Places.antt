@@ -1,9 +1,8 @@
 -- Where each node stands.
-use Rattle.std.specs.Prelude.{◌≡◌, ℕ, ◌<◌, List, Option, length, map, MatchOption}
+use Rattle.std.specs.Prelude.{◌≡◌, ℕ, ◌<◌, List, length, map, MatchOption}
 use Rattle.std.specs.BTreeMap.{BTreeMap, get}
 use Rattle.std.specs.declared.rc.Rc.{Rc}
 use Rattle.std.specs.Ordering.{on}
-use Rattle.std.specs.declared.cmp.Ordering.{Ordering}
 use Rattle.std.specs.declared.cmp.Ordering.TheVariants.{Equal}
 use Rattle.pep508_tree.specs.Meaning.{NodeRecord}
 use Rattle.pep508_tree.specs.Nodes.{node_at, node_cmp}

@@ -10,11 +10,12 @@ use crate::tree::MarkerTree;
 use std::alloc::AllocError;
 
 impl MarkerTree {
-    /// The tree that holds where both hold. The only refusal is want of memory, and earlier trees mean what they
-    /// meant, refused or not.
+    /// The tree that holds where both hold. The only refusal is want of memory, and earlier trees mean what
+    /// they meant, refused or not.
     ///
-    /// Takes no more steps than the product of the numbers of the two trees' nodes, and recursion as deep as the
-    /// variables on a path. Counts as one of the interner's conjunctions.
+    /// Takes no more steps than the product of the numbers of the two trees' nodes, each as long as two
+    /// nodes' boundaries, and recursion as deep as the variables on a path. Counts as one of the interner's
+    /// conjunctions.
     pub fn and(self, interner: &mut Interner, other: MarkerTree) -> Result<MarkerTree, AllocError>
         requires made { IsTree interner.old.nodes self }
         requires other_made { IsTree interner.old.nodes other }

@@ -21,11 +21,19 @@ use std::cmp::Ordering;
 use std::collections::BTreeMap;
 use std::marker::Model;
 
-/// Two trees whose conjunction was made.
+/// Two trees of which something was asked.
 #[derive(Drop)]
 pub(crate) struct Asked {
     first: MarkerTree,
     second: MarkerTree,
+}
+
+impl Asked {
+    pub fn new(first: MarkerTree, second: MarkerTree) -> Asked
+        ensures { result ≡ record { first = first; second = second } }
+    {
+        Asked { first, second }
+    }
 }
 
 impl PartialEq for Asked {
@@ -88,7 +96,7 @@ impl Model for Conjoiner {
 }
 
 /// The conjunction of two trees of which one is constant, or that are one tree or its negation.
-fn plain_conjunction(a: MarkerTree, b: MarkerTree) -> Option<MarkerTree>
+pub(crate) fn plain_conjunction(a: MarkerTree, b: MarkerTree) -> Option<MarkerTree>
     ensures { MatchOption result ((0 < a.place) × (0 < b.place)) (λ tree.
         (nodes : List NodeRecord) → IsTree nodes a → IsTree nodes b → Conjunction nodes nodes a b tree) }
 {
@@ -134,11 +142,7 @@ impl Conjoiner {
     fn recall(&self, a: MarkerTree, b: MarkerTree) -> Option<MarkerTree>
         ensures { IfSome result (λ tree. Conjunction self.now self.now a b tree) }
     {
-        let asked = Asked {
-            first: a,
-            second: b,
-        };
-        self.known.get(&asked).copied()
+        self.known.get(&Asked::new(a, b)).copied()
     }
 
     /// Keeps the conjunction of two trees.
@@ -148,28 +152,26 @@ impl Conjoiner {
         requires conjunction { Conjunction self.old self.old a b tree }
         ensures { self.new ≡ self.old }
     {
-        self.known.insert(
-            Asked {
-                first: a,
-                second: b,
-            },
-            tree,
-        )?;
+        self.known.insert(Asked::new(a, b), tree)?;
         Ok(())
     }
 
-    fn in_order(&self, a: MarkerTree, b: MarkerTree) -> (MarkerTree, MarkerTree)
+    /// The two trees, first the one whose first variable does not come after that of the other.
+    pub fn in_order(&self, a: MarkerTree, b: MarkerTree) -> (MarkerTree, MarkerTree)
         requires a { IsTree self.now a }
         requires b { IsTree self.now b }
         requires a_node { 0 < a.place }
         requires b_node { 0 < b.place }
         ensures either { (result ≡ (a, b)) ⊎ (result ≡ (b, a)) }
-        ensures ordered { is_gt (text_cmp (first_place self.now result.0) (first_place self.now result.1)) ≡ false }
+        ensures ordered { is_gt (text_cmp (first_place self.now result.0) (first_place self.now result.1))
+            ≡ false }
     {
         self.table.in_order(a, b)
     }
 
-    fn split(&self, a: MarkerTree, b: MarkerTree) -> Result<Form<Pair>, AllocError>
+    /// The pairs of what stands in two trees for each answer about their first variable, without the trees'
+    /// signs.
+    pub fn split(&self, a: MarkerTree, b: MarkerTree) -> Result<Form<Pair>, AllocError>
         requires a { IsTree self.now a }
         requires b { IsTree self.now b }
         requires a_node { 0 < a.place }
@@ -192,8 +194,8 @@ impl Conjoiner {
         self.table.store(form)
     }
 
-    /// The conjunction of two trees: no more steps than the product of the numbers of their nodes, each as long
-    /// as the two nodes' boundaries. Recursion is as deep as the variables on a path.
+    /// The conjunction of two trees: no more steps than the product of the numbers of their nodes, each as
+    /// long as the two nodes' boundaries. Recursion is as deep as the variables on a path.
     #[cycle(conjoining)]
     pub fn conjunction(&mut self, a: MarkerTree, b: MarkerTree) -> Result<MarkerTree, AllocError>
         requires a { IsTree self.old a }

@@ -1,14 +1,16 @@
 //! What makes marker trees.
 
-ghost use Rattle.std.specs.Prelude.{◌≡◌, ◌+◌, ◌^◌, ◌-◌, min, [], Bool, ◌&&◌, ◌||◌, IfOk};
+ghost use Rattle.std.specs.Prelude.{◌≡◌, ◌+◌, ◌^◌, ◌-◌, min, [], Bool, ◌&&◌, ◌||◌, IfOk, ◌↔◌, IsTrue};
 ghost use Rattle.pep508_diagram.specs.Question.{Valuation};
 ghost use Rattle.pep508_tree.specs.Meaning.{IsTree, Extends, holds};
+ghost use Rattle.pep508_tree.specs.Disjoint.{AreDisjoint};
 ghost use Rattle.pep508_tree.specs.Interning.{counted};
 ghost use Rattle.pep508_tree.specs.Nodes.{AreSound};
 
 use crate::conjoiner::Conjoiner;
 use crate::tree::MarkerTree;
 use std::alloc::{AllocError, Global};
+use std::collections::BTreeSet;
 use std::marker::Model;
 
 /// Makes marker trees, and keeps their nodes, in memory of the allocator that it was made with.
@@ -40,7 +42,8 @@ impl Interner {
         }
     }
 
-    /// How often `and` and `or` were called with this interner, refused calls among them. Stops at `u64::MAX`.
+    /// How often `and` and `or` were called with this interner, refused calls among them. Stops at
+    /// `u64::MAX`.
     pub fn conjunctions(&self) -> u64
         ensures { result ≡ self.now.conjunctions }
     {
@@ -70,5 +73,20 @@ impl Interner {
     {
         self.conjunctions = self.conjunctions.saturating_add(1);
         self.conjoiner.conjunction(a, b)
+    }
+
+    /// Whether two trees never hold together.
+    pub(crate) fn are_disjoint(
+        &self,
+        alloc: Global,
+        a: MarkerTree,
+        b: MarkerTree,
+    ) -> Result<bool, AllocError>
+        requires a { IsTree self.now.nodes a }
+        requires b { IsTree self.now.nodes b }
+        ensures { IfOk result (λ yes. IsTrue yes ↔ AreDisjoint self.now.nodes a b) }
+    {
+        let mut apart = BTreeSet::new(alloc);
+        self.conjoiner.are_disjoint(alloc, &mut apart, a, b)
     }
 }

@@ -26,8 +26,8 @@ use std::marker::Model;
 /// What stands in two trees for one answer.
 pub(crate) type Pair = (MarkerTree, MarkerTree);
 
-/// What is asked of one variable, and what stands for each answer: between a key's boundaries, the first below
-/// them all, or for either truth of a flag.
+/// What is asked of one variable, and what stands for each answer: between a key's boundaries, the first
+/// below them all, or for either truth of a flag.
 #[derive(Drop)]
 pub(crate) enum Form<C> {
     Versions(VersionVariable, C, Vec<Branch<Version, C>>),

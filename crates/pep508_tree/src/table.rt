@@ -18,8 +18,8 @@ use std::collections::BTreeMap;
 use std::marker::Model;
 use std::rc::Rc;
 
-/// The nodes in the order in which they were made, and where each stands. A node and its key are one value with
-/// two owners.
+/// The nodes in the order in which they were made, and where each stands. A node and its key are one value
+/// with two owners.
 #[derive(Drop)]
 pub(crate) struct NodeTable {
     nodes: Vec<Rc<Node>>,
@@ -122,7 +122,8 @@ impl NodeTable {
         requires a_node { 0 < a.place }
         requires b_node { 0 < b.place }
         ensures either { (result ≡ (a, b)) ⊎ (result ≡ (b, a)) }
-        ensures ordered { is_gt (text_cmp (first_place self.now result.0) (first_place self.now result.1)) ≡ false }
+        ensures ordered { is_gt (text_cmp (first_place self.now result.0) (first_place self.now result.1))
+            ≡ false }
     {
         let first: &Node = &self.nodes[a.place() - 1];
         let second: &Node = &self.nodes[b.place() - 1];
@@ -133,8 +134,8 @@ impl NodeTable {
         }
     }
 
-    /// The pairs of what stands in two trees for each answer about the variable that comes first in them, without
-    /// the trees' signs. The first tree's variable does not come after that of the second.
+    /// The pairs of what stands in two trees for each answer about the variable that comes first in them,
+    /// without the trees' signs. The first tree's variable does not come after that of the second.
     pub fn split(&self, a: MarkerTree, b: MarkerTree) -> Result<Form<Pair>, AllocError>
         requires a { IsTree self.now a }
         requires b { IsTree self.now b }
@@ -172,8 +173,8 @@ impl NodeTable {
         }
     }
 
-    /// The tree of a form, of which each child asks for later variables only: its only child, where it has one,
-    /// and else the tree of its node.
+    /// The tree of a form, of which each child asks for later variables only: its only child, where it has
+    /// one, and else the tree of its node.
     pub fn store(&mut self, form: Form<MarkerTree>) -> Result<MarkerTree, AllocError>
         requires made { AllChildren (IsTree self.old) (record_of form) }
         requires above { AllChildren (Above self.old (node_place (record_of form))) (record_of form) }

@@ -17,7 +17,8 @@ returns-then-place-eq0 c nodes made other =
           (first_never nodes c.args.a c.args.b place (sym c.is_negated.ensures ∙ w.if-is_negated.true))
       | else-is_negated w ↦
           subst (Conjunction nodes nodes c.args.a c.args.b) (sym w.result-is)
-          (first_always nodes c.args.a c.args.b place (sym c.is_negated.ensures ∙ w.if-is_negated.false) other)
+          (first_always nodes c.args.a c.args.b place (sym c.is_negated.ensures ∙ w.if-is_negated.false)
+          other)
     ]
 
 pub returns-then-place-eq0-2 : goal.returns-then-place-eq0-2
@@ -27,25 +28,30 @@ returns-then-place-eq0-2 c nodes made other =
       | then-is_negated-2 w ↦
           subst (Conjunction nodes nodes c.args.a c.args.b) (sym w.result-is)
           (conjunction_turned nodes nodes c.args.b c.args.a c.args.b
-          (first_never nodes c.args.b c.args.a place (sym c.is_negated-then-place-eq0-2.ensures ∙ w.if-is_negated-2.true)))
+          (first_never nodes c.args.b c.args.a place
+          (sym c.is_negated-then-place-eq0-2.ensures ∙ w.if-is_negated-2.true)))
       | else-is_negated-2 w ↦
           subst (Conjunction nodes nodes c.args.a c.args.b) (sym w.result-is)
           (conjunction_turned nodes nodes c.args.b c.args.a c.args.a
-          (first_always nodes c.args.b c.args.a place (sym c.is_negated-then-place-eq0-2.ensures ∙ w.if-is_negated-2.false) made))
+          (first_always nodes c.args.b c.args.a place
+          (sym c.is_negated-then-place-eq0-2.ensures ∙ w.if-is_negated-2.false) made))
     ]
 
 pub returns : goal.returns
 returns c nodes made other =
-    let place : c.args.a.place ≡ c.args.b.place = sym c.place-3.ensures ∙ c.if-place.false ∙ c.place-4.ensures in
+    let place : c.args.a.place ≡ c.args.b.place = sym c.place-3.ensures ∙ c.if-place.false
+    ∙ c.place-4.ensures in
     elim c.if-is_negated-3.branch [
       | then-is_negated-3 w ↦
           subst (Conjunction nodes nodes c.args.a c.args.b) (sym w.result-is)
           (both_same nodes c.args.a c.args.b
           (tree_is c.args.a c.args.b place
-          (sym c.is_negated-2.ensures ∙ bools_alike _ _ w.if-is_negated-3.true ∙ c.is_negated-3.ensures)) made)
+          (sym c.is_negated-2.ensures ∙ bools_alike _ _ w.if-is_negated-3.true ∙ c.is_negated-3.ensures))
+          made)
       | else-is_negated-3 w ↦
           subst (Conjunction nodes nodes c.args.a c.args.b) (sym w.result-is)
           (both_opposite nodes c.args.a c.args.b
           (tree_is c.args.b (negation c.args.a) (sym place)
-          (sym c.is_negated-3.ensures ∙ bools_apart _ _ w.if-is_negated-3.false ∙ ap not c.is_negated-2.ensures)))
+          (sym c.is_negated-3.ensures ∙ bools_apart _ _ w.if-is_negated-3.false
+          ∙ ap not c.is_negated-2.ensures)))
     ]

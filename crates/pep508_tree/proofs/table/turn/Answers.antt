@@ -6,7 +6,9 @@ use Rattle.pep508_tree.proofs.table.turn.Goals as goal
 pub loop-branch-preserved : goal.loop-branch-preserved
 loop-branch-preserved g c =
     let item = get_or c.loop-branch.later c.loop-branch.branch-index c.branch-item.result in
-    ap (λ child. set c.loop-branch.later c.loop-branch.branch-index (record { boundary = item.boundary; child = child }))
+    ap (λ child. set c.loop-branch.later c.loop-branch.branch-index
+    (record { boundary = item.boundary; child = child }))
     c.negate-branch.ensures
-    ∙ change_more turned_branch c.branch-item.result c.args.later.now c.loop-branch.later c.loop-branch.branch-index
+    ∙ change_more turned_branch c.branch-item.result c.args.later.now c.loop-branch.later
+    c.loop-branch.branch-index
     c.loop-branch-test.true c.loop-branch.invariant

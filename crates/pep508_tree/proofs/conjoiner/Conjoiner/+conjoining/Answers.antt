@@ -32,7 +32,8 @@ conjunction-store-requires-clause-made t c =
     let b = c.in_order-a.result.1 in
     let pairs = record_of c.in_ok-pairs.pairs in
     let trees = c.deref-2.result.now in
-    let met = meet_by (ArePairs c.args.self.now c.conjunctions.new.self a b) c.deref.result.now (children pairs)
+    let met = meet_by (ArePairs c.args.self.now c.conjunctions.new.self a b) c.deref.result.now
+    (children pairs)
     c.in_ok-trees.trees.items trees (c.deref.ensures.value ∙ c.in_ok-children.ensures) c.deref-2.ensures.value
     c.in_ok-trees.ensures.made in
     subst (AllChildren (IsTree c.conjunctions.new.self)) (sym c.in_ok-joined.ensures)
@@ -44,10 +45,12 @@ conjunction-store-requires-clause-above t c =
     let b = c.in_order-a.result.1 in
     let pairs = record_of c.in_ok-pairs.pairs in
     let trees = c.deref-2.result.now in
-    let met = meet_by (ArePairs c.args.self.now c.conjunctions.new.self a b) c.deref.result.now (children pairs)
+    let met = meet_by (ArePairs c.args.self.now c.conjunctions.new.self a b) c.deref.result.now
+    (children pairs)
     c.in_ok-trees.trees.items trees (c.deref.ensures.value ∙ c.in_ok-children.ensures) c.deref-2.ensures.value
     c.in_ok-trees.ensures.made in
-    subst (λ node. AllChildren (Above c.conjunctions.new.self (node_place node)) node) (sym c.in_ok-joined.ensures)
+    subst (λ node. AllChildren (Above c.conjunctions.new.self (node_place node)) node)
+    (sym c.in_ok-joined.ensures)
     (above_children c.args.self.now c.conjunctions.new.self a b pairs trees c.in_ok-pairs.ensures met)
 
 pub conjunction-store-requires-clause-rises : goal.conjunction-store-requires-clause-rises
@@ -57,7 +60,8 @@ conjunction-store-requires-clause-rises t c =
 
 pub conjunction-store-requires-clause-joined : goal.conjunction-store-requires-clause-joined
 conjunction-store-requires-clause-joined t c =
-    subst IsJoined (sym c.in_ok-joined.ensures) (is_joined (record_of c.in_ok-pairs.pairs) c.deref-2.result.now)
+    subst IsJoined (sym c.in_ok-joined.ensures)
+    (is_joined (record_of c.in_ok-pairs.pairs) c.deref-2.result.now)
 
 pub conjunction-keep-requires-clause-conjunction : goal.conjunction-keep-requires-clause-conjunction
 conjunction-keep-requires-clause-conjunction t c =
@@ -65,13 +69,15 @@ conjunction-keep-requires-clause-conjunction t c =
     let b = c.in_order-a.result.1 in
     let pairs = record_of c.in_ok-pairs.pairs in
     let trees = c.deref-2.result.now in
-    let met = meet_by (ArePairs c.args.self.now c.conjunctions.new.self a b) c.deref.result.now (children pairs)
+    let met = meet_by (ArePairs c.args.self.now c.conjunctions.new.self a b) c.deref.result.now
+    (children pairs)
     c.in_ok-trees.trees.items trees (c.deref.ensures.value ∙ c.in_ok-children.ensures) c.deref-2.ensures.value
     c.in_ok-trees.ensures.made in
     let old = c.args.self.now in
     let now = c.conjunctions.new.self in
     let new = c.store.new.self in
-    let made = either_made old c.args.a c.args.b c.in_order-a.result c.in_order-a.ensures.either c.requires.a c.requires.b in
+    let made = either_made old c.args.a c.args.b c.in_order-a.result c.in_order-a.ensures.either c.requires.a
+    c.requires.b in
     conjunction_now old new a b c.in_ok-tree.tree
     (extends_on old now new c.in_ok-trees.ensures.keeps c.in_ok-tree.ensures.keeps) made.0 made.1
     (conjunction_made old now a b pairs trees c.in_ok-pairs.ensures met new c.in_ok-tree.tree
@@ -83,7 +89,8 @@ conjunction-returns-clause-made t c =
     let b = c.in_order-a.result.1 in
     let pairs = record_of c.in_ok-pairs.pairs in
     let trees = c.deref-2.result.now in
-    let met = meet_by (ArePairs c.args.self.now c.conjunctions.new.self a b) c.deref.result.now (children pairs)
+    let met = meet_by (ArePairs c.args.self.now c.conjunctions.new.self a b) c.deref.result.now
+    (children pairs)
     c.in_ok-trees.trees.items trees (c.deref.ensures.value ∙ c.in_ok-children.ensures) c.deref-2.ensures.value
     c.in_ok-trees.ensures.made in
     let old = c.args.self.now in
@@ -102,12 +109,14 @@ conjunctions-loop-pair-preserved t c =
     let pair = c.pair-item.result in
     let tree = c.in_ok-tree.tree in
     let are_made = λ (p : Tree × Tree). IsTree old p.0 × IsTree old p.1 in
-    let made = each_of_list are_made c.args.pairs.now c.loop-pair.pair-index pair c.requires.made c.loop-pair-test.true c.pair-item.is in
+    let made = each_of_list are_made c.args.pairs.now c.loop-pair.pair-index pair c.requires.made
+    c.loop-pair-test.true c.pair-item.is in
     let first : c.turned.result ≡ turned c.args.a.negated pair.0 =
     c.turned.ensures ∙ ap (λ s. turned s pair.0) c.is_negated.ensures in
     let second : c.turned-in-loop-pair.result ≡ turned c.args.b.negated pair.1 =
     c.turned-in-loop-pair.ensures ∙ ap (λ s. turned s pair.1) c.is_negated-in-loop-pair.ensures in
-    conjoined_more old now new c.args.a c.args.b c.args.pairs.now c.loop-pair.trees.items c.push.new.self.items
+    conjoined_more old now new c.args.a c.args.b c.args.pairs.now c.loop-pair.trees.items
+    c.push.new.self.items
     c.loop-pair.pair-index pair tree c.loop-pair.invariant c.loop-pair-test.true c.pair-item.is made
     c.in_ok-tree.ensures.keeps
     (subst (λ x. Conjunction now new x (turned c.args.b.negated pair.1) tree) first

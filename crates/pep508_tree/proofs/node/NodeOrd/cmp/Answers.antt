@@ -1,4 +1,4 @@
-use Rattle.std.proofs.Common.{◌≡◌, ◌∙◌, ap, ap₂, sym}
+use Rattle.std.proofs.Common.{◌∙◌, ap, ap₂, sym}
 use Rattle.std.specs.Ordering.{is_ne, ordering_then}
 use Rattle.std.specs.Cmp.Lexicographic.{slice_cmp}
 use Rattle.pep440_rs.specs.Order.{version_cmp}
@@ -11,16 +11,20 @@ pub returns-then-is_ne : goal.returns-then-is_ne
 unfolding node_cmp
 returns-then-is_ne c =
     c.cmp_variable-variables.ensures
-    ∙ first_decides _ _ (ap is_ne (sym c.cmp_variable-variables.ensures) ∙ sym c.is_ne.ensures ∙ c.if-is_ne.true)
+    ∙ first_decides _ _ (ap is_ne (sym c.cmp_variable-variables.ensures) ∙ sym c.is_ne.ensures
+    ∙ c.if-is_ne.true)
 
 pub returns : goal.returns
 unfolding node_cmp
 returns c =
     c.then-3.ensures
-    ∙ ap₂ ordering_then (c.cmp_branches-versions.ensures ∙ ap₂ (slice_cmp (branch_cmp version_cmp)) c.versions.ensures c.versions-2.ensures)
+    ∙ ap₂ ordering_then (c.cmp_branches-versions.ensures
+    ∙ ap₂ (slice_cmp (branch_cmp version_cmp)) c.versions.ensures c.versions-2.ensures)
     (c.then-2.ensures
-    ∙ ap₂ ordering_then (c.cmp_branches-texts.ensures ∙ ap₂ (slice_cmp (branch_cmp text_cmp)) c.texts.ensures c.texts-2.ensures)
+    ∙ ap₂ ordering_then (c.cmp_branches-texts.ensures
+    ∙ ap₂ (slice_cmp (branch_cmp text_cmp)) c.texts.ensures c.texts-2.ensures)
     (c.then.ensures
     ∙ ap₂ ordering_then (c.cmp_places-firsts.ensures ∙ ap₂ tree_cmp c.first.ensures c.first-2.ensures)
     (c.cmp_places-seconds.ensures ∙ ap₂ tree_cmp c.second.ensures c.second-2.ensures)))
-    ∙ second_decides _ _ (ap is_ne (sym c.cmp_variable-variables.ensures) ∙ sym c.is_ne.ensures ∙ c.if-is_ne.false)
+    ∙ second_decides _ _ (ap is_ne (sym c.cmp_variable-variables.ensures) ∙ sym c.is_ne.ensures
+    ∙ c.if-is_ne.false)

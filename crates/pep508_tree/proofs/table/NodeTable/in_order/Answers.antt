@@ -1,4 +1,4 @@
-use Rattle.std.proofs.Common.{◌≡◌, ◌∙◌, ap, sym, is_gt}
+use Rattle.std.proofs.Common.{◌∙◌, ap, sym, is_gt}
 use Rattle.pep508_diagram.specs.Text.{text_cmp}
 use Rattle.pep508_tree.specs.Nodes.{first_place, node_place}
 use Rattle.pep508_tree.proofs.Splitting.{node_is, turned_round}

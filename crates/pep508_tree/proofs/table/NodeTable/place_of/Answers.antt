@@ -9,13 +9,15 @@ use Rattle.pep508_tree.proofs.table.NodeTable.place_of.Goals as goal
 pub overflow_add-result : goal.overflow_add-result
 overflow_add-result c =
     let items = c.self.inside.nodes.items in
-    let found = stand_answer (nodes_of items) c.self.inside.places c.in_ok-node.node _ c.self.invariant.1 c.in-Some.ensures.value in
+    let found = stand_answer (nodes_of items) c.self.inside.places c.in_ok-node.node _ c.self.invariant.1
+    c.in-Some.ensures.value in
     omega (arith, found.0, length_nodes items, c.self.inside.nodes.small, c.self.inside.nodes.ok)
 
 pub returns-in-Some-clause-found : goal.returns-in-Some-clause-found
 returns-in-Some-clause-found c =
     let items = c.self.inside.nodes.items in
-    let found = stand_answer (nodes_of items) c.self.inside.places c.in_ok-node.node _ c.self.invariant.1 c.in-Some.ensures.value in
+    let found = stand_answer (nodes_of items) c.self.inside.places c.in_ok-node.node _ c.self.invariant.1
+    c.in-Some.ensures.value in
     let is : c.in_ok-node.node.value ≡ record_of c.args.form = c.in_ok-node.ensures.ok ∙ c.new.ensures in
     subst (λ nodes. IsPlaced nodes (record_of c.args.form) (c.in-Some.place.now + 1)) c.self.view_is
     (record {
@@ -34,20 +36,26 @@ invariant_of-self c =
 pub invariant_of-self-in_err-insert : goal.invariant_of-self-in_err-insert
 invariant_of-self-in_err-insert c =
     subst (λ items. AreSound (nodes_of items) × StandAt (nodes_of items) c.insert.new.self)
-    (sym c.in_ok-reserve.ensures.items)
-    (c.self.invariant.0, stand_same (nodes_of c.self.inside.nodes.items) c.self.inside.places c.insert.new.self c.in_err-insert.ensures.err c.self.invariant.1)
+    (sym c.in_ok-reserve.ensures.items) (
+      c.self.invariant.0,
+      stand_same (nodes_of c.self.inside.nodes.items) c.self.inside.places
+          c.insert.new.self c.in_err-insert.ensures.err c.self.invariant.1,
+    )
 
-put : (c : goal.In-Ok) → IsPut c.self.inside.nodes.items c.push.new.self.items c.insert.new.self (record_of c.args.form) c.len-place.result
+put : (c : goal.In-Ok) → IsPut c.self.inside.nodes.items c.push.new.self.items c.insert.new.self
+    (record_of c.args.form) c.len-place.result
 put c =
     let items = c.self.inside.nodes.items in
-    put_in items c.push.new.self.items c.self.inside.places c.insert.new.self c.in_ok-node.node c.in_ok-key.key
+    put_in items c.push.new.self.items c.self.inside.places c.insert.new.self c.in_ok-node.node
+    c.in_ok-key.key
     (record_of c.args.form) c.len-place.result
     (c.in-Ok.ensures.items ∙ ap (λ xs. xs ++ c.in_ok-node.node ∷ []) c.in_ok-reserve.ensures.items)
     (c.in_ok-node.ensures.ok ∙ c.new.ensures)
     c.in_ok-key.ensures.cases
     (omega (arith, c.len-place.ensures, ap length c.in_ok-reserve.ensures.items))
     c.self.invariant
-    (subst (λ nodes. IsSoundNode nodes (length nodes) (record_of c.args.form)) (sym c.self.view_is) c.requires)
+    (subst (λ nodes. IsSoundNode nodes (length nodes) (record_of c.args.form)) (sym c.self.view_is)
+    c.requires)
     c.in_default.ensures.value
     c.in_ok-insert.ensures.updates.0
 
@@ -58,5 +66,8 @@ pub returns-clause-found : goal.returns-clause-found
 returns-clause-found c = (put c).placed
 
 pub returns-clause-keeps : goal.returns-clause-keeps
-returns-clause-keeps c =
-    (record_of c.args.form ∷ [], (put c).nodes_are ∙ ap (λ nodes. nodes ++ record_of c.args.form ∷ []) c.self.view_is)
+returns-clause-keeps c = (
+  record_of c.args.form ∷ [],
+  (put c).nodes_are
+      ∙ ap (λ nodes. nodes ++ record_of c.args.form ∷ []) c.self.view_is,
+)
