@@ -8,10 +8,13 @@ mod algebra;
 mod conjoiner;
 mod disjointness;
 mod interner;
+mod leaf;
 pub mod laws;
 mod node;
+mod root;
 mod table;
 mod tree;
 
 pub use interner::Interner;
+pub use root::{Children, TreeNode};
 pub use tree::MarkerTree;
