@@ -1,12 +1,12 @@
 -- The runs of characters between white space, one after another.
-use Rattle.std.proofs.Common.{◌≡◌, ℕ, Bool, true, false, cond, List, [], ◌∷◌, ◌++◌, map, drop, take, refl, ap, sym, subst, ◌∙◌, Some, None}
+use Rattle.std.proofs.Common.{◌≡◌, ℕ, Bool, true, false, cond, List, [], ◌∷◌, ◌++◌, map, drop, take, refl, ap, sym, ◌∙◌, Some, None}
 use Rattle.std.proofs.Common.{append_assoc, not, ◌+◌, ◌==◌, suc, length, arith}
 use Rattle.std.proofs.lemmas.Bool.Decides.{nat_tests}
 use Rattle.std.proofs.lemmas.Str.{chars-nil, encodes-chars}
 use Rattle.std.proofs.lemmas.List.{append-nil}
 use Rattle.std.specs.Prelude.{filter, option_map, Option}
 use Rattle.std.specs.Char.{is_whitespace}
-use Rattle.std.specs.List.{before_first, position_or_len, prefix_len, slice_split, onto_first}
+use Rattle.std.specs.List.{before_first, position_or_len, slice_split, onto_first}
 use Rattle.std.specs.Str.{chars, encode_utf8_all, skip_leading_whitespace, IsUtf8}
 use Rattle.pep440_rs.specs.Record.{VersionRecord}
 use Rattle.pep440_rs.specs.Reading.{version_of}
@@ -75,7 +75,7 @@ run_by c cs e =
     let p = parts_of (c ∷ cs) in
     let n : ℕ = position_or_len is_whitespace cs in
     let begun : before_first is_whitespace (c ∷ cs) ≡ c ∷ take n cs =
-        ap (λ t. take (cond (not t) (1 + n) 0) (c ∷ cs)) e ∙ ap (λ m. take m (c ∷ cs)) (sym (one_more n)) in
+    ap (λ t. take (cond (not t) (1 + n) 0) (c ∷ cs)) e ∙ ap (λ m. take m (c ∷ cs)) (sym (one_more n)) in
     ap (λ parts. map encode_utf8_all (filter is_part parts))
     (p.parts ∙ ap (λ run. run ∷ p.others) begun)
     ∙ ap (λ parts. encode_utf8_all (c ∷ take n cs) ∷ map encode_utf8_all parts) p.same

@@ -1,19 +1,25 @@
 -- Warnings that a reporter has taken.
 use Rattle.std.proofs.Common.{◌≡◌, ℕ, Bool, true, false, List, [], ◌∷◌, ◌++◌, map, Some, None, Ok, Err, refl, ap, sym, subst, ◌∙◌}
-use Rattle.std.specs.Prelude.{Option, OnOk, IfOk, Result}
+use Rattle.std.specs.Prelude.{Option, OnOk, IfOk, Result, option_map}
+use Rattle.std.specs.Result.{result_ok}
 use Rattle.std.specs.Bool.{OnFalse}
 use Rattle.std.specs.List.{FoldsTo}
 use Rattle.pep508_marker.specs.declared.warnings.MarkerWarningKind.{MarkerWarningKind}
 use Rattle.pep508_marker.specs.Warnings.{Warning}
 use Rattle.pep508_marker.specs.declared.expression.MarkerExpression.{MarkerExpression}
 use Rattle.pep508_marker.specs.declared.warnings.MarkerWarningKind.TheVariants.{ExtraInvalidComparison}
-use Rattle.pep508_marker_comparison.specs.Compared.{Compared, warned_of_name}
+use Rattle.pep508_marker_comparison.specs.Compared.{Compared, warned_of_name, warned_before}
 use Rattle.pep508_marker_comparison.specs.Outcome.{IsWarned, IsCompared}
 
 pub if_ok_so : {X E : Type 0} (P Q : X → Type 0) (result : Result X E) → ((x : X) → P x → Q x) → IfOk result P
     → IfOk result Q
 if_ok_so P Q (Ok x) h k = h x k
 if_ok_so P Q (Err e) h k = tt
+
+pub err_none : {A E V : Type 0} (view : A → V) (found : Result A E) (error : E) (o : Option V)
+    → option_map view (result_ok found) ≡ o → found ≡ Err error → o ≡ None
+err_none view (Ok x) error o h e = absurd (cc)
+err_none view (Err fault) error o h e = sym h
 
 module _ {R : Type 0} (takes : R → Warning → R → Type 0) where
   pub warned_none : (old : R) → IsWarned takes old old []
@@ -69,4 +75,13 @@ module _ {R : Type 0} (takes : R → Warning → R → Type 0) where
   named_then None compared old middle new said h k = record {
     said_is = k.said_is;
     warned = warned_both old middle new (ExtraInvalidComparison ∷ []) compared.warned h k.warned;
+  }
+
+  -- behind the warning of a list that is none
+  pub warned_then : (kind : MarkerWarningKind) (compared : Compared) (old middle new : R)
+      (said : Option MarkerExpression) → IsWarned takes old middle (kind ∷ [])
+      → IsCompared takes middle new said compared → IsCompared takes old new said (warned_before kind compared)
+  warned_then kind compared old middle new said h k = record {
+    said_is = k.said_is;
+    warned = warned_both old middle new (kind ∷ []) compared.warned h k.warned;
   }

@@ -125,3 +125,10 @@ abbrev pub ReadsExpression : {R T E : Type 0} → (R → Warning → R → Type 
 ReadsExpression takes old new text (Ok said) reading =
     (compared : Compared) × (reading ≡ Ok compared) × IsCompared takes old new said compared
 ReadsExpression takes old new text (Err error) reading = Shows text (told_error error) reading
+
+-- the same where no one takes warnings
+abbrev pub SaysExpression : {T E : Type 0} → List ℕ → Result (Option MarkerExpression) (Pep508Error T E)
+    → Result Compared Refused → Type 0
+SaysExpression text (Ok said) reading =
+    (compared : Compared) × (reading ≡ Ok compared) × (option_map expression_of said ≡ compared.said)
+SaysExpression text (Err error) reading = Shows text (told_error error) reading

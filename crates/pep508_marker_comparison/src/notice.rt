@@ -5,9 +5,7 @@ ghost use Rattle.pep508_marker_comparison.specs.Notices.{kind_of};
 ghost use Rattle.pep508_marker_comparison.specs.Compared.{left_out};
 ghost use Rattle.pep508_marker_comparison.specs.Outcome.{IsWarned, IsCompared};
 
-use pep440_rs::{
-    Version, VersionParseError, VersionPatternParseError, VersionSpecifierBuildError,
-};
+use pep440_rs::{Version, VersionParseError, VersionPatternParseError, VersionSpecifierBuildError};
 use pep508_marker::{
     MarkerExpression, MarkerOperator, MarkerValue, MarkerValueVersion, MarkerWarningKind, Reporter,
 };
@@ -61,7 +59,10 @@ impl fmt::Display for Notice<'_> {
     fn fmt<W: fmt::Write>(&self, f: &mut fmt::Formatter<W>) -> fmt::Result {
         match self {
             Notice::Unquoted(key, found) => {
-                write!(f, "Expected double quoted PEP 440 version to compare with {key}, found ")?;
+                write!(
+                    f,
+                    "Expected double quoted PEP 440 version to compare with {key}, found "
+                )?;
                 write!(f, "{found}, will be ignored")
             }
             Notice::Listed(key, text, fault) => {
@@ -77,10 +78,16 @@ impl fmt::Display for Notice<'_> {
                 write!(f, "{text}, will be ignored: {fault}")
             }
             Notice::Operator(key, version, operator) => {
-                write!(f, "Expected PEP 440 version operator to compare {key} with ")?;
+                write!(
+                    f,
+                    "Expected PEP 440 version operator to compare {key} with "
+                )?;
                 write!(f, "`{version}`, found `{operator}`, will be ignored")
             }
-            Notice::Combination(fault) => write!(f, "Invalid operator/version combination: {fault}"),
+            Notice::Combination(fault) => write!(
+                f,
+                "Invalid operator/version combination: {fault}"
+            ),
             Notice::Keys => write!(
                 f,
                 "Comparing two markers with each other doesn't make any sense, will be ignored"
@@ -92,7 +99,10 @@ impl fmt::Display for Notice<'_> {
             ),
             Notice::Name(text, fault) => write!(f, "Expected extra name (found `{text}`): {fault}"),
             Notice::Quoted(left, operator, right) => {
-                write!(f, "Comparing two quoted strings with each other doesn't make sense: ")?;
+                write!(
+                    f,
+                    "Comparing two quoted strings with each other doesn't make sense: "
+                )?;
                 write!(f, "'{left}' {operator} '{right}', will be ignored")
             }
         }

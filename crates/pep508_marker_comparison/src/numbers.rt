@@ -77,8 +77,17 @@ fn compare_pattern<R: Reporter>(
         Err(error) => return leave_out(alloc, reporter, Notice::Pattern(key, text, &error)),
     };
     match operator.to_pep440_operator() {
-        Some(sign) => say(alloc, reporter, key, VersionSpecifier::from_pattern(sign, pattern)),
-        None => leave_out(alloc, reporter, Notice::Operator(key, pattern.version(), operator)),
+        Some(sign) => say(
+            alloc,
+            reporter,
+            key,
+            VersionSpecifier::from_pattern(sign, pattern),
+        ),
+        None => leave_out(
+            alloc,
+            reporter,
+            Notice::Operator(key, pattern.version(), operator),
+        ),
     }
 }
 
@@ -100,7 +109,12 @@ pub(crate) fn compare_turned<R: Reporter>(
         Err(error) => return leave_out(alloc, reporter, Notice::Single(key, text, &error)),
     };
     match operator.to_pep440_operator() {
-        Some(sign) => say(alloc, reporter, key, VersionSpecifier::from_version(sign, version)),
+        Some(sign) => say(
+            alloc,
+            reporter,
+            key,
+            VersionSpecifier::from_version(sign, version),
+        ),
         None => leave_out(alloc, reporter, Notice::Operator(key, &version, operator)),
     }
 }

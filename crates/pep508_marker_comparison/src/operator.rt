@@ -38,9 +38,13 @@ fn refuse_operator<'a>(alloc: Global, start: Cursor<'a>, text: &str, end: Cursor
     ensures fits { Fits result.kind Malformed }
     ensures of { IsOf start.entry result }
 {
-    refuse_between(start, end, malformed(format!(in alloc;
-        "Expected a valid marker operator (such as `>=` or `not in`), found `{text}`"
-    )))
+    refuse_between(
+        start,
+        end,
+        malformed(format!(in alloc;
+            "Expected a valid marker operator (such as `>=` or `not in`), found `{text}`"
+        )),
+    )
 }
 
 /// An operator as far as no character of a kind ends it.

@@ -2,9 +2,8 @@
 
 ghost use Rattle.std.specs.Prelude.{◌≡◌, IfErr};
 ghost use Rattle.std.specs.Str.{chars};
-ghost use Rattle.pep508_error.specs.Cursors.{rest_of};
 ghost use Rattle.pep508_marker_comparison.specs.SideReading.{expression_at};
-ghost use Rattle.pep508_marker_comparison.specs.Outcome.{behind, IsOf, Tells, ReadsExpression, ReadsWhole};
+ghost use Rattle.pep508_marker_comparison.specs.Outcome.{behind, IsOf, ReadsExpression, ReadsWhole, SaysExpression};
 
 use crate::comparison::read_comparison;
 use crate::place::{malformed, refuse_rest};
@@ -39,8 +38,7 @@ pub fn parse_expression<T: Pep508Url>(
     alloc: Global,
     text: &str,
 ) -> Result<Option<MarkerExpression>, Pep508Error<T>>
-    ensures { (old : Silent) → ReadsExpression ⟦<Silent as Reporter>⟧.takes old old text.now result
-        (expression_at (chars text.now)) }
+    ensures { SaysExpression text.now result (expression_at (chars text.now)) }
 {
     parse_expression_reporter(alloc, text, &mut Silent)
 }
@@ -61,8 +59,9 @@ fn read_whole<'a, R: Reporter>(
     let end = later.after_whitespace();
     match end.peek() {
         None => Ok(said),
-        Some(c) => Err(refuse_rest(end, malformed(format!(in alloc;
-            "Unexpected character '{c}', expected end of input"
-        )))),
+        Some(c) => Err(refuse_rest(
+            end,
+            malformed(format!(in alloc; "Unexpected character '{c}', expected end of input")),
+        )),
     }
 }

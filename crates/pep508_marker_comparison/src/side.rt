@@ -59,18 +59,19 @@ fn read_quoted<'a>(
 }
 
 /// A key.
-fn read_key<'a>(
-    alloc: Global,
-    start: Cursor<'a>,
-) -> Result<(MarkerValue, Cursor<'a>), Refusal<'a>>
+fn read_key<'a>(alloc: Global, start: Cursor<'a>) -> Result<(MarkerValue, Cursor<'a>), Refusal<'a>>
     ensures read { Reads value_of result (key_at (cut_before ends_key (behind start.entry))) }
     ensures stays { StaysIn start.entry result }
 {
     let (text, later) = cut(start, Stop::Key);
     match MarkerValue::from_str(alloc, text) {
         Ok(key) => Ok((key, later)),
-        Err(_) => Err(refuse_between(start, later, malformed(format!(in alloc;
-            "Expected a quoted string or a valid marker name, found `{text}`"
-        )))),
+        Err(_) => Err(refuse_between(
+            start,
+            later,
+            malformed(format!(in alloc;
+                "Expected a quoted string or a valid marker name, found `{text}`"
+            )),
+        )),
     }
 }

@@ -25,7 +25,13 @@ impl Stop {
         ensures { result ≡ stops_at self c }
     {
         match self {
-            Stop::Key => c.is_whitespace() || c == '>' || c == '=' || c == '<' || c == '!' || c == '~' || c == ')',
+            Stop::Key => c.is_whitespace()
+                || c == '>'
+                || c == '='
+                || c == '<'
+                || c == '!'
+                || c == '~'
+                || c == ')',
             Stop::Word => c.is_whitespace() || c == '\'' || c == '"',
             Stop::Signs => !(c == '<' || c == '=' || c == '>' || c == '~' || c == '!'),
             Stop::Space => c.is_whitespace(),
