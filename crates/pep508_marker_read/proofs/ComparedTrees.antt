@@ -1,6 +1,6 @@
 -- Comparisons of markers as trees.
-use Rattle.std.proofs.Common.{◌≡◌, ℕ, Bool, true, false, if◌then◌else◌, List, ◌∷◌, Some, None, Ok, Err, refl, ap, sym, subst, ◌∙◌}
-use Rattle.std.specs.Prelude.{Option, Result, option_map}
+use Rattle.std.proofs.Common.{◌≡◌, ℕ, Bool, true, false, if◌then◌else◌, List, Some, None, Ok, Err, refl, ap, sym, subst, ◌∙◌}
+use Rattle.std.specs.Prelude.{Option}
 use Rattle.std.specs.Str.{skip_leading_whitespace}
 use Rattle.pep440_rs.specs.Record.{VersionRecord}
 use Rattle.pep440_rs.specs.Matching.{SpecifierRecord}
@@ -17,17 +17,16 @@ use Rattle.pep508_marker.specs.declared.expression.MarkerExpression.{MarkerExpre
 use Rattle.pep508_marker.specs.Operators.{inverted, extra_operator}
 use Rattle.pep508_marker.specs.Values.{ValueRecord, VersionKey, TextKey, ExtraKey, Quoted, ExtraRecord}
 use Rattle.pep508_marker.specs.Expression.{ExpressionRecord, expression_of, Version, VersionIn, String, Extra}
-use Rattle.pep508_diagram.specs.Question.{Valuation}
 use Rattle.pep508_tree.specs.Tree.{Tree}
-use Rattle.pep508_tree.specs.Meaning.{NodeRecord, IsTree, holds}
+use Rattle.pep508_tree.specs.Meaning.{NodeRecord}
 use Rattle.pep508_expression.specs.Expressions.{has_points, expression_holds}
 use Rattle.pep508_expression.specs.Trees.{IsComparison}
 use Rattle.pep508_expression.specs.Trees as trees
 use Rattle.pep508_error.specs.declared.cursor.Cursor.{Cursor}
 use Rattle.pep508_error.specs.declared.refusal.RefusalKind.TheVariants.{NumberAtEnd}
 use Rattle.pep508_marker_comparison.specs.Compared.{Compared, compared, left_out, says, of_specifier, specifier_behind, specifier_before, versions_of, runs_of, of_list, version_before, text_compared, of_extra, extra_of, warned_of_name, extra_compared}
-use Rattle.pep508_marker_comparison.specs.SideReading.{Refused, AtEnd, Reading, ◌>>=◌, side_at, operator_at, behind_operator, behind_side, compared_at}
-use Rattle.pep508_marker_comparison.specs.Outcome.{Tells, IsWarned, IsCompared, behind}
+use Rattle.pep508_marker_comparison.specs.SideReading.{AtEnd, Reading, ◌>>=◌, side_at, operator_at, behind_operator, behind_side, compared_at}
+use Rattle.pep508_marker_comparison.specs.Outcome.{Tells, IsCompared, behind}
 use Rattle.pep508_marker_read.specs.Formula.{Says, LeftOut}
 use Rattle.pep508_marker_read.specs.MarkerReading.{Marker, of_said, of_compared, comparison_at}
 use Rattle.pep508_marker_read.specs.TreeReading.{ReadsPart}

@@ -1,6 +1,6 @@
 -- What is left behind a piece that is read is no longer than what the piece was read from.
-use Rattle.std.proofs.Common.{◌≡◌, ℕ, zero, suc, ◌+◌, ◌<◌, ◌≤◌, ◌==◌, arith, Bool, true, false}
-use Rattle.std.proofs.Common.{if◌then◌else◌, List, [], ◌∷◌, length, Ok, Err, refl, ap, sym, subst, ◌∙◌}
+use Rattle.std.proofs.Common.{◌≡◌, ℕ, zero, suc, ◌<◌, ◌≤◌, ◌==◌, arith, Bool, true, false}
+use Rattle.std.proofs.Common.{if◌then◌else◌, List, [], ◌∷◌, length, Ok, Err, refl, ap}
 use Rattle.std.specs.Str.{skip_leading_whitespace}
 use Rattle.pep508_marker_comparison.specs.SideReading.{Reading, Malformed, TooDeep, ◌>>=◌}
 use Rattle.pep508_marker_read.specs.MarkerReading.{Marker, comparison_at, Connective, And, Or, join_with}

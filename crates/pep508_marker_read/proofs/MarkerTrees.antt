@@ -1,16 +1,15 @@
 -- The tree of a marker.
-use Rattle.std.proofs.Common.{◌≡◌, ℕ, ◌==◌, ◌≤◌, zero-le, Bool, true, false, if◌then◌else◌, List, [], ◌∷◌, length, Some, None, Ok, Err, refl, ap, sym, subst, ◌∙◌}
-use Rattle.std.specs.Prelude.{Option, option_map, unwrap_or}
+use Rattle.std.proofs.Common.{◌≡◌, ℕ, ◌==◌, zero-le, true, if◌then◌else◌, List, [], length, Some, None, Ok, Err, ap, sym, subst, ◌∙◌}
+use Rattle.std.specs.Prelude.{Option, unwrap_or}
 use Rattle.std.specs.Str.{skip_leading_whitespace}
 use Rattle.pep508_marker.specs.Expression.{ExpressionRecord}
 use Rattle.pep508_tree.specs.Tree.{Tree, always}
-use Rattle.pep508_tree.specs.Meaning.{NodeRecord, IsTree, holds}
+use Rattle.pep508_tree.specs.Meaning.{NodeRecord}
 use Rattle.pep508_tree.proofs.Disjoint.{always_holds}
 use Rattle.pep508_error.specs.declared.refusal.RefusalKind.{RefusalKind}
-use Rattle.pep508_expression.specs.Expressions.{expression_holds}
 use Rattle.pep508_marker_comparison.specs.SideReading.{Malformed, ◌>>=◌, if_end}
 use Rattle.pep508_marker_comparison.specs.Outcome.{Tells}
-use Rattle.pep508_marker_read.specs.Formula.{Formula, truth_in}
+use Rattle.pep508_marker_read.specs.Formula.{Formula}
 use Rattle.pep508_marker_read.specs.MarkerReading.{Marker, Or, marker_at}
 use Rattle.pep508_marker_read.specs.MarkerOutcome.{IsTreeOf}
 use Rattle.pep508_marker_read.specs.TreeReading.{chain_at, IsPartTree}

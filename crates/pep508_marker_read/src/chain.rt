@@ -156,11 +156,7 @@ fn strip<'a>(place: Cursor<'a>, at: char) -> Option<Cursor<'a>>
 }
 
 /// The place behind the bracket that closes another.
-fn close<'a>(
-    alloc: Global,
-    opening: Cursor<'a>,
-    end: Cursor<'a>,
-) -> Result<Cursor<'a>, Refusal<'a>>
+fn close<'a>(alloc: Global, opening: Cursor<'a>, end: Cursor<'a>) -> Result<Cursor<'a>, Refusal<'a>>
     requires { IsBehind opening end }
     ensures read { (marker : Marker) → MatchResult result
         (λ later. closed (marker, behind end.entry) ≡ Ok (marker, behind later))
@@ -181,8 +177,5 @@ fn refuse_depth<'a>(alloc: Global, opening: Cursor<'a>) -> Refusal<'a>
     ensures fits { Fits result.kind TooDeep }
     ensures of { IsOf opening.entry result }
 {
-    opening.refuse_char(malformed(String::from_str(
-        alloc,
-        "Brackets are nested deeper than 256",
-    )))
+    opening.refuse_char(malformed(String::from_str(alloc, "Brackets are nested deeper than 256")))
 }

@@ -50,7 +50,7 @@ fn join_parts(
     ensures made { IfOk result (λ tree. IfSome tree (IsTree interner.new.nodes)) }
     ensures truth { IfOk result (λ tree. (v : Valuation) → option_map (λ t. holds interner.new.nodes t v) tree
         ≡ joined (joins (connective word)) (option_map (λ t. holds interner.old.nodes t v) a)
-            (option_map (λ t. holds interner.old.nodes t v) b)) }
+        (option_map (λ t. holds interner.old.nodes t v) b)) }
     ensures keeps { Extends interner.old.nodes interner.new.nodes }
     ensures counts { interner.new.conjunctions ≡ interner.old.conjunctions }
 {

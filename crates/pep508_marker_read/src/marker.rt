@@ -45,8 +45,11 @@ pub fn read_marker<'a, R: Reporter>(
     let end = later.after_whitespace();
     match end.peek() {
         None => Ok(tree.unwrap_or(MarkerTree::TRUE)),
-        Some(c) => Err(refuse_rest(end, malformed(format!(in alloc;
-            "Unexpected character '{c}', expected 'and', 'or' or end of input"
-        )))),
+        Some(c) => Err(refuse_rest(
+            end,
+            malformed(format!(in alloc;
+                "Unexpected character '{c}', expected 'and', 'or' or end of input"
+            )),
+        )),
     }
 }

@@ -35,6 +35,10 @@ impl Word {
         ensures stays { IfSome result (IsBehind place.entry) }
     {
         let (run, later) = cut_run(place.after_whitespace());
-        if run == self.text() { Some(later) } else { None }
+        if run == self.text() {
+            Some(later)
+        } else {
+            None
+        }
     }
 }

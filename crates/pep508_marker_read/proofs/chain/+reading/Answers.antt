@@ -1,4 +1,4 @@
-use Rattle.std.proofs.Common.{◌≡◌, ◌∙◌, map, sym, subst}
+use Rattle.std.proofs.Common.{◌≡◌, ◌∙◌, map, subst}
 use Rattle.std.specs.Prelude.{option_map}
 use Rattle.std.proofs.lemmas.Result.{err_from_is_err_and}
 use Rattle.pep508_diagram.specs.Question.{Valuation}
@@ -8,7 +8,7 @@ use Rattle.pep508_marker_comparison.specs.Outcome.{behind}
 use Rattle.pep508_marker_read.specs.TreeReading.{connective, inner_at, piece_at, chain_truth, ReadsPart}
 use Rattle.pep508_marker_read.proofs.Kept.{piece_keeps}
 use Rattle.pep508_marker_read.proofs.Chains.{chain_begins, chain_goes_on, chain_shorter, chain_refused, chain_ends}
-use Rattle.pep508_marker_read.proofs.Chains.{behind_on, part_other, part_opens, inner_refused, closed_is, closed_refused}
+use Rattle.pep508_marker_read.proofs.Chains.{behind_on, part_other, inner_refused, closed_is, closed_refused}
 use Rattle.pep508_marker_read.proofs.chain.+reading.Goals as goal
 
 pub read_chain-loop-later-init : goal.read_chain-loop-later-init
