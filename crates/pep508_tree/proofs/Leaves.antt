@@ -15,13 +15,11 @@ use Rattle.pep508_tree.specs.Nodes.{AllChildren, Above, IsRising, IsJoined, Made
 use Rattle.pep508_tree.specs.Leaves.{constant_branch, with_constants}
 use Rattle.pep508_tree.proofs.Disjoint.{always_holds, never_holds}
 
-constant_holds : (nodes : List NodeRecord) (truth : Bool) (v : Valuation) →
-    holds nodes (constant truth) v ≡ truth
+constant_holds : (nodes : List NodeRecord) (truth : Bool) (v : Valuation) → holds nodes (constant truth) v ≡ truth
 constant_holds nodes true v = always_holds nodes v
 constant_holds nodes false v = never_holds nodes v
 
-above_constant : (nodes : List NodeRecord) (place : List ℕ) (truth : Bool) →
-    Above nodes place (constant truth)
+above_constant : (nodes : List NodeRecord) (place : List ℕ) (truth : Bool) → Above nodes place (constant truth)
 unfolding Above
 above_constant nodes place truth k e = absurd (omega arith)
 

@@ -53,8 +53,7 @@ pub version_given : (v : Valuation) (key : VersionVariable) (p : Point VersionRe
 version_given v key p =
     ap (λ same. cond same p (v.version key)) ((unsigned_Decides (version_rank key) (version_rank key)).1 refl)
 
-pub text_given : (v : Valuation) (key : MarkerValueString) (p : Point (List ℕ)) →
-    (with_text v key p).text key ≡ p
+pub text_given : (v : Valuation) (key : MarkerValueString) (p : Point (List ℕ)) → (with_text v key p).text key ≡ p
 text_given v key p =
     ap (λ same. cond same p (v.text key)) ((unsigned_Decides (text_key_rank key) (text_key_rank key)).1 refl)
 

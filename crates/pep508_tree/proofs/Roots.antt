@@ -26,8 +26,7 @@ root_is nodes sound t some made =
       falls = signed_children (λ c. c.place < t.place) (λ c h. h) turns n
           (weaker_children (λ c. c.place ≤ k) (λ c. c.place < t.place) (λ c h. omega arith) n s.before);
       above = subst (λ p. AllChildren (Above nodes p) (signed turns n)) (sym (signed_place turns n))
-          (signed_children (Above nodes (node_place n)) (above_negation nodes (node_place n)) turns n
-          s.above);
+          (signed_children (Above nodes (node_place n)) (above_negation nodes (node_place n)) turns n s.above);
       place_is = signed_place turns n;
       rises = signed_rises turns n s.rises;
       differ = signed_differ turns n s.differ;

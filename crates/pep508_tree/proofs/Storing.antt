@@ -262,8 +262,7 @@ negation_back a b e = λ i. record {
 }
 
 module _ (P : Tree → Type 0) (stable : (t : Tree) → P t → P (negation t)) where
-  pub turned_branches : {T : Type 0} (first : Tree) (later : List (Branch T Tree)) →
-      AllBranches P first later →
+  pub turned_branches : {T : Type 0} (first : Tree) (later : List (Branch T Tree)) → AllBranches P first later →
       AllBranches P (negation first) (map turned_branch later)
   turned_branches first [] all = stable first all
   turned_branches first (branch ∷ later) all = (stable first all.0, turned_branches branch.child later all.1)
