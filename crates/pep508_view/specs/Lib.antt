@@ -1,0 +1,5 @@
+pub mod Edges
+pub mod Reading
+pub mod Sameness
+pub mod Views
+pub mod ReadOff
