@@ -11,13 +11,13 @@ use Rattle.pep508_tree.specs.Tree.{Tree, always, never}
 use Rattle.pep508_tree.specs.Meaning.{NodeRecord, Versions, Texts, Flagged}
 use Rattle.pep508_tree.specs.Nodes.{signed}
 use Rattle.pep508_tree.specs.Roots.{root_of}
-use Rattle.pep508_view.specs.declared.views.VersionMarkerTree.{VersionMarkerTree}
-use Rattle.pep508_view.specs.declared.views.StringMarkerTree.{StringMarkerTree}
-use Rattle.pep508_view.specs.declared.choices.InMarkerTree.{InMarkerTree}
-use Rattle.pep508_view.specs.declared.choices.ContainsMarkerTree.{ContainsMarkerTree}
-use Rattle.pep508_view.specs.declared.choices.ExtraMarkerTree.{ExtraMarkerTree}
-use Rattle.pep508_view.specs.declared.choices.MarkerExtra.{MarkerExtra}
-use Rattle.pep508_view.specs.declared.choices.MarkerExtra.TheVariants as extra
+use Rattle.pep508_view.specs.declared.version_view.VersionMarkerTree.{VersionMarkerTree}
+use Rattle.pep508_view.specs.declared.text_view.StringMarkerTree.{StringMarkerTree}
+use Rattle.pep508_view.specs.declared.in_view.InMarkerTree.{InMarkerTree}
+use Rattle.pep508_view.specs.declared.contains_view.ContainsMarkerTree.{ContainsMarkerTree}
+use Rattle.pep508_view.specs.declared.extra_view.ExtraMarkerTree.{ExtraMarkerTree}
+use Rattle.pep508_view.specs.declared.extra_view.MarkerExtra.{MarkerExtra}
+use Rattle.pep508_view.specs.declared.extra_view.MarkerExtra.TheVariants as extra
 use Rattle.pep508_view.specs.declared.kind.MarkerTreeKind.{MarkerTreeKind}
 use Rattle.pep508_view.specs.declared.kind.MarkerTreeKind.TheVariants as kind
 use Rattle.pep508_view.specs.Edges.{EdgeOf, edges}

@@ -6,8 +6,11 @@ ghost use Rattle.pep508_tree.specs.Meaning.{IsTree, Flagged};
 ghost use Rattle.pep508_tree.specs.Roots.{root_of, IsRoot};
 ghost use Rattle.pep508_view.specs.Views.{IsKind, viewed};
 
-use crate::choices::{ContainsMarkerTree, ExtraMarkerTree, InMarkerTree, MarkerExtra};
-use crate::views::{StringMarkerTree, VersionMarkerTree};
+use crate::contains_view::ContainsMarkerTree;
+use crate::extra_view::{ExtraMarkerTree, MarkerExtra};
+use crate::in_view::InMarkerTree;
+use crate::text_view::StringMarkerTree;
+use crate::version_view::VersionMarkerTree;
 use pep508_diagram::Flag;
 use pep508_tree::{Interner, MarkerTree, TreeNode};
 

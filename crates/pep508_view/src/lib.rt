@@ -6,15 +6,21 @@
 //! only. Contracts see a view as the node at the tree's root, with the tree's sign on its children.
 #![tactic(auto)]
 
-mod choices;
+mod contains_view;
 mod edge;
 mod edges;
+mod extra_view;
+mod in_view;
 mod kind;
 pub mod laws;
-mod views;
+mod text_view;
+mod version_view;
 
-pub use choices::{ContainsMarkerTree, ExtraMarkerTree, InMarkerTree, MarkerExtra};
+pub use contains_view::ContainsMarkerTree;
 pub use edge::Edge;
 pub use edges::{Edges, TextEdges};
+pub use extra_view::{ExtraMarkerTree, MarkerExtra};
+pub use in_view::InMarkerTree;
 pub use kind::{MarkerTreeKind, MarkerView};
-pub use views::{StringMarkerTree, VersionMarkerTree};
+pub use text_view::StringMarkerTree;
+pub use version_view::VersionMarkerTree;
