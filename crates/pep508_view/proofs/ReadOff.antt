@@ -42,33 +42,40 @@ shown_root nodes tree node e h = subst (λ (root : Option NodeRecord). IfSome ro
 module _ (nodes : List NodeRecord) (tree : Tree) where
   -- ---- truth
 
-  one_leads : {T : Type 0} (cmp : T → T → Ordering) → IsTotalOrder cmp → (first : Tree) (later : List (Branch T Tree))
-      (p : Point T) (v : Valuation) → RisingBranches cmp later →
+  one_leads : {T : Type 0} (cmp : T → T → Ordering) → IsTotalOrder cmp → (first : Tree)
+      (later : List (Branch T Tree)) (p : Point T) (v : Valuation) → RisingBranches cmp later →
       holds nodes tree v ≡ holds nodes (branch_at cmp first later p) v →
       JustOne cmp (edges first later) p (HoldsAs nodes v tree)
   one_leads cmp o first later p v rising h =
-      weaker_lead cmp o (edges first later) p (λ subtree. subtree ≡ branch_at cmp first later p) (HoldsAs nodes v tree)
+      weaker_lead cmp o (edges first later) p (λ subtree. subtree ≡ branch_at cmp first later p)
+      (HoldsAs nodes v tree)
       (λ subtree e. h ∙ sym (ap (λ (t : Tree). holds nodes t v) e))
       (one_holds cmp o first later p rising)
 
-  versions_read : (negated : Bool) (key : VersionVariable) (first : Tree) (later : List (Branch VersionRecord Tree)) →
+  versions_read : (negated : Bool) (key : VersionVariable) (first : Tree)
+      (later : List (Branch VersionRecord Tree)) →
       IsRoot nodes tree (signed negated (Versions key first later)) → (v : Valuation) →
       JustOne version_cmp (version_edges (signed negated (Versions key first later))) (v.version key)
       (HoldsAs nodes v tree)
   versions_read true key first later root v =
-      one_leads version_cmp version_cmp_total (negation first) (map turned_branch later) (v.version key) v root.rises (root.holds_is v)
+      one_leads version_cmp version_cmp_total (negation first) (map turned_branch later) (v.version key) v
+      root.rises (root.holds_is v)
   versions_read false key first later root v =
       one_leads version_cmp version_cmp_total first later (v.version key) v root.rises (root.holds_is v)
 
-  texts_read : (negated : Bool) (key : MarkerValueString) (first : Tree) (later : List (Branch (List ℕ) Tree)) →
+  texts_read : (negated : Bool) (key : MarkerValueString) (first : Tree)
+      (later : List (Branch (List ℕ) Tree)) →
       IsRoot nodes tree (signed negated (Texts key first later)) → (v : Valuation) →
-      JustOne text_cmp (text_edges (signed negated (Texts key first later))) (v.text key) (HoldsAs nodes v tree)
+      JustOne text_cmp (text_edges (signed negated (Texts key first later))) (v.text key)
+      (HoldsAs nodes v tree)
   texts_read true key first later root v =
-      one_leads text_cmp nat_list_cmp_total (negation first) (map turned_branch later) (v.text key) v root.rises (root.holds_is v)
+      one_leads text_cmp nat_list_cmp_total (negation first) (map turned_branch later) (v.text key) v
+      root.rises (root.holds_is v)
   texts_read false key first later root v =
       one_leads text_cmp nat_list_cmp_total first later (v.text key) v root.rises (root.holds_is v)
 
-  pub read_off : ((v : Valuation) → holds nodes always v ≡ true) → ((v : Valuation) → holds nodes never v ≡ false) →
+  pub read_off : ((v : Valuation) → holds nodes always v ≡ true) →
+      ((v : Valuation) → holds nodes never v ≡ false) →
       IfSome (root_of nodes tree) (IsRoot nodes tree) → (kind : MarkerTreeKind) → IsKind nodes tree kind →
       IsReadOff nodes tree kind
   read_off yes_always no_never root kind.True is =
@@ -98,9 +105,10 @@ module _ (nodes : List NodeRecord) (tree : Tree) where
     above = subst (λ (place : List ℕ). Above nodes place subtree) e above;
   }
 
-  branches_below : {T : Type 0} (lower : Bound T) (first : Tree) (later : List (Branch T Tree)) (place : List ℕ) →
-      place ≡ first_place nodes tree → AllBranches (IsTree nodes) first later →
-      AllBranches (λ child. child.place < tree.place) first later → AllBranches (Above nodes place) first later →
+  branches_below : {T : Type 0} (lower : Bound T) (first : Tree) (later : List (Branch T Tree))
+      (place : List ℕ) → place ≡ first_place nodes tree → AllBranches (IsTree nodes) first later →
+      AllBranches (λ child. child.place < tree.place) first later →
+      AllBranches (Above nodes place) first later →
       AllByRecursion (IsBelow nodes tree) (map (λ edge. edge.tree) (edges_from lower first later))
   branches_below lower first [] place e made falls above = (below_of place e first made falls above, tt)
   branches_below lower first (b ∷ later) place e made falls above = (
@@ -108,21 +116,25 @@ module _ (nodes : List NodeRecord) (tree : Tree) where
     branches_below (lower_bound_at (point_of b.boundary)) b.child later place e made.1 falls.1 above.1,
   )
 
-  versions_below : (negated : Bool) (key : VersionVariable) (first : Tree) (later : List (Branch VersionRecord Tree)) →
+  versions_below : (negated : Bool) (key : VersionVariable) (first : Tree)
+      (later : List (Branch VersionRecord Tree)) →
       IsRoot nodes tree (signed negated (Versions key first later)) →
       AllByRecursion (IsBelow nodes tree)
       (map (λ edge. edge.tree) (version_edges (signed negated (Versions key first later))))
   versions_below true key first later root =
-      branches_below Unbounded (negation first) (map turned_branch later) _ root.place_is root.made root.falls root.above
+      branches_below Unbounded (negation first) (map turned_branch later) _ root.place_is root.made root.falls
+      root.above
   versions_below false key first later root =
       branches_below Unbounded first later _ root.place_is root.made root.falls root.above
 
-  texts_below : (negated : Bool) (key : MarkerValueString) (first : Tree) (later : List (Branch (List ℕ) Tree)) →
+  texts_below : (negated : Bool) (key : MarkerValueString) (first : Tree)
+      (later : List (Branch (List ℕ) Tree)) →
       IsRoot nodes tree (signed negated (Texts key first later)) →
       AllByRecursion (IsBelow nodes tree)
       (map (λ edge. edge.tree) (text_edges (signed negated (Texts key first later))))
   texts_below true key first later root =
-      branches_below Unbounded (negation first) (map turned_branch later) _ root.place_is root.made root.falls root.above
+      branches_below Unbounded (negation first) (map turned_branch later) _ root.place_is root.made root.falls
+      root.above
   texts_below false key first later root =
       branches_below Unbounded first later _ root.place_is root.made root.falls root.above
 
@@ -144,7 +156,8 @@ module _ (nodes : List NodeRecord) (tree : Tree) where
       texts_below view.negated view.key view.first view.later.now
       (shown_root nodes tree (text_node view) is.1 root)
   subtrees_below root (kind.In view) is =
-      flag_below (In view.key view.text.now) view.set view.unset (shown_root nodes tree (in_node view) is.1 root)
+      flag_below (In view.key view.text.now) view.set view.unset
+      (shown_root nodes tree (in_node view) is.1 root)
   subtrees_below root (kind.Contains view) is =
       flag_below (Contains view.key view.text.now) view.set view.unset
       (shown_root nodes tree (contains_node view) is.1 root)
@@ -153,12 +166,14 @@ module _ (nodes : List NodeRecord) (tree : Tree) where
 
   -- ---- edges
 
-  lie : {T : Type 0} (cmp : T → T → Ordering) → IsTotalOrder cmp → (first : Tree) (later : List (Branch T Tree)) →
-      RisingBranches cmp later → NeighboursDiffer first later →
+  lie : {T : Type 0} (cmp : T → T → Ordering) → IsTotalOrder cmp → (first : Tree)
+      (later : List (Branch T Tree)) → RisingBranches cmp later → NeighboursDiffer first later →
       SpanAll cmp (edges first later) × LeadApart (edges first later)
-  lie cmp o first later rising differ = (span_all cmp o first later rising, lead_apart Unbounded first later differ)
+  lie cmp o first later rising differ =
+      (span_all cmp o first later rising, lead_apart Unbounded first later differ)
 
-  versions_lie : (negated : Bool) (key : VersionVariable) (first : Tree) (later : List (Branch VersionRecord Tree)) →
+  versions_lie : (negated : Bool) (key : VersionVariable) (first : Tree)
+      (later : List (Branch VersionRecord Tree)) →
       IsRoot nodes tree (signed negated (Versions key first later)) →
       SpanAll version_cmp (version_edges (signed negated (Versions key first later)))
       × LeadApart (version_edges (signed negated (Versions key first later)))
@@ -167,7 +182,8 @@ module _ (nodes : List NodeRecord) (tree : Tree) where
   versions_lie false key first later root =
       lie version_cmp version_cmp_total first later root.rises root.differ
 
-  texts_lie : (negated : Bool) (key : MarkerValueString) (first : Tree) (later : List (Branch (List ℕ) Tree)) →
+  texts_lie : (negated : Bool) (key : MarkerValueString) (first : Tree)
+      (later : List (Branch (List ℕ) Tree)) →
       IsRoot nodes tree (signed negated (Texts key first later)) →
       SpanAll text_cmp (text_edges (signed negated (Texts key first later)))
       × LeadApart (text_edges (signed negated (Texts key first later)))

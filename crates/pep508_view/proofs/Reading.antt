@@ -94,10 +94,12 @@ module _ {T : Type 0} (cmp : T → T → Ordering) (o : IsTotalOrder cmp) where
 
   lowest : (first : Tree) (later : List (Branch T Tree)) (edge : EdgeOf T) (others : List (EdgeOf T)) →
       edges first later ≡ edge ∷ others → edge.lower ≡ Unbounded
-  lowest first [] edge others e = let h : record { lower = Unbounded; upper = Unbounded; tree = first } ≡ edge = cc in
+  lowest first [] edge others e =
+      let h : record { lower = Unbounded; upper = Unbounded; tree = first } ≡ edge = cc in
       sym (ap (λ (edge : EdgeOf T). edge.lower) h)
   lowest first (b ∷ later) edge others e =
-      let h : record { lower = Unbounded; upper = upper_bound_at (point_of b.boundary); tree = first } ≡ edge = cc in
+      let upper : Bound T = upper_bound_at (point_of b.boundary) in
+      let h : record { lower = Unbounded; upper = upper; tree = first } ≡ edge = cc in
       sym (ap (λ (edge : EdgeOf T). edge.lower) h)
 
   pub span_all : (first : Tree) (later : List (Branch T Tree)) → RisingBranches cmp later →
@@ -138,10 +140,14 @@ module _ {T : Type 0} (cmp : T → T → Ordering) (o : IsTotalOrder cmp) where
         (not_reached start (point_of b.boundary) p below.0 h),
   )
 
+  -- the edge from a place up to a boundary
+  abbrev edge_to : Point T → Boundary T → Tree → EdgeOf T
+  edge_to start b tree =
+      record { lower = lower_bound_at start; upper = upper_bound_at (point_of b); tree = tree }
+
   -- an edge that has begun holds a point where it has not ended
   goes_up : (start : Point T) (b : Boundary T) (tree : Tree) (p : Point T) → reached start p ≡ true →
-      edge_holds cmp (record { lower = lower_bound_at start; upper = upper_bound_at (point_of b); tree = tree }) p
-      ≡ not (reached (point_of b) p)
+      edge_holds cmp (edge_to start b tree) p ≡ not (reached (point_of b) p)
   goes_up start b tree p h =
       ap (λ s. s && goes_on_to cmp (upper_bound_at (point_of b)) p) (starts_at cmp o start p ∙ h)
       ∙ goes_to cmp o (point_of b) p (at_value b)
@@ -187,8 +193,8 @@ module _ {T : Type 0} (cmp : T → T → Ordering) (o : IsTotalOrder cmp) where
     leads = weaker one.edge.tree one.leads;
   }
 
-  branch_from : (start : Point T) (first : Tree) (b : Branch T Tree) (later : List (Branch T Tree)) (p : Point T) →
-      RisingBranches cmp (b ∷ later) → reached start p ≡ true →
+  branch_from : (start : Point T) (first : Tree) (b : Branch T Tree) (later : List (Branch T Tree))
+      (p : Point T) → RisingBranches cmp (b ∷ later) → reached start p ≡ true →
       (reached (point_of b.boundary) p ≡ true →
       JustOne cmp (edges_from (lower_bound_at (point_of b.boundary)) b.child later) p
       (λ tree. tree ≡ branch_at cmp b.child later p)) →
@@ -196,13 +202,13 @@ module _ {T : Type 0} (cmp : T → T → Ordering) (o : IsTotalOrder cmp) where
       JustOne cmp (edges_from (lower_bound_at start) first (b ∷ later)) p
       (λ tree. tree ≡ branch_at cmp first (b ∷ later) p)
   branch_from start first b later p rising h one true e =
-      passed (record { lower = lower_bound_at start; upper = upper_bound_at (point_of b.boundary); tree = first })
+      passed (edge_to start b.boundary first)
       (edges_from (lower_bound_at (point_of b.boundary)) b.child later) p
       (λ tree. tree ≡ branch_at cmp b.child later p) (λ tree. tree ≡ branch_at cmp first (b ∷ later) p)
       (goes_up start b.boundary first p h ∙ ap not e) (one e)
       (λ tree k. k ∙ sym (ap (λ r. cond r (branch_at cmp b.child later p) first) e))
   branch_from start first b later p rising h one false e =
-      taken (record { lower = lower_bound_at start; upper = upper_bound_at (point_of b.boundary); tree = first })
+      taken (edge_to start b.boundary first)
       (edges_from (lower_bound_at (point_of b.boundary)) b.child later) p
       (λ tree. tree ≡ branch_at cmp first (b ∷ later) p)
       (goes_up start b.boundary first p h ∙ ap not e)
@@ -211,7 +217,8 @@ module _ {T : Type 0} (cmp : T → T → Ordering) (o : IsTotalOrder cmp) where
 
   pub one_from : (start : Point T) (first : Tree) (later : List (Branch T Tree)) (p : Point T) →
       RisingBranches cmp later → IsBefore start later → reached start p ≡ true →
-      JustOne cmp (edges_from (lower_bound_at start) first later) p (λ tree. tree ≡ branch_at cmp first later p)
+      JustOne cmp (edges_from (lower_bound_at start) first later) p
+      (λ tree. tree ≡ branch_at cmp first later p)
   one_from start first [] p rising below h =
       taken (record { lower = lower_bound_at start; upper = Unbounded; tree = first }) [] p
       (λ tree. tree ≡ branch_at cmp first [] p)

@@ -3,7 +3,8 @@
 ghost use Rattle.std.specs.Prelude.{◌≡◌, [], ◌∷◌, true, false, cond};
 ghost use Rattle.std.specs.Ordering.{on};
 ghost use Rattle.std.specs.Cmp.{on_equiv, partial_equiv_from_equiv};
-ghost use Rattle.pep508_view.specs.Sameness.{tree_eq, tree_eq_equiv};
+ghost use Rattle.pep508_view.specs.Sameness.{tree_eq};
+ghost use Rattle.pep508_view.specs.SamenessLaws.{tree_eq_equiv};
 
 use pep508_name::ExtraName;
 use pep508_tree::MarkerTree;
@@ -17,8 +18,8 @@ pub enum MarkerExtra<'a> {
     Arbitrary(&'a str),
 }
 
-/// A view of a tree in which is asked first whether an extra is wanted, as in `extra == 'dev'`. It borrows the
-/// interner, takes no memory, and equals the views of the same tree.
+/// A view of a tree in which is asked first whether an extra is wanted, as in `extra == 'dev'`. It borrows
+/// the interner, takes no memory, and equals the views of the same tree.
 #[derive(Clone, Copy)]
 pub struct ExtraMarkerTree<'a> {
     tree: MarkerTree,

@@ -3,7 +3,8 @@
 ghost use Rattle.std.specs.Prelude.{◌≡◌, [], ◌∷◌, true, false, cond};
 ghost use Rattle.std.specs.Ordering.{on};
 ghost use Rattle.std.specs.Cmp.{on_equiv, partial_equiv_from_equiv};
-ghost use Rattle.pep508_view.specs.Sameness.{tree_eq, tree_eq_equiv};
+ghost use Rattle.pep508_view.specs.Sameness.{tree_eq};
+ghost use Rattle.pep508_view.specs.SamenessLaws.{tree_eq_equiv};
 
 use pep508_diagram::MarkerText;
 use pep508_marker::MarkerValueString;
