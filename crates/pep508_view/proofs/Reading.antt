@@ -20,7 +20,7 @@ use Rattle.pep508_diagram.specs.declared.branch.Branch.{Branch}
 use Rattle.pep508_tree.specs.Tree.{Tree}
 use Rattle.pep508_diagram.specs.Branches.{RisingBranches, branch_at, NeighboursDiffer}
 use Rattle.pep508_view.specs.Edges.{EdgeOf, edges_from, edges}
-use Rattle.pep508_view.specs.Reading.{AreAdjoining, LeadApart, starts, edge_holds, JustOne, SpanAll}
+use Rattle.pep508_view.specs.Reading.{BeginsBelowAll, AreAdjoining, LeadApart, starts, edge_holds, JustOne, SpanAll}
 
 -- ---- how edges lie
 
@@ -92,20 +92,14 @@ module _ {T : Type 0} (cmp : T → T → Ordering) (o : IsTotalOrder cmp) where
       subst (Rising (point_cmp cmp)) (sym (starts_from BelowAll first later))
       (less_points BelowAll boundaries (below_each boundaries), rising_points boundaries h)
 
-  lowest : (first : Tree) (later : List (Branch T Tree)) (edge : EdgeOf T) (others : List (EdgeOf T)) →
-      edges first later ≡ edge ∷ others → edge.lower ≡ Unbounded
-  lowest first [] edge others e =
-      let h : record { lower = Unbounded; upper = Unbounded; tree = first } ≡ edge = cc in
-      sym (ap (λ (edge : EdgeOf T). edge.lower) h)
-  lowest first (b ∷ later) edge others e =
-      let upper : Bound T = upper_bound_at (point_of b.boundary) in
-      let h : record { lower = Unbounded; upper = upper; tree = first } ≡ edge = cc in
-      sym (ap (λ (edge : EdgeOf T). edge.lower) h)
+  begins : (first : Tree) (later : List (Branch T Tree)) → BeginsBelowAll (edges first later)
+  begins first [] = refl
+  begins first (b ∷ later) = refl
 
   pub span_all : (first : Tree) (later : List (Branch T Tree)) → RisingBranches cmp later →
       SpanAll cmp (edges first later)
   span_all first later h = record {
-    first = lowest first later;
+    begin = begins first later;
     adjoin = adjoin_from Unbounded first later;
     rise = rise_from first later h;
   }

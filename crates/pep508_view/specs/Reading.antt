@@ -10,6 +10,11 @@ use Rattle.version_ranges.specs.Order.{start_point, end_points}
 use Rattle.pep508_tree.specs.Tree.{Tree}
 use Rattle.pep508_view.specs.Edges.{EdgeOf}
 
+-- there is a first edge, which has no lower bound
+abbrev pub BeginsBelowAll : {T : Type 0} → List (EdgeOf T) → Type 0
+BeginsBelowAll [] = ⊥
+BeginsBelowAll (edge ∷ later) = edge.lower ≡ Unbounded
+
 -- each edge ends where the next one begins, and the last has no end
 abbrev pub AreAdjoining : {T : Type 0} → List (EdgeOf T) → Type 0
 AreAdjoining [] = Unit {0}
@@ -44,6 +49,6 @@ module _ {T : Type 0} (cmp : T → T → Ordering) where
 
   -- edges cover all points from below all on, rising, each ending where the next one begins
   pub record SpanAll (edges : List (EdgeOf T)) : Type 0 where
-    pub first : (edge : EdgeOf T) (later : List (EdgeOf T)) → edges ≡ edge ∷ later → edge.lower ≡ Unbounded
+    pub begin : BeginsBelowAll edges
     pub adjoin : AreAdjoining edges
     pub rise : Rising (point_cmp cmp) (starts edges)
