@@ -11,7 +11,7 @@ use Rattle.pep508_diagram.specs.Question.{Valuation}
 use Rattle.pep508_diagram.proofs.Questions.{not_not}
 use Rattle.pep508_tree.specs.Tree.{Tree, constant}
 use Rattle.pep508_tree.specs.Meaning.{NodeOf, NodeRecord, Versions, Texts, Flagged, holds, IsTree}
-use Rattle.pep508_tree.specs.Nodes.{AllChildren, Above, IsRising, IsJoined, Made, chosen, node_place}
+use Rattle.pep508_tree.specs.Nodes.{AllChildren, Above, IsRising, IsJoined, Made, chosen}
 use Rattle.pep508_tree.specs.Leaves.{constant_branch, with_constants}
 use Rattle.pep508_tree.proofs.Disjoint.{always_holds, never_holds}
 

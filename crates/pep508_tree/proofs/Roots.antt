@@ -1,11 +1,9 @@
 -- The node at a tree's root.
-use Rattle.std.proofs.Common.{◌≡◌, ◌∙◌, ℕ, ◌+◌, ◌-◌, ◌<◌, ◌≤◌, Bool, true, false, not, List, Some, length, refl, ap, sym, subst, arith}
-use Rattle.version_ranges.specs.Turns.{flips}
+use Rattle.std.proofs.Common.{◌≡◌, ◌∙◌, ◌+◌, ◌-◌, ◌<◌, ◌≤◌, Bool, true, false, not, List, length, refl, ap, sym, subst, arith}
 use Rattle.pep508_diagram.specs.Question.{Valuation}
-use Rattle.pep508_diagram.specs.Diagram.{Leaf}
-use Rattle.pep508_tree.specs.Tree.{Tree, negation}
+use Rattle.pep508_tree.specs.Tree.{Tree}
 use Rattle.pep508_tree.specs.Meaning.{NodeRecord, holds, IsTree}
-use Rattle.pep508_tree.specs.Nodes.{AllChildren, Above, AreSound, chosen, node_at, node_place, signed, turned}
+use Rattle.pep508_tree.specs.Nodes.{AllChildren, Above, AreSound, chosen, node_at, node_place, signed}
 use Rattle.pep508_tree.specs.Roots.{IsConstant, IsRoot}
 use Rattle.pep508_tree.proofs.NodeChildren.{weaker_children}
 use Rattle.pep508_tree.proofs.Meanings.{holds_at, holds_turned}

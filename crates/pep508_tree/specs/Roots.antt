@@ -1,5 +1,5 @@
 -- What stands at the root of a tree.
-use Rattle.std.specs.Prelude.{◌≡◌, ◌==◌, ◌-◌, ◌<◌, ℕ, Bool, not, if◌then◌else◌, List, Option, Some, None}
+use Rattle.std.specs.Prelude.{◌≡◌, ◌==◌, ◌-◌, ◌<◌, Bool, not, if◌then◌else◌, List, Option, Some, None}
 use Rattle.pep508_diagram.specs.Question.{Valuation}
 use Rattle.pep508_tree.specs.declared.root.TreeNode.{TreeNode}
 use Rattle.pep508_tree.specs.declared.root.TreeNode.TheVariants as lent

@@ -54,7 +54,7 @@ impl Interner {
     }
 
     /// What the nodes keep. Does nothing.
-    pub(crate) fn are_sound(&self)
+    pub fn are_sound(&self)
         ensures { AreSound self.now.nodes }
     {
         self.conjoiner.are_sound()
@@ -99,11 +99,7 @@ impl Interner {
     }
 
     /// The tree of one node whose children are constants, which isn't counted.
-    pub(crate) fn leaf(
-        &mut self,
-        alloc: Global,
-        form: Form<bool>,
-    ) -> Result<MarkerTree, AllocError>
+    pub(crate) fn leaf(&mut self, alloc: Global, form: Form<bool>) -> Result<MarkerTree, AllocError>
         requires rises { IsRising (record_of form) }
         requires joined { IsJoined (record_of form) }
         ensures made { IfOk result (λ tree. IsTree self.new.nodes tree) }

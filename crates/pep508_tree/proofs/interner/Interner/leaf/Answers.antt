@@ -1,9 +1,8 @@
-use Rattle.std.proofs.Common.{◌≡◌, ◌∙◌, ap, sym, subst}
+use Rattle.std.proofs.Common.{sym, subst}
 use Rattle.std.proofs.lemmas.Result.{IfOk-weaker}
 use Rattle.pep508_tree.specs.Meaning.{IsTree}
 use Rattle.pep508_tree.specs.Forms.{record_of}
 use Rattle.pep508_tree.specs.Nodes.{AllChildren, Above, IsRising, IsJoined, Made, node_place}
-use Rattle.pep508_tree.specs.Leaves.{with_constants}
 use Rattle.pep508_tree.proofs.Leaves.{leaf_made, leaf_above, leaf_rises, leaf_joined, leaf_holds}
 use Rattle.pep508_tree.proofs.interner.Interner.leaf.Goals as goal
 
