@@ -1,0 +1,2 @@
+//! What a marker tree prints (PEP 508, "Environment Markers"): definitions and laws.
+#![tactic(auto)]
