@@ -5,4 +5,5 @@ pub mod SameDiagrams
 pub mod Clauses
 pub mod Simplified
 pub mod SameTerms
+pub mod Truth
 pub mod MarkerText
