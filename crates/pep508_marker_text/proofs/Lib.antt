@@ -1,3 +1,5 @@
 pub mod Removals
 pub mod Said
 pub mod Where
+pub mod SameDiagrams
+pub mod Grouped

@@ -5,5 +5,6 @@ pub mod SameDiagrams
 pub mod Clauses
 pub mod Simplified
 pub mod SameTerms
+pub mod ReleaseBounds
 pub mod Truth
 pub mod MarkerText
