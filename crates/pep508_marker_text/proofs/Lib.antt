@@ -3,3 +3,4 @@ pub mod Said
 pub mod Where
 pub mod SameDiagrams
 pub mod Grouped
+pub mod Walks
