@@ -4,3 +4,4 @@ pub mod Where
 pub mod SameDiagrams
 pub mod Grouped
 pub mod Walks
+pub mod Speaking
