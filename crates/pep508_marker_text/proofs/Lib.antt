@@ -5,3 +5,4 @@ pub mod SameDiagrams
 pub mod Grouped
 pub mod Walks
 pub mod Speaking
+pub mod Truths
