@@ -6,3 +6,5 @@ pub mod Grouped
 pub mod Walks
 pub mod Speaking
 pub mod Truths
+pub mod Fitting
+pub mod Disjunctions
