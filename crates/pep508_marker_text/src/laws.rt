@@ -1,6 +1,12 @@
 //! Laws over the definitions. The functions do nothing: each one's contract is its law.
-ghost use Rattle.std.specs.Prelude.{◌≡◌, Bool, true, List, ◌∷◌, ◌++◌};
+ghost use Rattle.std.specs.Prelude.{◌≡◌, ◌≢◌, ◌↔◌, Bool, true, IsTrue, List, ◌∷◌, ◌++◌};
 ghost use Rattle.pep508_marker.specs.Expression.{ExpressionRecord};
+ghost use Rattle.pep508_diagram.specs.Diagram.{Diagram, Leaf};
+ghost use Rattle.pep508_diagram.specs.Question.{Question, Valuation, truth, AreOne, IsCanonical};
+ghost use Rattle.pep508_expression.specs.Expressions.{expression_holds};
+ghost use Rattle.pep508_marker_text.specs.MarkerText.{disjunction};
+ghost use Rattle.pep508_marker_text.specs.ReleaseBounds.{HasReleasesAlone};
+ghost use Rattle.pep508_marker_text.specs.SameDiagrams.{same_diagram};
 ghost use Rattle.pep508_marker_text.specs.Saying.{Clause};
 ghost use Rattle.pep508_marker_text.specs.SameTerms.{same_term, opposite_term};
 ghost use Rattle.pep508_marker_text.specs.Simplified.{is_needless, is_covered, simplified};
@@ -28,4 +34,18 @@ pub fn simplified_clauses_mean_the_same()
     ensures { (truth : ExpressionRecord → Bool) (clauses : List Clause) →
         IsTruth same_term opposite_term truth →
         one_holds truth (simplified same_term opposite_term clauses) ≡ one_holds truth clauses }
+{}
+
+/// Two diagrams are tested as the same exactly where they are one.
+pub fn same_diagrams_are_one()
+    ensures { (a b : Diagram Question) → IsTrue (same_diagram a b) ↔ AreOne a b }
+{}
+
+/// The clauses that are written for a diagram mean it: under each valuation all comparisons of some clause hold
+/// exactly where the diagram does. So for a diagram whose versions are releases of epoch 0; but for what holds
+/// always, for which no clause is written.
+pub fn a_disjunction_means_its_diagram()
+    ensures { (diagram : Diagram Question) → IsCanonical diagram → HasReleasesAlone diagram →
+        diagram ≢ Leaf true → (v : Valuation) →
+        one_holds (λ term. expression_holds term v) (disjunction diagram) ≡ truth diagram v }
 {}
