@@ -1,11 +1,11 @@
 -- The disjunction that is written for a diagram means it.
-use Rattle.std.proofs.Common.{◌≡◌, Bool, true, false, not, ◌||◌, cond, List, [], ◌∷◌, inl, inr, refl, sym, ap, ◌∙◌, true≢false}
+use Rattle.std.proofs.Common.{◌≡◌, Bool, true, false, not, List, [], ◌∷◌, inl, inr, refl, sym, ap, ◌∙◌, true≢false}
 use Rattle.std.proofs.lemmas.Bool.{cases_Bool}
 use Rattle.std.specs.List.{AllByRecursion, filter, list_all, list_any}
 use Rattle.version_ranges.proofs.Membership.{all_weaker}
 use Rattle.pep508_marker.specs.Expression.{ExpressionRecord}
 use Rattle.pep508_diagram.specs.Diagram.{Diagram, Leaf, Test}
-use Rattle.pep508_diagram.specs.Question.{Question, Valuation, truth, IsCanonical, OneDiagram}
+use Rattle.pep508_diagram.specs.Question.{Question, Valuation, truth, IsCanonical}
 use Rattle.pep508_expression.specs.Expressions.{expression_holds}
 use Rattle.pep508_marker_text.specs.Clauses.{clauses_of}
 use Rattle.pep508_marker_text.specs.MarkerText.{disjunction}
@@ -48,6 +48,23 @@ fit_weaker : (P R : ExpressionRecord → Type 0) → ((term : ExpressionRecord) 
 fit_weaker P R so clauses h =
     all_weaker (AllByRecursion P) (AllByRecursion R) (λ clause k. all_weaker P R so clause k) clauses h
 
+-- truths that are one where all comparisons have points
+same_meaning : (v : Valuation) (clauses : List Clause) → AllFit HasPoints clauses →
+    one_holds (total_holds v) clauses ≡ one_holds (λ term. expression_holds term v) clauses
+same_meaning v clauses fits =
+    clauses_alike (total_holds v) (λ term. expression_holds term v) clauses
+    (fit_weaker HasPoints (λ term. total_holds v term ≡ expression_holds term v)
+    (λ term h. total_agrees v term h) clauses fits)
+
+-- simplified comparisons mean what they mean before
+pub comparisons_keep : (clauses : List Clause) → AllFit HasPoints clauses → (v : Valuation) →
+    one_holds (λ term. expression_holds term v) (simplified same_term opposite_term clauses)
+    ≡ one_holds (λ term. expression_holds term v) clauses
+comparisons_keep clauses fits v =
+    sym (same_meaning v (simplified same_term opposite_term clauses)
+    (simplified_fit HasPoints same_term opposite_term clauses fits))
+    ∙ simplified_keeps (total_is_truth v) clauses ∙ same_meaning v clauses fits
+
 module _ (d : Diagram Question) (c : IsCanonical d) (r : HasReleasesAlone d) (some : d ≡ Leaf true → ⊥) where
   has_no_empty : list_any is_empty (clauses_of d) ≡ false
   has_no_empty = elim (cases_Bool (list_any is_empty (clauses_of d))) [
@@ -62,12 +79,7 @@ module _ (d : Diagram Question) (c : IsCanonical d) (r : HasReleasesAlone d) (so
       one_holds (λ term. expression_holds term v) (disjunction d) ≡ truth d v
   disjunction_means v =
       let kept : filter has_some (clauses_of d) ≡ clauses_of d = none_empty (clauses_of d) has_no_empty in
-      let clauses = simplified same_term opposite_term (clauses_of d) in
-      let fits : AllFit HasPoints clauses =
-      simplified_fit HasPoints same_term opposite_term (clauses_of d) (walk_fits d r).0 in
+      let fits : AllFit HasPoints (clauses_of d) = (walk_fits d r).0 in
       ap (λ cs. one_holds (λ term. expression_holds term v) (simplified same_term opposite_term cs)) kept
-      ∙ sym (clauses_alike (total_holds v) (λ term. expression_holds term v) clauses
-      (fit_weaker HasPoints (λ term. total_holds v term ≡ expression_holds term v)
-      (λ term h. total_agrees v term h) clauses fits))
-      ∙ simplified_keeps (total_is_truth v) (clauses_of d)
+      ∙ comparisons_keep (clauses_of d) fits v ∙ sym (same_meaning v (clauses_of d) fits)
       ∙ clauses_mean (total_holds v) v (terms_speak v) d c r

@@ -29,11 +29,11 @@ use Rattle.pep508_expression.specs.Expressions.{has_points}
 use Rattle.pep508_marker_text.specs.Clauses.{Part, Edges, NoEdges, Versions, Texts, Flagged, Walk, versions_from, texts_from, followed_by, same_part, group_clauses, grouped_clauses, walk_of}
 use Rattle.pep508_marker_text.specs.Groups.{firsts, standing, points_where}
 use Rattle.pep508_marker_text.specs.ReleaseBounds.{IsPlainRelease, StandsAtRelease, HasReleasesAlone}
-use Rattle.pep508_marker_text.specs.Saying.{Clause, Saying, left_out, star_out, exclusion, single, lower_terms, upper_terms, single_or_bounds, interval_clause, one_or_intervals, set_clauses}
+use Rattle.pep508_marker_text.specs.Saying.{Clause, Saying, left_out, star_out, exclusion, lower_terms, upper_terms, single_or_bounds, interval_clause, one_or_intervals, set_clauses}
 use Rattle.pep508_marker_text.specs.Simplified.{sifted, is_needless, shortened_behind, is_covered, simplified}
 use Rattle.pep508_marker_text.specs.Terms.{minor_between, version_term, version_saying, text_saying, set_term, unset_term}
 use Rattle.pep508_marker_text.proofs.Said.{GoodPoint, GoodBound, GoodInterval, left_good, intervals_good}
-use Rattle.pep508_marker_text.proofs.Speaking.{Star, star_found}
+use Rattle.pep508_marker_text.proofs.Speaking.{star_found}
 use Rattle.pep508_marker_text.proofs.Where.{GoodBoundary, GoodBranches, where_good, standing_all, firsts_all}
 
 -- each comparison with a value that is good meets a condition
@@ -355,20 +355,26 @@ walk_fits (Test (VersionBelow key b) low high) r =
     let l = walk_fits low r.1 in
     let h = walk_fits high r.2 in
     let e = versions_edges key b (walk_of low).part (walk_of high) (walk_of high).edges (good_release b r.0) l.0
-    h.0 h.1 in
-    (grouped_fit HasPoints (versions_fit key) (walk_of low).part
-    (versions_from key b (walk_of high) (walk_of high).edges) e.0 e.1, e)
+    h.0 h.1 in (
+      grouped_fit HasPoints (versions_fit key) (walk_of low).part
+          (versions_from key b (walk_of high) (walk_of high).edges) e.0 e.1,
+      e,
+    )
 walk_fits (Test (TextBelow key b) low high) r =
     let l = walk_fits low r.1 in
     let h = walk_fits high r.2 in
-    let e = texts_edges key b (walk_of low).part (walk_of high) (walk_of high).edges (good_text b) l.0 h.0 h.1 in
-    (grouped_fit HasPoints (texts_fit key) (walk_of low).part
-    (texts_from key b (walk_of high) (walk_of high).edges) e.0 e.1, e)
+    let e = texts_edges key b (walk_of low).part (walk_of high) (walk_of high).edges (good_text b) l.0 h.0 h.1 in (
+      grouped_fit HasPoints (texts_fit key) (walk_of low).part
+          (texts_from key b (walk_of high) (walk_of high).edges) e.0 e.1,
+      e,
+    )
 walk_fits (Test (IsSet flag) low high) r =
     let l = walk_fits low r.1 in
-    let h = walk_fits high r.2 in
-    (all_append (AllByRecursion HasPoints)
-    (map (λ clause. set_term flag ∷ clause) (walk_of low).part.clauses)
-    (map (λ clause. unset_term flag ∷ clause) (walk_of high).part.clauses)
-    (headed_fits HasPoints (set_term flag) (walk_of low).part.clauses (set_fits_too flag) l.0)
-    (headed_fits HasPoints (unset_term flag) (walk_of high).part.clauses (unset_fits flag) h.0), tt)
+    let h = walk_fits high r.2 in (
+      all_append (AllByRecursion HasPoints)
+          (map (λ clause. set_term flag ∷ clause) (walk_of low).part.clauses)
+          (map (λ clause. unset_term flag ∷ clause) (walk_of high).part.clauses)
+          (headed_fits HasPoints (set_term flag) (walk_of low).part.clauses (set_fits_too flag) l.0)
+          (headed_fits HasPoints (unset_term flag) (walk_of high).part.clauses (unset_fits flag) h.0),
+      tt,
+    )

@@ -8,3 +8,4 @@ pub mod Speaking
 pub mod Truths
 pub mod Fitting
 pub mod Disjunctions
+mod Examples

@@ -127,7 +127,7 @@ module _ {T : Type 0} {same opposite : T → T → Bool} {truth : T → Bool} (i
 
 module _ {A B : Type 0} (drops : A → List A → Bool) (measure : List A → B)
     (step : (front behind : List A) (x : A) → drops x (front ++ behind) ≡ true →
-        measure (front ++ (x ∷ behind)) ≡ measure (front ++ behind)) where
+    measure (front ++ (x ∷ behind)) ≡ measure (front ++ behind)) where
   sifted_one : (kept later : List A) (x : A) (b : Bool) → drops x (kept ++ later) ≡ b →
       measure (sifted drops kept later) ≡ measure (kept ++ later) →
       measure (sifted drops (kept ++ (x ∷ [])) later) ≡ measure ((kept ++ (x ∷ [])) ++ later) →

@@ -1,15 +1,13 @@
 -- The comparisons of clauses say where the values of keys lie. Where a comparison's number can't be raised it is
 -- given a truth here, so that negations negate there too; no clause has such a comparison.
-use Rattle.std.proofs.Common.{◌≡◌, ℕ, ◌∷◌, Bool, true, false, not, ◌&&◌, cond, List, Option, Some, None, refl, sym, ap, ◌∙◌}
+use Rattle.std.proofs.Common.{◌≡◌, ℕ, Bool, true, false, not, ◌&&◌, cond, List, Option, Some, None, refl, sym, ap, ◌∙◌}
 use Rattle.std.specs.Option.{option_map, is_some}
-use Rattle.std.specs.List.{AllByRecursion}
-use Rattle.std.specs.Ordering.{is_eq, is_gt}
+use Rattle.std.specs.Ordering.{is_gt}
 use Rattle.std.specs.Cmp.Lexicographic.{nat_list_cmp_total}
 use Rattle.std.specs.declared.ops.Bound.TheVariants.{Included, Excluded}
-use Rattle.std.specs.declared.cmp.Ordering.TheVariants.{Equal}
 use Rattle.version_ranges.specs.Bounds.{is_within, goes_on_to}
 use Rattle.version_ranges.specs.OrderLaws.{points_total}
-use Rattle.version_ranges.specs.Point.{Point, At, point_cmp}
+use Rattle.version_ranges.specs.Point.{Point, At}
 use Rattle.pep440_rs.specs.Record.{VersionRecord, release_record}
 use Rattle.pep440_rs.specs.Order.{version_cmp, version_eq}
 use Rattle.pep440_rs.specs.OrderLaws.{version_cmp_total}
@@ -28,11 +26,10 @@ use Rattle.pep508_diagram.specs.declared.variable.VersionVariable.TheVariants.{I
 use Rattle.pep508_diagram.specs.declared.variable.Flag.{Flag}
 use Rattle.pep508_diagram.specs.declared.variable.Flag.TheVariants as flag
 use Rattle.pep508_diagram.specs.Question.{Valuation}
-use Rattle.pep508_diagram.specs.Text.{text_cmp}
 use Rattle.pep508_diagram.proofs.Places.{equal_from}
 use Rattle.pep508_expression.specs.Expressions.{variable_of, text_holds, extra_holds, expression_holds, has_points, or_nowhere}
 use Rattle.pep508_marker_text.specs.ReleaseBounds.{IsPlainRelease}
-use Rattle.pep508_marker_text.specs.Terms.{key_of_variable, two_numbers, is_minor_of, kept_where, minor_between, version_term, star_term, version_saying, text_saying, set_term, unset_term}
+use Rattle.pep508_marker_text.specs.Terms.{two_numbers, is_minor_of, kept_where, minor_between, version_term, version_saying, text_saying, set_term, unset_term}
 use Rattle.pep508_marker_text.proofs.Removals.{both}
 use Rattle.pep508_marker_text.proofs.Said.{Says}
 use Rattle.pep508_marker_text.proofs.Walks.{Speaks}

@@ -1,7 +1,7 @@
 -- The truth of comparisons is one: the same terms hold together, and negations negate.
-use Rattle.std.proofs.Common.{◌≡◌, ℕ, ◌==◌, Bool, true, false, not, ◌&&◌, cond, List, Option, Some, None, refl, sym, ap, ◌∙◌}
+use Rattle.std.proofs.Common.{◌≡◌, ℕ, ◌==◌, Bool, true, false, not, cond, List, Option, Some, None, refl, sym, ap, ◌∙◌}
 use Rattle.std.specs.Option.{option_map, option_map_or}
-use Rattle.std.specs.Ordering.{eq_by_cmp, is_eq}
+use Rattle.std.specs.Ordering.{is_eq}
 use Rattle.std.specs.Cmp.{unsigned_Decides}
 use Rattle.std.specs.Cmp.Lexicographic.{nat_list_cmp_total}
 use Rattle.version_ranges.specs.Point.{Point, At, JustAbove, point_cmp}
@@ -23,7 +23,7 @@ use Rattle.pep508_marker.specs.declared.operators.ExtraOperator.{ExtraOperator}
 use Rattle.pep508_marker.specs.declared.operators.ExtraOperator.TheVariants as extras
 use Rattle.pep508_marker.specs.declared.operators.MarkerOperator.{MarkerOperator}
 use Rattle.pep508_marker.specs.declared.operators.MarkerOperator.TheVariants.{Equal, NotEqual, GreaterThan, GreaterEqual, LessThan, LessEqual, TildeEqual, In, NotIn, Contains, NotContains}
-use Rattle.pep508_marker.specs.Expression.{ExpressionRecord, Version, VersionIn, String, Extra}
+use Rattle.pep508_marker.specs.Expression.{ExpressionRecord, Version, String, Extra}
 use Rattle.pep508_marker.specs.Keys.{version_key_rank, text_key_rank}
 use Rattle.pep508_marker.specs.Operators.{marker_negated, extra_negated}
 use Rattle.pep508_marker.specs.Values.{ExtraRecord, Name, Arbitrary}
@@ -255,4 +255,4 @@ module _ (v : Valuation) where
   contrary_terms term other e = absurd (cc)
 
   pub total_is_truth : IsTruth same_term opposite_term (total_holds v)
-  total_is_truth = record { alike = alike_terms; contrary = contrary_terms; }
+  total_is_truth = record { alike = alike_terms; contrary = contrary_terms }

@@ -1,5 +1,5 @@
 -- The points at which what stands between rising boundaries passes a test, and the first things of each kind.
-use Rattle.std.proofs.Common.{◌≡◌, ◌⊎◌, inl, inr, Bool, true, false, not, ◌||◌, cond, List, [], ◌∷◌, map, refl, sym, ap, subst, ◌∙◌, true≢false}
+use Rattle.std.proofs.Common.{◌≡◌, ◌⊎◌, inl, inr, Bool, true, false, not, ◌||◌, cond, List, [], ◌∷◌, map, refl, sym, ap, ◌∙◌, true≢false}
 use Rattle.std.proofs.lemmas.Bool.{cases_Bool}
 use Rattle.std.specs.List.{AllByRecursion, list_any, filter}
 use Rattle.std.specs.Cmp.{IsTotalOrder}
@@ -15,7 +15,7 @@ use Rattle.version_ranges.proofs.Turning.{held_turns, normal_turns}
 use Rattle.pep508_diagram.specs.declared.branch.Branch.{Branch}
 use Rattle.pep508_diagram.specs.Branches.{RisingBranches, branch_at, AllBranches}
 use Rattle.pep508_diagram.specs.Chains.{IsChild}
-use Rattle.pep508_diagram.proofs.Branching.{reached, Before, NoneReached, none_reached, unreached, branch_at_child}
+use Rattle.pep508_diagram.proofs.Branching.{NoneReached, none_reached, unreached}
 use Rattle.pep508_marker_text.specs.Groups.{firsts, standing, turning, points_where}
 use Rattle.pep508_marker_text.proofs.Removals.{second_holds}
 use Rattle.pep508_marker_text.proofs.Said.{GoodPoint}
@@ -71,9 +71,11 @@ module _ {T C : Type 0} (test : C → Bool) where
           Rising (boundary_cmp cmp) (turning test held later) →
           Rising (boundary_cmp cmp) (cond b (branch.boundary ∷ turning test (test branch.child) later)
           (turning test held later))
-      turning_one true with without =
-          (all_turning (λ other. boundary_cmp cmp branch.boundary other ≡ Less) (test branch.child) later
-          rising.0, with)
+      turning_one true with without = (
+        all_turning (λ other. boundary_cmp cmp branch.boundary other ≡ Less) (test branch.child) later
+            rising.0,
+        with,
+      )
       turning_one false with without = without
 
   module _ (cmp : T → T → Ordering) (p : Point T) where
@@ -98,15 +100,15 @@ module _ {T C : Type 0} (test : C → Bool) where
     turning_held held first (branch ∷ later) is rising =
         elim (cases_Bool (reaches (point_cmp cmp) (point_of branch.boundary) p)) [
           | inl up ↦ elim (cases_Bool (flips held (test branch.child))) [
-              | inl turns ↦
-                  rw (turns, up)
-                  (turned_twice held (test branch.child)
-                  (held_by cmp p (turning test (test branch.child) later)) turns
-                  ∙ turning_held (test branch.child) branch.child later refl rising.1)
-              | inr stays ↦
-                  rw (stays, up)
-                  (turning_held held branch.child later (unturned held (test branch.child) stays) rising.1)
-            ]
+            | inl turns ↦
+                rw (turns, up)
+                (turned_twice held (test branch.child)
+                (held_by cmp p (turning test (test branch.child) later)) turns
+                ∙ turning_held (test branch.child) branch.child later refl rising.1)
+            | inr stays ↦
+                rw (stays, up)
+                (turning_held held branch.child later (unturned held (test branch.child) stays) rising.1)
+          ]
           | inr over ↦
               let none : NoneReached cmp p (branch ∷ later) =
               (over, unreached o branch.boundary later p over rising.0) in
@@ -189,21 +191,21 @@ module _ {C : Type 0} (same : C → C → Bool) (itself : (x : C) → same x x �
   filtered_has x c [] apart e = e
   filtered_has x c (y ∷ ys) apart e = elim (cases_Bool (same x y)) [
     | inl too ↦ elim (cases_Bool (same y c)) [
-        | inl here ↦ absurd (true≢false (sym (on x y c too here) ∙ apart))
-        | inr not_here ↦
-            let later : list_any (λ z. same z c) ys ≡ true =
-            sym (ap (λ b. b || list_any (λ z. same z c) ys) not_here) ∙ e in
-            rw too (filtered_has x c ys apart later)
-      ]
+      | inl here ↦ absurd (true≢false (sym (on x y c too here) ∙ apart))
+      | inr not_here ↦
+          let later : list_any (λ z. same z c) ys ≡ true =
+          sym (ap (λ b. b || list_any (λ z. same z c) ys) not_here) ∙ e in
+          rw too (filtered_has x c ys apart later)
+    ]
     | inr differs ↦ elim (cases_Bool (same y c)) [
-        | inl here ↦ rw (differs, here) refl
-        | inr not_here ↦
-            let later : list_any (λ z. same z c) ys ≡ true =
-            sym (ap (λ b. b || list_any (λ z. same z c) ys) not_here) ∙ e in
-            rw differs
-            (second_holds (same y c) (list_any (λ z. same z c) (filter (λ z. not (same x z)) ys))
-            (filtered_has x c ys apart later))
-      ]
+      | inl here ↦ rw (differs, here) refl
+      | inr not_here ↦
+          let later : list_any (λ z. same z c) ys ≡ true =
+          sym (ap (λ b. b || list_any (λ z. same z c) ys) not_here) ∙ e in
+          rw differs
+          (second_holds (same y c) (list_any (λ z. same z c) (filter (λ z. not (same x z)) ys))
+          (filtered_has x c ys apart later))
+    ]
   ]
 
   -- each thing is the same as a first one

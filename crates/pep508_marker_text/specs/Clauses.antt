@@ -1,6 +1,6 @@
 -- The clauses of a diagram of markers: for each way from its root to a leaf that is true, what the values of the
 -- variables on that way are. Edges of one variable that lead to one diagram are said together.
-use Rattle.std.specs.Prelude.{ℕ, ◌==◌, Bool, true, false, if◌then◌else◌, cond, List, [], ◌∷◌, ◌++◌, map}
+use Rattle.std.specs.Prelude.{ℕ, ◌==◌, Bool, if◌then◌else◌, cond, List, [], ◌∷◌, ◌++◌, map}
 use Rattle.std.specs.List.{flat_map}
 use Rattle.version_ranges.specs.declared.boundary.Boundary.{Boundary}
 use Rattle.pep440_rs.specs.Record.{VersionRecord}

@@ -7,4 +7,5 @@ pub mod Simplified
 pub mod SameTerms
 pub mod ReleaseBounds
 pub mod Truth
+pub mod Raisable
 pub mod MarkerText

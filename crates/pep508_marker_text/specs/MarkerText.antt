@@ -1,6 +1,6 @@
 -- The text of a diagram of markers (PEP 508, "Environment Markers").
-use Rattle.std.specs.Prelude.{ℕ, true, false, Bool, if◌then◌else◌, List, [], ◌∷◌, ◌++◌, map, codes, Option, Some, None}
-use Rattle.std.specs.List.{filter, flat_map}
+use Rattle.std.specs.Prelude.{ℕ, true, false, List, [], ◌∷◌, ◌++◌, codes, Option, Some, None}
+use Rattle.std.specs.List.{filter, join_by}
 use Rattle.pep508_marker.specs.Expression.{expression_text}
 use Rattle.pep508_diagram.specs.Diagram.{Diagram, Leaf, Test}
 use Rattle.pep508_diagram.specs.Question.{Question}
@@ -13,13 +13,8 @@ use Rattle.pep508_marker_text.specs.Simplified.{has_some, simplified}
 abbrev pub disjunction : Diagram Question → List Clause
 disjunction diagram = simplified same_term opposite_term (filter has_some (clauses_of diagram))
 
--- texts with a separator between them
-abbrev pub separated : List ℕ → List (List ℕ) → List ℕ
-separated separator [] = []
-separated separator (text ∷ texts) = text ++ flat_map (λ later. separator ++ later) texts
-
 abbrev pub clause_text : Clause → List ℕ
-clause_text clause = separated (codes " and ") (map expression_text clause)
+clause_text clause = join_by expression_text (codes " and ") clause
 
 -- a clause beside others: in brackets where it has several terms
 abbrev pub bracketed_text : Clause → List ℕ
@@ -28,7 +23,7 @@ bracketed_text clause = clause_text clause
 
 abbrev pub clauses_text : List Clause → List ℕ
 clauses_text (clause ∷ other ∷ clauses) =
-    separated (codes " or ") (map bracketed_text (clause ∷ other ∷ clauses))
+    join_by bracketed_text (codes " or ") (clause ∷ other ∷ clauses)
 clauses_text (clause ∷ []) = clause_text clause
 clauses_text [] = []
 

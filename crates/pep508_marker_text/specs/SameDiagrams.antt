@@ -1,5 +1,5 @@
 -- A test of whether two diagrams of markers are one.
-use Rattle.std.specs.Prelude.{◌&&◌, not, Bool, true, false}
+use Rattle.std.specs.Prelude.{◌&&◌, not, Bool, false}
 use Rattle.std.specs.Ordering.{eq_by_cmp}
 use Rattle.version_ranges.specs.Turns.{flips}
 use Rattle.pep508_diagram.specs.Diagram.{Diagram, Leaf, Test}

@@ -5,6 +5,7 @@ ghost use Rattle.pep508_diagram.specs.Diagram.{Diagram, Leaf};
 ghost use Rattle.pep508_diagram.specs.Question.{Question, Valuation, truth, AreOne, IsCanonical};
 ghost use Rattle.pep508_expression.specs.Expressions.{expression_holds};
 ghost use Rattle.pep508_marker_text.specs.MarkerText.{disjunction};
+ghost use Rattle.pep508_marker_text.specs.Raisable.{AllHavePoints};
 ghost use Rattle.pep508_marker_text.specs.ReleaseBounds.{HasReleasesAlone};
 ghost use Rattle.pep508_marker_text.specs.SameDiagrams.{same_diagram};
 ghost use Rattle.pep508_marker_text.specs.Saying.{Clause};
@@ -34,6 +35,14 @@ pub fn simplified_clauses_mean_the_same()
     ensures { (truth : ExpressionRecord → Bool) (clauses : List Clause) →
         IsTruth same_term opposite_term truth →
         one_holds truth (simplified same_term opposite_term clauses) ≡ one_holds truth clauses }
+{}
+
+/// So comparisons, whose truth is one where their numbers can be raised: under each valuation one of the
+/// simplified clauses holds exactly where one of the clauses does.
+pub fn simplified_comparisons_mean_the_same()
+    ensures { (clauses : List Clause) → AllHavePoints clauses → (v : Valuation) →
+        one_holds (λ term. expression_holds term v) (simplified same_term opposite_term clauses)
+        ≡ one_holds (λ term. expression_holds term v) clauses }
 {}
 
 /// Two diagrams are tested as the same exactly where they are one.

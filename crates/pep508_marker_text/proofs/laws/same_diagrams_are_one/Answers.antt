@@ -1,5 +1,3 @@
-use Rattle.std.specs.Prelude.{true, IsTrue}
-use Rattle.pep508_marker_text.specs.SameDiagrams.{same_diagram}
 use Rattle.pep508_marker_text.proofs.SameDiagrams.{same_are_one, one_are_same}
 use Rattle.pep508_marker_text.proofs.laws.same_diagrams_are_one.Goals as goal
 
