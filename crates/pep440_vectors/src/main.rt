@@ -4,7 +4,9 @@
 #![tactic(auto)]
 
 mod answers;
+mod calls;
 mod faults;
+mod said;
 mod sets;
 
 use answers::answer;
