@@ -1,6 +1,6 @@
 //! The answers.
 
-use crate::{calls, faults, said, sets};
+use crate::{calls, faults, lists, said, sets};
 use pep440_rs::{
     LocalSegment, RangeError, Version, VersionParseError, VersionSpecifier,
     VersionSpecifierParseError, VersionSpecifiers, VersionSpecifiersParseError,
@@ -53,6 +53,21 @@ pub fn answer(alloc: Global, question: &str) -> Result<String, AllocError> {
         | "included"
         | "excluded"
         | "unbounded" => { said::answer(alloc, kind, first, text_at(&question, 2)) }
+        "counted"
+        | "list of"
+        | "list of one"
+        | "list prints"
+        | "list value"
+        | "lists"
+        | "empty list"
+        | "list picture"
+        | "but from"
+        | "but up to"
+        | "around"
+        | "no intervals" => {
+            let (second, third) = (text_at(&question, 2), text_at(&question, 3));
+            lists::answer(alloc, kind, first, second, third)
+        }
         _ => calls::answer(alloc, kind, first, text_at(&question, 2)),
     }
 }

@@ -6,6 +6,7 @@
 mod answers;
 mod calls;
 mod faults;
+mod lists;
 mod said;
 mod sets;
 

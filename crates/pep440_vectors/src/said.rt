@@ -10,7 +10,7 @@ use crate::sets::specifier;
 use pep440_rs::{
     BoundError, FromValueError, Operator, OperatorParseError, Version, VersionParseError,
     VersionPatternParseError, VersionSpecifier, VersionSpecifierBuildError,
-    VersionSpecifierParseError,
+    VersionSpecifierParseError, VersionSpecifiersParseError,
 };
 use serde_json::Value;
 use std::alloc::{AllocError, Global};
@@ -19,7 +19,7 @@ use std::ops::Bound;
 /// The answer to a question of two texts; `no question` for another kind.
 pub fn answer(alloc: Global, kind: &str, first: &str, second: &str) -> Result<String, AllocError> {
     match kind {
-        "want of memory" => want_of_memory(alloc),
+        "want of memory" => want_of_memory(alloc, first),
         "operators" => operators(alloc),
         "operator" => operator(alloc, first),
         "specifiers" => specifiers(alloc, first, second),
@@ -33,18 +33,23 @@ pub fn answer(alloc: Global, kind: &str, first: &str, second: &str) -> Result<St
     }
 }
 
-/// What each error says of want of memory.
-fn want_of_memory(alloc: Global) -> Result<String, AllocError> {
-    let (version, pattern) = (VersionParseError::Memory, VersionPatternParseError::Memory);
-    let mut answer = format!(in alloc; "{version}, {pattern}, ")?;
-    let (operator, built) = (
-        OperatorParseError::Memory,
-        VersionSpecifierBuildError::Memory,
-    );
-    answer.push_str(format!(in alloc; "{operator}, {built}, ")?.as_str())?;
-    let (specifier, bound) = (VersionSpecifierParseError::Memory, BoundError::Memory);
-    answer.push_str(format!(in alloc; "{specifier}, {bound}")?.as_str())?;
-    Ok(answer)
+/// What an error says of want of memory.
+fn want_of_memory(alloc: Global, what: &str) -> Result<String, AllocError> {
+    match what {
+        "version" => VersionParseError::Memory.to_string(alloc),
+        "pattern" => VersionPatternParseError::Memory.to_string(alloc),
+        "operator" => OperatorParseError::Memory.to_string(alloc),
+        "built specifier" => VersionSpecifierBuildError::Memory.to_string(alloc),
+        "specifier" => VersionSpecifierParseError::Memory.to_string(alloc),
+        "bound" => BoundError::Memory.to_string(alloc),
+        "list" => list_memory(alloc, &VersionSpecifiersParseError::Memory),
+        _ => String::from_str(alloc, "no question"),
+    }
+}
+
+fn list_memory(alloc: Global, error: &VersionSpecifiersParseError) -> Result<String, AllocError> {
+    let line = error.line();
+    format!(in alloc; "{error} at `{line}`")
 }
 
 /// Each operator: its print, its negation, and what its print is read as.
@@ -180,7 +185,7 @@ fn made_of_operators(alloc: Global) -> Result<String, AllocError> {
 }
 
 /// The release of a version's text, none where it is none.
-fn release(alloc: Global, text: &str) -> Result<Option<Version>, AllocError>
+pub fn release(alloc: Global, text: &str) -> Result<Option<Version>, AllocError>
     ensures { IfOk result (λ found. IfSome found IsReleaseVersion) }
 {
     match version(alloc, text)? {
