@@ -1,0 +1,5 @@
+pub mod Standing
+pub mod Choosing
+pub mod Holding
+pub mod Warning
+pub mod Rooted

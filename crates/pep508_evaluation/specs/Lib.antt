@@ -1,0 +1,5 @@
+pub mod Valuations
+pub mod Roots
+pub mod Steps
+pub mod Warned
+pub mod Edges

@@ -1,0 +1,249 @@
+//! What is warned of where a tree is evaluated.
+
+ghost use Rattle.std.specs.Prelude.{◌≡◌, ◌++◌, OnOk, IfOk, None, Some, cond, [], ◌∷◌, map, option_copied, option_to_list, is_some};
+ghost use Rattle.std.specs.List.{FoldsTo};
+ghost use Rattle.version_ranges.specs.Boundaries.{point_of};
+ghost use Rattle.version_ranges.specs.Bounds.{single_value};
+ghost use Rattle.version_ranges.specs.Point.{At};
+ghost use Rattle.pep508_diagram.specs.Text.{text_cmp};
+ghost use Rattle.pep508_tree.specs.Meaning.{IsTree, holds, diagram_of};
+ghost use Rattle.pep508_evaluation.specs.Valuations.{valuation_of};
+ghost use Rattle.pep508_evaluation.specs.Warned.{key_names, old_names, edge, compared, warned, TakesKind};
+ghost use Rattle.pep508_evaluation.specs.Edges.{text_edges, root_edges, root_names};
+ghost use Rattle.pep508_evaluation.specs.Roots.{root_of, shown};
+
+use crate::chosen::{is_reached, step};
+use crate::holding::{child_at, child_count};
+use crate::root::{Children, TreeNode, are_sound, node};
+use pep508_diagram::{Branch, MarkerText};
+use pep508_environment::MarkerEnvironment;
+use pep508_marker::{MarkerValueString, MarkerWarningKind, Reporter};
+use pep508_name::ExtraName;
+use pep508_tree::{Interner, MarkerTree};
+use std::alloc::{AllocError, Global};
+use std::ops::ControlFlow;
+use version_ranges::Boundary;
+
+/// What is said of an old name. Of `sys.platform` it has always been said with two blanks.
+fn old_name_text(alloc: Global, key: MarkerValueString) -> Result<String, AllocError> {
+    let gap = if key == MarkerValueString::SysPlatformDeprecated { "  " } else { " " };
+    let mut text = format!(in alloc; "{}{gap}is deprecated", key.written())?;
+    write!(text, " in favor of {}", key.name())?;
+    Ok(text)
+}
+
+/// Warns of a key that is an old name.
+fn report_old_name<R: Reporter>(
+    alloc: Global,
+    key: MarkerValueString,
+    reporter: &mut R,
+) -> Result<(), AllocError>
+    requires { R.can_report reporter.old }
+    ensures again { R.can_report reporter.new }
+    ensures taken { OnOk result (FoldsTo (TakesKind R.takes) reporter.old (key_names key) reporter.new) }
+{
+    if !key.is_deprecated() || !reporter.wants() {
+        return Ok(());
+    }
+    let text = old_name_text(alloc, key)?;
+    reporter.report(MarkerWarningKind::DeprecatedMarkerName, text)
+}
+
+/// Warns of a bound that a text is compared with.
+fn report_bound<R: Reporter>(
+    alloc: Global,
+    text: &str,
+    bound: &Boundary<MarkerText>,
+    reporter: &mut R,
+) -> Result<(), AllocError>
+    requires { R.can_report reporter.old }
+    ensures again { R.can_report reporter.new }
+    ensures taken { OnOk result
+        (TakesKind R.takes reporter.old MarkerWarningKind.LexicographicComparison reporter.new) }
+{
+    if !reporter.wants() {
+        return Ok(());
+    }
+    let value = match bound {
+        Boundary::At(value) => value,
+        Boundary::JustAbove(value) => value,
+    };
+    let message = format!(in alloc; "Comparing {text} and {} lexicographically", value.as_str())?;
+    reporter.report(MarkerWarningKind::LexicographicComparison, message)
+}
+
+/// Whether an edge is a single text.
+fn is_single(lower: Option<&Boundary<MarkerText>>, upper: Option<&Boundary<MarkerText>>) -> bool
+    ensures { result ≡ is_some (single_value text_cmp (map point_of
+        (option_to_list (option_copied lower.entry) ++ option_to_list (option_copied upper.entry)))) }
+{
+    match (lower, upper) {
+        (Some(Boundary::At(lower)), Some(Boundary::JustAbove(upper))) => lower.cmp(upper).is_eq(),
+        _ => false,
+    }
+}
+
+/// Warns of the bounds of an edge.
+fn report_edge<R: Reporter>(
+    alloc: Global,
+    text: &str,
+    lower: Option<&Boundary<MarkerText>>,
+    upper: Option<&Boundary<MarkerText>>,
+    reporter: &mut R,
+) -> Result<(), AllocError>
+    requires { R.can_report reporter.old }
+    ensures again { R.can_report reporter.new }
+    ensures taken { OnOk result (FoldsTo (TakesKind R.takes) reporter.old
+        (edge (option_to_list (option_copied lower.entry)) (option_to_list (option_copied upper.entry)))
+        reporter.new) }
+{
+    if is_single(lower, upper) {
+        return Ok(());
+    }
+    if let Some(bound) = lower {
+        report_bound(alloc, text, bound, reporter)?;
+    }
+    if let Some(bound) = upper {
+        report_bound(alloc, text, bound, reporter)?;
+    }
+    Ok(())
+}
+
+/// Warns of the edges of a node of texts, up to the one that has a text.
+fn report_edges<R: Reporter>(
+    alloc: Global,
+    text: &str,
+    later: &[Branch<MarkerText, MarkerTree>],
+    reporter: &mut R,
+) -> Result<(), AllocError>
+    requires { R.can_report reporter.old }
+    ensures again { R.can_report reporter.new }
+    ensures taken { OnOk result (FoldsTo (TakesKind R.takes) reporter.old
+        (text_edges [] later.now (At text.now)) reporter.new) }
+{
+    let mut lower = None;
+    for branch in later {
+        report_edge(alloc, text, lower, Some(&branch.boundary), reporter)?;
+        if !is_reached(&branch.boundary, text) {
+            return Ok(());
+        }
+        lower = Some(&branch.boundary);
+    }
+    report_edge(alloc, text, lower, None, reporter)
+}
+
+/// Warns of the edges of the node at a tree's root.
+fn report_root_edges<R: Reporter>(
+    alloc: Global,
+    tree: MarkerTree,
+    interner: &Interner,
+    environment: &MarkerEnvironment,
+    extras: &[ExtraName],
+    reporter: &mut R,
+) -> Result<(), AllocError>
+    requires made { IsTree interner.now.nodes tree }
+    requires can { R.can_report reporter.old }
+    ensures again { R.can_report reporter.new }
+    ensures taken { OnOk result (FoldsTo (TakesKind R.takes) reporter.old
+        (root_edges (root_of interner.now.nodes tree) (valuation_of environment.now extras.now))
+        reporter.new) }
+{
+    match node(tree, interner) {
+        TreeNode::Constant(_) => Ok(()),
+        TreeNode::Versions(_, _) => Ok(()),
+        TreeNode::Texts(key, children) => {
+            report_edges(alloc, environment.get_string(key), children.later, reporter)
+        }
+        TreeNode::Flagged(_, _, _) => Ok(()),
+    }
+}
+
+/// Whether a tree holds in an environment with extras. Warns of what is compared on the way.
+fn report_compared<R: Reporter>(
+    alloc: Global,
+    tree: MarkerTree,
+    interner: &Interner,
+    environment: &MarkerEnvironment,
+    extras: &[ExtraName],
+    reporter: &mut R,
+) -> Result<bool, AllocError>
+    requires made { IsTree interner.now.nodes tree }
+    requires can { R.can_report reporter.old }
+    ensures answer { IfOk result (λ yes.
+        yes ≡ holds interner.now.nodes tree (valuation_of environment.now extras.now)) }
+    ensures taken { OnOk result (FoldsTo (TakesKind R.takes) reporter.old
+        (compared (valuation_of environment.now extras.now) None (diagram_of interner.now.nodes tree))
+        reporter.new) }
+{
+    are_sound(interner);
+    let mut tree = tree;
+    loop {
+        report_root_edges(alloc, tree, interner, environment, extras, reporter)?;
+        match step(tree, interner, environment, extras) {
+            ControlFlow::Break(truth) => return Ok(truth),
+            ControlFlow::Continue(next) => tree = next,
+        }
+    }
+}
+
+/// Warns of the old name that a node has.
+fn report_root_name<R: Reporter>(
+    alloc: Global,
+    node: &TreeNode,
+    reporter: &mut R,
+) -> Result<(), AllocError>
+    requires { R.can_report reporter.old }
+    ensures again { R.can_report reporter.new }
+    ensures taken { OnOk result
+        (FoldsTo (TakesKind R.takes) reporter.old (root_names (shown node.now)) reporter.new) }
+{
+    match node {
+        TreeNode::Texts(key, _) => report_old_name(alloc, *key, reporter),
+        _ => Ok(()),
+    }
+}
+
+/// Warns of all old names in a tree.
+fn report_old_names<R: Reporter>(
+    alloc: Global,
+    tree: MarkerTree,
+    interner: &Interner,
+    reporter: &mut R,
+) -> Result<(), AllocError>
+    requires made { IsTree interner.now.nodes tree }
+    requires can { R.can_report reporter.old }
+    ensures again { R.can_report reporter.new }
+    ensures taken { OnOk result (FoldsTo (TakesKind R.takes) reporter.old
+        (old_names None (diagram_of interner.now.nodes tree)) reporter.new) }
+{
+    are_sound(interner);
+    let node = node(tree, interner);
+    report_root_name(alloc, &node, reporter)?;
+    for index in 0..child_count(&node) {
+        if let Some(child) = child_at(&node, index) {
+            report_old_names(alloc, child, interner, reporter)?;
+        }
+    }
+    Ok(())
+}
+
+/// Whether a tree holds in an environment with extras. Warns of old names, and of what is compared.
+pub(crate) fn evaluate_reporter<R: Reporter>(
+    alloc: Global,
+    tree: MarkerTree,
+    interner: &Interner,
+    environment: &MarkerEnvironment,
+    extras: &[ExtraName],
+    reporter: &mut R,
+) -> Result<bool, AllocError>
+    requires made { IsTree interner.now.nodes tree }
+    requires can { R.can_report reporter.old }
+    ensures answer { IfOk result (λ yes.
+        yes ≡ holds interner.now.nodes tree (valuation_of environment.now extras.now)) }
+    ensures taken { OnOk result (FoldsTo (TakesKind R.takes) reporter.old
+        (warned (valuation_of environment.now extras.now) (diagram_of interner.now.nodes tree))
+        reporter.new) }
+{
+    report_old_names(alloc, tree, interner, reporter)?;
+    report_compared(alloc, tree, interner, environment, extras, reporter)
+}
