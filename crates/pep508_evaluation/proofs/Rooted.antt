@@ -1,7 +1,7 @@
 -- The diagram of a tree by the node at its root.
-use Rattle.std.proofs.Common.{◌≡◌, ℕ, zero, suc, ◌+◌, ◌-◌, ◌<◌, ◌==◌, Bool, true, false, not, List, [], ◌∷◌, ◌++◌, map, length, get_or, refl, sym, ap, ap₂, subst, ◌∙◌, arith, Option, Some, None, inl, inr, cond, if◌then◌else◌, true≢false}
+use Rattle.std.proofs.Common.{◌≡◌, ℕ, zero, suc, ◌+◌, ◌-◌, ◌<◌, ◌≤◌, ◌==◌, Bool, true, false, not, List, [], ◌∷◌, ◌++◌, map, length, get_or, refl, sym, ap, ap₂, subst, ◌∙◌, arith, take, add-one, append-nil, append_assoc, Option, Some, None, inl, inr, cond, if◌then◌else◌, true≢false}
 use Rattle.std.proofs.lemmas.Bool.{cases_Bool}
-use Rattle.std.specs.List.{flat_map}
+use Rattle.std.specs.List.{flat_map, slice_get}
 use Rattle.std.specs.Prelude.{IfSome}
 use Rattle.std.specs.Cmp.{unsigned_Decides}
 use Rattle.version_ranges.specs.declared.boundary.Boundary.{Boundary}
@@ -18,14 +18,15 @@ use Rattle.pep508_diagram.specs.Children.{RootBehind}
 use Rattle.pep508_diagram.specs.Question.{Question, VersionBelow, TextBelow, IsSet, Valuation, lies_below}
 use Rattle.pep508_diagram.specs.Text.{text_cmp}
 use Rattle.pep508_diagram.proofs.Turned.{turned_not}
+use Rattle.pep508_diagram.proofs.Questions.{not_not}
 use Rattle.pep508_tree.specs.Tree.{Tree, negation}
 use Rattle.pep508_tree.specs.Meaning.{NodeRecord, Versions, Texts, Flagged, node_diagram, diagrams, diagram_of, IsTree}
 use Rattle.pep508_tree.specs.Nodes.{AllChildren, Above, AreSound, chosen, node_at, node_place, signed, turned_branch}
 use Rattle.pep508_tree.specs.Joining.{children}
-use Rattle.pep508_tree.proofs.Children.{weaker_children, both_children}
+use Rattle.pep508_tree.proofs.NodeChildren.{weaker_children, both_children}
 use Rattle.pep508_tree.proofs.Diagrams.{diagram_top}
 use Rattle.pep508_tree.proofs.OneTree.{top_or_node, tree_at, root_behind}
-use Rattle.pep508_evaluation.specs.Roots.{root_of, IsRoot}
+use Rattle.pep508_tree.specs.Roots.{root_of, IsRoot}
 use Rattle.pep508_evaluation.specs.Steps.{children_of}
 use Rattle.pep508_evaluation.specs.Warned.{key_names, old_names, edge, compared}
 use Rattle.pep508_evaluation.specs.Edges.{text_edges, root_edges, root_names}
@@ -33,11 +34,7 @@ use Rattle.pep508_evaluation.proofs.Warning.{AllBehind, names_node, compared_nod
 
 -- a diagram that is turned twice
 turned_on : {Q : Type 0} (b : Bool) (d : Diagram Q) → turned_by true (turned_by b d) ≡ turned_by (not b) d
-turned_on true (Leaf x) = twice x
-  where
-    twice : (x : Bool) → Leaf {Q = Q} (not (not x)) ≡ Leaf x
-    twice true = refl
-    twice false = refl
+turned_on true (Leaf x) = ap Leaf (not_not x)
 turned_on false (Leaf x) = refl
 turned_on b (Test q low high) = ap₂ (Test q) (turned_on b low) (turned_on b high)
 
@@ -69,22 +66,22 @@ module _ (nodes : List NodeRecord) where
 
     -- a tree with a node
     placed : (tree.place == 0) ≡ false → tree.place ≡ (tree.place - 1) + 1
-    placed no = elim (top_or_node tree.place) [
-      | inl e ↦ absurd (true≢false (sym ((unsigned_Decides tree.place 0).1 e) ∙ no))
+    placed node = elim (top_or_node tree.place) [
+      | inl e ↦ absurd (true≢false (sym ((unsigned_Decides tree.place 0).1 e) ∙ node))
       | inr e ↦ omega (arith, e.1)
     ]
 
     pub root_diagram : (n : NodeRecord) → root_of nodes tree ≡ Some n →
         diagram_of nodes tree ≡ node_diagram (diagram_of nodes) n
     root_diagram n e = elim (cases_Bool (tree.place == 0)) [
-      | inl yes ↦ absurd (none_some (sym (ap root_where yes) ∙ e))
-      | inr no ↦
+      | inl top ↦ absurd (none_some (sym (ap root_where top) ∙ e))
+      | inr node ↦
           let k = tree.place - 1 in
-          let at : tree.place ≡ k + 1 = placed no in
+          let at : tree.place ≡ k + 1 = placed node in
           let here : k < length nodes = omega (arith, at) in
           tree_at nodes sound tree k at here
           ∙ signed_diagram tree.negated (node_at nodes k)
-          ∙ ap (node_diagram (diagram_of nodes)) (some_same _ n (sym (ap root_where no) ∙ e))
+          ∙ ap (node_diagram (diagram_of nodes)) (some_same _ n (sym (ap root_where node) ∙ e))
     ]
       where
         none_some : None ≡ Some n → ⊥
@@ -96,8 +93,8 @@ module _ (nodes : List NodeRecord) where
     pub constant_diagram : root_of nodes tree ≡ None →
         diagram_of nodes tree ≡ turned_by tree.negated (Leaf true)
     constant_diagram e = elim (cases_Bool (tree.place == 0)) [
-      | inl yes ↦ diagram_top nodes tree ((unsigned_Decides tree.place 0).0 yes)
-      | inr no ↦ absurd (some_none _ (sym (ap root_where no) ∙ e))
+      | inl top ↦ diagram_top nodes tree ((unsigned_Decides tree.place 0).0 top)
+      | inr node ↦ absurd (some_none _ (sym (ap root_where node) ∙ e))
     ]
       where
         some_none : (n : NodeRecord) → Some n ≡ None → ⊥
@@ -173,3 +170,28 @@ pub signed_version_names : (turns : Bool) (key : VersionVariable) (first : Tree)
     root_names (Some (signed turns (Versions key first later))) ≡ []
 signed_version_names true key first later = refl
 signed_version_names false key first later = refl
+
+-- ---- one more child
+
+some_is : (x y : Tree) → Some x ≡ Some y → x ≡ y
+some_is x y f = cc
+
+pub one_more : {A : Type 0} (f : Tree → List A) (cs : List Tree) (i : ℕ) (c : Tree) →
+    Some c ≡ slice_get cs i → flat_map f (take (i + 1) cs) ≡ flat_map f (take i cs) ++ f c
+one_more f cs i c e = rw add-one (from cs i e)
+  where
+    from : (cs : List Tree) (i : ℕ) → Some c ≡ slice_get cs i →
+        flat_map f (take (suc i) cs) ≡ flat_map f (take i cs) ++ f c
+    from [] i e = absurd (cc)
+    from (x ∷ xs) zero e = append-nil (f x) ∙ ap f (sym (some_is c x e))
+    from (x ∷ xs) (suc i) e =
+        ap (λ rest. f x ++ rest) (from xs i e) ∙ sym (append_assoc (f x) (flat_map f (take i xs)) (f c))
+
+pub taken_all : (cs : List Tree) (i end : ℕ) → end ≡ length cs → end ≤ i → take i cs ≡ cs
+taken_all cs i end e over = all cs i (omega (arith, e))
+  where
+    all : (cs : List Tree) (i : ℕ) → length cs ≤ i → take i cs ≡ cs
+    all [] zero h = refl
+    all [] (suc i) h = refl
+    all (x ∷ xs) zero h = absurd (omega arith)
+    all (x ∷ xs) (suc i) h = ap (λ ys. x ∷ ys) (all xs i (omega arith))

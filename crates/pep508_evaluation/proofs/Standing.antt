@@ -1,5 +1,5 @@
 -- A text stands in another where it stands there as a part.
-use Rattle.std.proofs.Common.{◌≡◌, ◌↔◌, inl, inr, ℕ, ◌||◌, Bool, true, false, eqb, List, [], ◌∷◌, ◌++◌, length, take, drop, refl, sym, ap, ◌∙◌, true≢false, None}
+use Rattle.std.proofs.Common.{◌≡◌, ◌↔◌, inl, inr, ℕ, ◌||◌, Bool, true, false, eqb, List, [], ◌∷◌, ◌++◌, length, take, drop, refl, sym, ap, ◌∙◌, true≢false, None, IsTrue}
 use Rattle.std.proofs.lemmas.Bool.{cases_Bool}
 use Rattle.std.proofs.lemmas.Bool.Decides.{Decides-eqb}
 use Rattle.std.proofs.lemmas.Slice.Eq.{starts_is}
@@ -66,3 +66,6 @@ contains_is answer text whole found =
     same_truth answer (stands_in text whole)
     (λ e. let p = part.0 e in of_part text whole p.0 p.1 p.2)
     (λ e. part.1 (part_of text whole e))
+
+pub standing_part : (text whole : List ℕ) → IsTrue (stands_in text whole) ↔ HasSubslice whole text
+standing_part text whole = (part_of text whole, λ p. of_part text whole p.0 p.1 p.2)

@@ -101,9 +101,9 @@ module _ {T C : Type 0} {cmp : T → T → Ordering} {of : Boundary T → Questi
       ++ cond (lies_below cmp p branch.boundary) [] (edges (text_boundaries (of branch.boundary)) later p)
 
   -- what stands before begins or goes on with the key's node
-  record Before (v : Valuation) (before : Option Question) : Type 0 where
-    starts : (b : Boundary T) → edges_to before (of b) ≡ edge (passed before) (text_boundaries (of b))
-    ends : (c : C) → Behind c → compared v before (at c) ≡ edge (passed before) [] ++ compared v None (at c)
+  pub record Before (v : Valuation) (before : Option Question) : Type 0 where
+    pub starts : (b : Boundary T) → edges_to before (of b) ≡ edge (passed before) (text_boundaries (of b))
+    pub ends : (c : C) → Behind c → compared v before (at c) ≡ edge (passed before) [] ++ compared v None (at c)
 
   begins : (v : Valuation) → Before v None
   begins v = record { starts = λ b. refl; ends = λ c behind. refl }
@@ -150,6 +150,9 @@ module _ {T C : Type 0} {cmp : T → T → Ordering} {of : Boundary T → Questi
 
 -- ---- nodes
 
+abbrev no_kinds : List MarkerWarningKind
+no_kinds = []
+
 -- a key of versions has no texts
 no_edges : {T C : Type 0} {cmp : T → T → Ordering} {of : Boundary T → Question} {point : Valuation → Point T}
     (key : IsKey marker cmp of point) (at : C → Diagram Question) (place : List ℕ)
@@ -164,7 +167,7 @@ no_edges {cmp = cmp} {of = of} key at place places none lower e (branch ∷ late
     (no_edges key at place places none (text_boundaries q) (none branch.boundary) later p)
     ∙ either (lies_below cmp p branch.boundary)
   where
-    either : (b : Bool) → cond b ([] {A = MarkerWarningKind}) [] ≡ []
+    either : (b : Bool) → cond b no_kinds no_kinds ≡ no_kinds
     either true = refl
     either false = refl
 

@@ -1,5 +1,4 @@
 pub mod Valuations
-pub mod Roots
 pub mod Steps
 pub mod Warned
 pub mod Edges

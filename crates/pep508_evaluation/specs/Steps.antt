@@ -7,17 +7,23 @@ use Rattle.pep508_diagram.specs.Question.{Valuation}
 use Rattle.pep508_tree.specs.Tree.{Tree}
 use Rattle.pep508_tree.specs.Meaning.{NodeRecord, Versions, Texts, Flagged, holds, diagram_of, IsTree}
 use Rattle.pep508_tree.specs.Joining.{children}
+use Rattle.pep508_tree.specs.Nodes.{chosen}
+use Rattle.pep508_tree.specs.Roots.{root_of, IsRoot}
 use Rattle.pep508_evaluation.specs.Valuations.{HasJust}
 
--- a tree that was made earlier holds at the valuation where the tree does
+-- what stands at the root of a tree at the valuation, which was made earlier and holds there where the tree does
 pub record GoesDown (nodes : List NodeRecord) (tree : Tree) (v : Valuation) (next : Tree) : Type 0 where
+  pub root : NodeRecord
+  pub root_is : root_of nodes tree ≡ Some root
+  pub known : IsRoot nodes tree root
+  pub chosen_is : next ≡ chosen root v
   pub made : IsTree nodes next
   pub falls : next.place < tree.place
   pub same : holds nodes tree v ≡ holds nodes next v
 
--- the tree's answer, or a tree that gives it
+-- the answer of a tree without a node, or a tree that has the answer
 abbrev pub Answers : List NodeRecord → Tree → Valuation → ControlFlow Bool Tree → Type 0
-Answers nodes tree v (Break truth) = holds nodes tree v ≡ truth
+Answers nodes tree v (Break truth) = (holds nodes tree v ≡ truth) × (root_of nodes tree ≡ None)
 Answers nodes tree v (Continue next) = GoesDown nodes tree v next
 
 -- the node asks for no extra

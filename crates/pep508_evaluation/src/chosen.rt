@@ -12,12 +12,11 @@ ghost use Rattle.pep508_tree.specs.Nodes.{turned};
 ghost use Rattle.pep508_evaluation.specs.Steps.{Answers};
 ghost use Rattle.pep508_evaluation.specs.Valuations.{stands_in, variable_in, is_set, valuation_of};
 
-use crate::root::{Children, TreeNode, node};
+use pep508_tree::{Children, Interner, MarkerTree, TreeNode};
 use pep440_version::Version;
 use pep508_diagram::{Branch, Flag, MarkerText, VersionVariable, branch_at};
 use pep508_environment::MarkerEnvironment;
 use pep508_name::ExtraName;
-use pep508_tree::{Interner, MarkerTree};
 use std::ops::ControlFlow;
 use version_ranges::Boundary;
 
@@ -57,8 +56,8 @@ pub(crate) fn turned(tree: MarkerTree, turns: bool) -> MarkerTree
 /// The child at a version.
 fn version_child(children: Children<Version>, version: &Version) -> MarkerTree
     requires { RisingBranches version_cmp children.later.now }
-    ensures { result ≡ turned children.negated
-        (branch_at version_cmp children.first children.entry.later.now (At version.now)) }
+    ensures { result ≡ turned children.entry.negated
+        (branch_at version_cmp children.entry.first children.entry.later.now (At version.now)) }
 {
     turned(
         branch_at(children.first, children.later, version),
@@ -69,8 +68,8 @@ fn version_child(children: Children<Version>, version: &Version) -> MarkerTree
 /// The child at a text.
 fn text_child(children: Children<MarkerText>, text: &str) -> MarkerTree
     requires { RisingBranches text_cmp children.later.now }
-    ensures { result ≡ turned children.negated
-        (branch_at text_cmp children.first children.entry.later.now (At text.now)) }
+    ensures { result ≡ turned children.entry.negated
+        (branch_at text_cmp children.entry.first children.entry.later.now (At text.now)) }
 {
     turned(
         branch_at_text(children.first, children.later, text),
@@ -119,7 +118,7 @@ pub(crate) fn step(
     requires { IsTree interner.now.nodes tree }
     ensures { Answers interner.now.nodes tree (valuation_of environment.now extras.now) result }
 {
-    match node(tree, interner) {
+    match tree.node(interner) {
         TreeNode::Constant(truth) => ControlFlow::Break(truth),
         TreeNode::Versions(key, children) => {
             ControlFlow::Continue(version_child(children, variable_in(environment, key)))

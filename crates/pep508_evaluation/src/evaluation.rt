@@ -1,6 +1,6 @@
 //! What trees answer, as calls on them.
 
-ghost use Rattle.std.specs.Prelude.{◌≡◌, ◌↔◌, IsTrue, IfOk, OnOk, None, map, option_copied};
+ghost use Rattle.std.specs.Prelude.{◌≡◌, ◌↔◌, IsTrue, IfOk, OnOk, map, option_copied};
 ghost use Rattle.std.specs.List.{FoldsTo};
 ghost use Rattle.pep508_tree.specs.Tree.{Tree};
 ghost use Rattle.pep508_tree.specs.Meaning.{IsTree, holds, diagram_of};
@@ -9,6 +9,7 @@ ghost use Rattle.pep508_evaluation.specs.Warned.{warned, TakesKind};
 
 use crate::chosen::evaluate;
 use crate::holding::can_hold;
+use crate::warned::{evaluate_collect_warnings, evaluate_reporter};
 use pep440_version::Version;
 use pep508_environment::MarkerEnvironment;
 use pep508_marker::{MarkerWarningKind, Reporter};
@@ -65,6 +66,42 @@ pub trait MarkerEvaluation {
     ) -> bool
         requires { IsTree interner.now.nodes (tree self) }
         ensures { IsTrue result ↔ CanHold interner.now.nodes (tree self) extras.now };
+
+    /// `evaluate`, which tells a reporter first of each old name of PEP 345 in the tree, one warning for each path
+    /// to a node of it, and then of each bound that a text is compared with on the way to the answer. The only
+    /// refusal is want of memory, for a warning's text or the reporter's own. No text is made for a reporter that
+    /// wants none.
+    ///
+    /// Goes over each path from the root, of which there can be many more than nodes.
+    fn evaluate_reporter<R: Reporter>(
+        self,
+        alloc: Global,
+        interner: &Interner,
+        environment: &MarkerEnvironment,
+        extras: &[ExtraName],
+        reporter: &mut R,
+    ) -> Result<bool, AllocError>
+        requires made { IsTree interner.now.nodes (tree self) }
+        requires can { R.can_report reporter.old }
+        ensures answer { IfOk result (λ yes.
+            yes ≡ holds interner.now.nodes (tree self) (valuation_of environment.now extras.now)) }
+        ensures taken { OnOk result (FoldsTo (TakesKind R.takes) reporter.old
+            (warned (valuation_of environment.now extras.now) (diagram_of interner.now.nodes (tree self)))
+            reporter.new) };
+
+    /// `evaluate` with the warnings of `evaluate_reporter`, in order. Takes memory for them.
+    fn evaluate_collect_warnings(
+        self,
+        alloc: Global,
+        interner: &Interner,
+        environment: &MarkerEnvironment,
+        extras: &[ExtraName],
+    ) -> Result<(bool, Vec<(MarkerWarningKind, String)>), AllocError>
+        requires { IsTree interner.now.nodes (tree self) }
+        ensures answer { IfOk result (λ told.
+            told.0 ≡ holds interner.now.nodes (tree self) (valuation_of environment.now extras.now)) }
+        ensures kinds { IfOk result (λ told. map (λ warning. warning.0) told.1.items
+            ≡ warned (valuation_of environment.now extras.now) (diagram_of interner.now.nodes (tree self))) };
 }
 
 impl MarkerEvaluation for MarkerTree {
@@ -102,5 +139,26 @@ impl MarkerEvaluation for MarkerTree {
         _python_versions: &[Version],
     ) -> bool {
         can_hold(self, interner, extras)
+    }
+
+    fn evaluate_reporter<R: Reporter>(
+        self,
+        alloc: Global,
+        interner: &Interner,
+        environment: &MarkerEnvironment,
+        extras: &[ExtraName],
+        reporter: &mut R,
+    ) -> Result<bool, AllocError> {
+        evaluate_reporter(alloc, self, interner, environment, extras, reporter)
+    }
+
+    fn evaluate_collect_warnings(
+        self,
+        alloc: Global,
+        interner: &Interner,
+        environment: &MarkerEnvironment,
+        extras: &[ExtraName],
+    ) -> Result<(bool, Vec<(MarkerWarningKind, String)>), AllocError> {
+        evaluate_collect_warnings(alloc, self, interner, environment, extras)
     }
 }

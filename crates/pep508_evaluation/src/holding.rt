@@ -1,18 +1,42 @@
 //! Whether some valuation with just the listed extras makes a tree hold.
 
-ghost use Rattle.std.specs.Prelude.{◌≡◌, ◌≤◌, ◌↔◌, IsTrue, IfSome, MatchOption, length};
+ghost use Rattle.std.specs.Prelude.{◌≡◌, ◌≤◌, ◌<◌, ◌↔◌, IsTrue, IfSome, MatchOption, length, map, ◌∷◌, option_map};
 ghost use Rattle.std.specs.List.{slice_get};
 ghost use Rattle.pep508_diagram.specs.Question.{Valuation};
-ghost use Rattle.pep508_tree.specs.Meaning.{IsTree, holds};
-ghost use Rattle.pep508_evaluation.specs.Roots.{root_of, shown};
+ghost use Rattle.pep508_tree.specs.Meaning.{Flagged, IsTree, holds};
+ghost use Rattle.pep508_tree.specs.Nodes.{chosen, turned};
+ghost use Rattle.pep508_tree.specs.Roots.{root_of};
 ghost use Rattle.pep508_evaluation.specs.Steps.{AsksNoExtra, GoesPast, children_of};
 ghost use Rattle.pep508_evaluation.specs.Valuations.{HasJust, CanHold};
 
 use crate::chosen::turned;
-use crate::root::{Children, TreeNode, are_sound, node};
+use pep508_tree::{Children, Interner, MarkerTree, TreeNode};
 use pep508_diagram::Flag;
 use pep508_name::ExtraName;
-use pep508_tree::{Interner, MarkerTree};
+
+/// What stands for the extras under a flag that asks for one.
+fn extra_side(
+    flag: &Flag,
+    set: MarkerTree,
+    unset: MarkerTree,
+    extras: &[ExtraName],
+) -> Option<MarkerTree>
+    ensures { MatchOption result (AsksNoExtra (Flagged flag.now set unset))
+        (λ child. (v : Valuation) → HasJust extras.now v → chosen (Flagged flag.now set unset) v ≡ child) }
+{
+    match flag {
+        Flag::In(_, _) => None,
+        Flag::Contains(_, _) => None,
+        Flag::Extra(name) => {
+            if extras.contains(name) {
+                Some(set)
+            } else {
+                Some(unset)
+            }
+        }
+        Flag::Arbitrary(_) => Some(unset),
+    }
+}
 
 /// The child that stands for the extras, where the tree asks first for an extra.
 fn extra_child(tree: MarkerTree, interner: &Interner, extras: &[ExtraName]) -> Option<MarkerTree>
@@ -20,17 +44,11 @@ fn extra_child(tree: MarkerTree, interner: &Interner, extras: &[ExtraName]) -> O
     ensures { MatchOption result (IfSome (root_of interner.now.nodes tree) AsksNoExtra)
         (GoesPast interner.now.nodes extras.now tree) }
 {
-    match node(tree, interner) {
+    match tree.node(interner) {
         TreeNode::Constant(_) => None,
         TreeNode::Versions(_, _) => None,
         TreeNode::Texts(_, _) => None,
-        TreeNode::Flagged(Flag::In(_, _), _, _) => None,
-        TreeNode::Flagged(Flag::Contains(_, _), _, _) => None,
-        TreeNode::Flagged(Flag::Extra(name), set, unset) => {
-            let is_listed = extras.contains(name);
-            Some(if is_listed { set } else { unset })
-        }
-        TreeNode::Flagged(Flag::Arbitrary(_), _, unset) => Some(unset),
+        TreeNode::Flagged(flag, set, unset) => extra_side(flag, set, unset, extras),
     }
 }
 
@@ -50,37 +68,51 @@ fn past_extras(tree: MarkerTree, interner: &Interner, extras: &[ExtraName]) -> M
     tree
 }
 
-/// The child between two boundaries.
-fn child_between<T>(children: &Children<T>, index: usize) -> Option<MarkerTree>
-    ensures { result ≡ option_map (turned children.now.negated)
-        (slice_get (children.now.first ∷ map (λ branch. branch.child) children.now.later.now) index) }
+/// The child between two boundaries, by its place.
+fn child_between<T>(children: Children<T>, index: usize) -> Option<MarkerTree>
+    ensures { result ≡ option_map (turned children.entry.negated)
+        (slice_get (children.entry.first ∷ map (λ branch. branch.child) children.entry.later.now) index) }
 {
-    match index.checked_sub(1) {
-        None => Some(turned(children.first, children.negated)),
-        Some(later) => {
-            let branch = children.later.get(later)?;
-            Some(turned(branch.child, children.negated))
-        }
+    if index == 0 {
+        return Some(turned(children.first, children.negated));
+    }
+    match children.later.get(index - 1) {
+        Some(branch) => Some(turned(branch.child, children.negated)),
+        None => None,
     }
 }
 
-/// A child of a node, by its place.
-pub(crate) fn child_at(node: &TreeNode, index: usize) -> Option<MarkerTree>
-    ensures { result ≡ slice_get (children_of (shown node.now)) index }
+/// A child of the node at a tree's root, by its place.
+#[tactic(auto, using(crate::proofs::Choosing::version_child_at, crate::proofs::Choosing::text_child_at))]
+fn child_at(tree: MarkerTree, interner: &Interner, index: usize) -> Option<MarkerTree>
+    requires { IsTree interner.now.nodes tree }
+    ensures { result ≡ slice_get (children_of (root_of interner.now.nodes tree)) index }
 {
-    match node {
+    match tree.node(interner) {
         TreeNode::Constant(_) => None,
         TreeNode::Versions(_, children) => child_between(children, index),
         TreeNode::Texts(_, children) => child_between(children, index),
-        TreeNode::Flagged(_, set, unset) => [*set, *unset].get(index).copied(),
+        TreeNode::Flagged(_, set, unset) => [set, unset].get(index).copied(),
     }
 }
 
-/// How many children a node has.
-pub(crate) fn child_count(node: &TreeNode) -> usize
-    ensures { result ≡ length (children_of (shown node.now)) }
+/// The same, which was made before the tree; there is none behind the last.
+pub(crate) fn root_child(tree: MarkerTree, interner: &Interner, index: usize) -> Option<MarkerTree>
+    requires { IsTree interner.now.nodes tree }
+    ensures child { result ≡ slice_get (children_of (root_of interner.now.nodes tree)) index }
+    ensures falls { MatchOption result (length (children_of (root_of interner.now.nodes tree)) ≤ index)
+        (λ child. IsTree interner.now.nodes child × (child.place < tree.place)) }
 {
-    match node {
+    interner.are_sound();
+    child_at(tree, interner, index)
+}
+
+/// How many children the node at a tree's root has.
+pub(crate) fn root_child_count(tree: MarkerTree, interner: &Interner) -> usize
+    requires { IsTree interner.now.nodes tree }
+    ensures { result ≡ length (children_of (root_of interner.now.nodes tree)) }
+{
+    match tree.node(interner) {
         TreeNode::Constant(_) => 0,
         TreeNode::Versions(_, children) => children.later.len() + 1,
         TreeNode::Texts(_, children) => children.later.len() + 1,
@@ -93,15 +125,14 @@ pub(crate) fn can_hold(tree: MarkerTree, interner: &Interner, extras: &[ExtraNam
     requires { IsTree interner.now.nodes tree }
     ensures { IsTrue result ↔ CanHold interner.now.nodes tree extras.now }
 {
-    are_sound(interner);
-    let tree = past_extras(tree, interner, extras);
-    let node = node(tree, interner);
-    for index in 0..child_count(&node) {
-        if let Some(child) = child_at(&node, index) {
+    interner.are_sound();
+    let rest = past_extras(tree, interner, extras);
+    for index in 0..root_child_count(rest, interner) {
+        if let Some(child) = root_child(rest, interner, index) {
             if can_hold(child, interner, extras) {
                 return true;
             }
         }
     }
-    matches!(node, TreeNode::Constant(true))
+    rest.is_true()
 }

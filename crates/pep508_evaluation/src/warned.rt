@@ -10,16 +10,15 @@ ghost use Rattle.pep508_tree.specs.Meaning.{IsTree, holds, diagram_of};
 ghost use Rattle.pep508_evaluation.specs.Valuations.{valuation_of};
 ghost use Rattle.pep508_evaluation.specs.Warned.{key_names, old_names, edge, compared, warned, TakesKind};
 ghost use Rattle.pep508_evaluation.specs.Edges.{text_edges, root_edges, root_names};
-ghost use Rattle.pep508_evaluation.specs.Roots.{root_of, shown};
+ghost use Rattle.pep508_tree.specs.Roots.{root_of};
 
 use crate::chosen::{is_reached, step};
-use crate::holding::{child_at, child_count};
-use crate::root::{Children, TreeNode, are_sound, node};
+use crate::holding::{root_child, root_child_count};
+use pep508_tree::{Interner, MarkerTree, TreeNode};
 use pep508_diagram::{Branch, MarkerText};
 use pep508_environment::MarkerEnvironment;
 use pep508_marker::{MarkerValueString, MarkerWarningKind, Reporter};
 use pep508_name::ExtraName;
-use pep508_tree::{Interner, MarkerTree};
 use std::alloc::{AllocError, Global};
 use std::ops::ControlFlow;
 use version_ranges::Boundary;
@@ -148,7 +147,7 @@ fn report_root_edges<R: Reporter>(
         (root_edges (root_of interner.now.nodes tree) (valuation_of environment.now extras.now))
         reporter.new) }
 {
-    match node(tree, interner) {
+    match tree.node(interner) {
         TreeNode::Constant(_) => Ok(()),
         TreeNode::Versions(_, _) => Ok(()),
         TreeNode::Texts(key, children) => {
@@ -175,7 +174,7 @@ fn report_compared<R: Reporter>(
         (compared (valuation_of environment.now extras.now) None (diagram_of interner.now.nodes tree))
         reporter.new) }
 {
-    are_sound(interner);
+    interner.are_sound();
     let mut tree = tree;
     loop {
         report_root_edges(alloc, tree, interner, environment, extras, reporter)?;
@@ -186,20 +185,25 @@ fn report_compared<R: Reporter>(
     }
 }
 
-/// Warns of the old name that a node has.
+/// Warns of the old name that the node at a tree's root has.
+#[tactic(auto, using(crate::proofs::Rooted::signed_names, crate::proofs::Rooted::signed_version_names))]
 fn report_root_name<R: Reporter>(
     alloc: Global,
-    node: &TreeNode,
+    tree: MarkerTree,
+    interner: &Interner,
     reporter: &mut R,
 ) -> Result<(), AllocError>
-    requires { R.can_report reporter.old }
+    requires made { IsTree interner.now.nodes tree }
+    requires can { R.can_report reporter.old }
     ensures again { R.can_report reporter.new }
-    ensures taken { OnOk result
-        (FoldsTo (TakesKind R.takes) reporter.old (root_names (shown node.now)) reporter.new) }
+    ensures taken { OnOk result (FoldsTo (TakesKind R.takes) reporter.old
+        (root_names (root_of interner.now.nodes tree)) reporter.new) }
 {
-    match node {
-        TreeNode::Texts(key, _) => report_old_name(alloc, *key, reporter),
-        _ => Ok(()),
+    match tree.node(interner) {
+        TreeNode::Constant(_) => Ok(()),
+        TreeNode::Versions(_, _) => Ok(()),
+        TreeNode::Texts(key, _) => report_old_name(alloc, key, reporter),
+        TreeNode::Flagged(_, _, _) => Ok(()),
     }
 }
 
@@ -216,12 +220,12 @@ fn report_old_names<R: Reporter>(
     ensures taken { OnOk result (FoldsTo (TakesKind R.takes) reporter.old
         (old_names None (diagram_of interner.now.nodes tree)) reporter.new) }
 {
-    are_sound(interner);
-    let node = node(tree, interner);
-    report_root_name(alloc, &node, reporter)?;
-    for index in 0..child_count(&node) {
-        if let Some(child) = child_at(&node, index) {
-            report_old_names(alloc, child, interner, reporter)?;
+    interner.are_sound();
+    report_root_name(alloc, tree, interner, reporter)?;
+    for index in 0..root_child_count(tree, interner) {
+        match root_child(tree, interner, index) {
+            Some(child) => report_old_names(alloc, child, interner, reporter)?,
+            None => unreachable!(),
         }
     }
     Ok(())
@@ -246,4 +250,44 @@ pub(crate) fn evaluate_reporter<R: Reporter>(
 {
     report_old_names(alloc, tree, interner, reporter)?;
     report_compared(alloc, tree, interner, environment, extras, reporter)
+}
+
+/// Keeps each warning.
+#[derive(Drop)]
+pub(crate) struct Collected {
+    pub(crate) warnings: Vec<(MarkerWarningKind, String)>,
+}
+
+impl Reporter for Collected {
+    ghost use Rattle.std.specs.Prelude.{◌≡◌, [], ◌∷◌, ◌++◌, map};
+
+    ghost takes = { λ old warning new. map (λ kept. kept.0) new.warnings.items
+        ≡ map (λ kept. kept.0) old.warnings.items ++ warning.kind ∷ [] };
+
+    fn report(&mut self, kind: MarkerWarningKind, text: String) -> Result<(), AllocError> {
+        self.warnings.push((kind, text))?;
+        Ok(())
+    }
+}
+
+/// The same, with the warnings.
+#[tactic(auto, using(crate::proofs::Edging::collected))]
+pub(crate) fn evaluate_collect_warnings(
+    alloc: Global,
+    tree: MarkerTree,
+    interner: &Interner,
+    environment: &MarkerEnvironment,
+    extras: &[ExtraName],
+) -> Result<(bool, Vec<(MarkerWarningKind, String)>), AllocError>
+    requires { IsTree interner.now.nodes tree }
+    ensures answer { IfOk result (λ told.
+        told.0 ≡ holds interner.now.nodes tree (valuation_of environment.now extras.now)) }
+    ensures kinds { IfOk result (λ told. map (λ warning. warning.0) told.1.items
+        ≡ warned (valuation_of environment.now extras.now) (diagram_of interner.now.nodes tree)) }
+{
+    let mut collected = Collected {
+        warnings: Vec::new(alloc),
+    };
+    let holds = evaluate_reporter(alloc, tree, interner, environment, extras, &mut collected)?;
+    Ok((holds, collected.warnings))
 }
