@@ -18,7 +18,7 @@ use pep508_tree::{Interner, MarkerTree};
 use std::alloc::{AllocError, Global};
 
 /// What a marker tree answers for environments and extras (PEP 508, "Environment Markers").
-pub trait MarkerEvaluation {
+pub trait MarkerTreeEvaluation {
     ghost use Rattle.pep508_tree.specs.Tree.{Tree};
 
     /// The tree.
@@ -104,7 +104,7 @@ pub trait MarkerEvaluation {
             ≡ warned (valuation_of environment.now extras.now) (diagram_of interner.now.nodes (tree self))) };
 }
 
-impl MarkerEvaluation for MarkerTree {
+impl MarkerTreeEvaluation for MarkerTree {
     ghost tree = { λ tree. tree };
 
     fn evaluate(

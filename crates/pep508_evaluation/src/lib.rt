@@ -8,4 +8,4 @@ mod holding;
 pub mod laws;
 mod warned;
 
-pub use evaluation::MarkerEvaluation;
+pub use evaluation::MarkerTreeEvaluation;

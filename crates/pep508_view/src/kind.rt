@@ -61,7 +61,7 @@ fn flagged<'a>(
 }
 
 /// Trees that can be viewed.
-pub trait MarkerView {
+pub trait MarkerTreeView {
     ghost use Rattle.pep508_tree.specs.Tree.{Tree};
 
     /// The tree that a value names.
@@ -76,7 +76,7 @@ pub trait MarkerView {
             (IsRoot interner.now.nodes (named self)) };
 }
 
-impl MarkerView for MarkerTree {
+impl MarkerTreeView for MarkerTree {
     ghost named = { λ tree. tree };
 
     fn kind<'a>(self, interner: &'a Interner) -> MarkerTreeKind<'a> {

@@ -13,7 +13,7 @@ ghost use Rattle.pep508_view.specs.Reading.{JustOne, SpanAll, LeadApart};
 ghost use Rattle.pep508_view.specs.Views.{IsKind};
 ghost use Rattle.pep508_view.specs.ReadOff.{IsReadOff, IsBelow, IsLaidOut, subtrees};
 
-use crate::kind::MarkerView;
+use crate::kind::MarkerTreeView;
 use pep508_tree::laws::constants_are_named;
 use pep508_tree::{Interner, MarkerTree};
 
