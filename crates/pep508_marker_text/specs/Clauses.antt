@@ -1,5 +1,5 @@
--- The clauses of a diagram of markers: for each way from its root to a leaf that is true, what the values of the
--- variables on that way are. Edges of one variable that lead to one diagram are said together.
+-- The clauses of a diagram of markers: for each way from its root to a leaf that is true, what the values of
+-- the variables on that way are. Edges of one variable that lead to one diagram are said together.
 use Rattle.std.specs.Prelude.{ℕ, ◌==◌, Bool, if◌then◌else◌, cond, List, [], ◌∷◌, ◌++◌, map}
 use Rattle.std.specs.List.{flat_map}
 use Rattle.version_ranges.specs.declared.boundary.Boundary.{Boundary}
@@ -21,8 +21,8 @@ pub record Part : Type 0 where
   pub diagram : Diagram Question
   pub clauses : List Clause
 
--- what a diagram's first variable leads to: from boundaries on, or where a flag is set and where it is not; of a
--- leaf there is none
+-- what a diagram's first variable leads to: from boundaries on, or where a flag is set and where it is not; of
+-- a leaf there is none
 pub data Edges : Type 0 where
   NoEdges : Edges
   Versions : VersionVariable → Part → List (Branch VersionRecord Part) → Edges
@@ -82,7 +82,8 @@ edge_clauses NoEdges = []
 edge_clauses (Versions key first later) = grouped_clauses (version_saying key) first later
 edge_clauses (Texts key first later) = grouped_clauses (text_saying key) first later
 edge_clauses (Flagged flag set unset) =
-    map (λ clause. set_term flag ∷ clause) set.clauses ++ map (λ clause. unset_term flag ∷ clause) unset.clauses
+    map (λ clause. set_term flag ∷ clause) set.clauses
+    ++ map (λ clause. unset_term flag ∷ clause) unset.clauses
 
 -- ---- diagrams
 

@@ -1,5 +1,5 @@
--- What stands between boundaries, grouped: the different things, in the order in which each first stands there,
--- and the points at which a thing stands.
+-- What stands between boundaries, grouped: the different things, in the order in which each first stands
+-- there, and the points at which a thing stands.
 use Rattle.std.specs.Prelude.{Bool, not, cond, List, [], ◌∷◌, map}
 use Rattle.std.specs.List.{filter}
 use Rattle.version_ranges.specs.declared.boundary.Boundary.{Boundary}

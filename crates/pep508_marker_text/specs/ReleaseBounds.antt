@@ -1,5 +1,5 @@
--- Diagrams whose versions are releases of epoch 0 (PEP 440, "Final releases"), as those of markers are that list
--- no exact versions.
+-- Diagrams whose versions are releases of epoch 0 (PEP 440, "Final releases"), as are those of markers that
+-- list no exact versions.
 use Rattle.std.specs.Prelude.{◌<◌, ◌^◌}
 use Rattle.std.specs.List.{AllByRecursion}
 use Rattle.version_ranges.specs.declared.boundary.Boundary.{Boundary}

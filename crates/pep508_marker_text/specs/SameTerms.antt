@@ -1,5 +1,5 @@
--- When two terms of clauses are the same, and when one is the negation of the other: of one key and one value.
--- A list of versions stands in no clause.
+-- When two terms of clauses are the same, and when one is the negation of the other: of one key and one
+-- value. A list of versions stands in no clause.
 use Rattle.std.specs.Prelude.{ℕ, ◌==◌, ◌&&◌, Bool, false, List}
 use Rattle.std.specs.Option.{option_map_or}
 use Rattle.std.specs.Ordering.{eq_by_cmp}
@@ -68,7 +68,8 @@ terms_by versions texts names term other = false
 -- the same term
 abbrev pub same_term : ExpressionRecord → ExpressionRecord → Bool
 same_term =
-    terms_by (λ a b. operator_rank a == operator_rank b) (λ a b. marker_operator_rank a == marker_operator_rank b)
+    terms_by (λ a b. operator_rank a == operator_rank b)
+    (λ a b. marker_operator_rank a == marker_operator_rank b)
     (λ a b. extra_operator_rank a == extra_operator_rank b)
 
 -- the negation of a term: `==` and `!=`, also with stars, `<` and `>=`, `<=` and `>`, `in` and `not in`

@@ -1,5 +1,5 @@
--- The comparisons that together say that a key's value lies in a set of points: by what it differs from, where
--- the set is all but that, and else interval by interval.
+-- The comparisons that together say that a key's value lies in a set of points: by what it differs from,
+-- where the set is all but that, and else interval by interval.
 use Rattle.std.specs.Prelude.{if◌then◌else◌, List, [], ◌∷◌, ◌++◌, map, Option, Some, None, option_map}
 use Rattle.std.specs.Option.{option_or}
 use Rattle.std.specs.Ordering.{eq_by_cmp}
@@ -14,8 +14,8 @@ use Rattle.pep508_marker.specs.Expression.{ExpressionRecord}
 abbrev pub Clause : Type 0
 Clause = List ExpressionRecord
 
--- the comparisons of a key with a value, by `==`, `!=`, `>=`, `>`, `<=` and `<`; and with the values from one on
--- up to below another by `==` and `!=` and a star, where a star stands for them
+-- the comparisons of a key with a value, by `==`, `!=`, `>=`, `>`, `<=` and `<`; and with the values from one
+-- on up to below another by `==` and `!=` and a star, where a star stands for them
 pub record Saying (T : Type 0) : Type 0 where
   pub cmp : T → T → Ordering
   pub equal : T → ExpressionRecord
@@ -43,7 +43,8 @@ module _ {T : Type 0} where
 
     -- what the value differs from, where the set is all but some values, or all but those of a star
     abbrev pub exclusion : List (Point T) → Option Clause
-    exclusion (BelowAll ∷ turns) = option_or (option_map (map say.differs) (left_out say.cmp turns)) (star_out turns)
+    exclusion (BelowAll ∷ turns) =
+        option_or (option_map (map say.differs) (left_out say.cmp turns)) (star_out turns)
     exclusion turns = None
 
     -- the one comparison of an interval: of a single value, or by a star

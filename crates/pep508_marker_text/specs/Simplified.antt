@@ -1,5 +1,5 @@
--- Clauses without terms that the other clauses make needless, and without needless clauses. Each removal keeps
--- the meaning of the disjunction.
+-- Clauses without terms that the other clauses make needless, and without needless clauses. Each removal
+-- keeps the meaning of the disjunction.
 use Rattle.std.specs.Prelude.{◌&&◌, ◌||◌, not, Bool, true, false, cond, List, [], ◌∷◌, ◌++◌}
 use Rattle.std.specs.List.{list_all, list_any}
 

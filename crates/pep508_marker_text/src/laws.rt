@@ -50,9 +50,9 @@ pub fn same_diagrams_are_one()
     ensures { (a b : Diagram Question) → IsTrue (same_diagram a b) ↔ AreOne a b }
 {}
 
-/// The clauses that are written for a diagram mean it: under each valuation all comparisons of some clause hold
-/// exactly where the diagram does. So for a diagram whose versions are releases of epoch 0; but for what holds
-/// always, for which no clause is written.
+/// The clauses that are written for a diagram mean it: under each valuation all comparisons of some clause
+/// hold exactly where the diagram does. So for a diagram whose versions are releases of epoch 0; but for what
+/// holds always, for which no clause is written.
 pub fn a_disjunction_means_its_diagram()
     ensures { (diagram : Diagram Question) → IsCanonical diagram → HasReleasesAlone diagram →
         diagram ≢ Leaf true → (v : Valuation) →
