@@ -1,5 +1,5 @@
 -- Environments that are alike but for one member, and that what holds in one can hold.
-use Rattle.std.proofs.Common.{◌≡◌, ℕ, true, Bool, List, refl, ap}
+use Rattle.std.proofs.Common.{◌≡◌, ℕ, true, List, refl, ap}
 use Rattle.pep440_rs.specs.Record.{VersionRecord}
 use Rattle.version_ranges.specs.Point.{At}
 use Rattle.pep508_marker.specs.declared.keys.MarkerValueString.{MarkerValueString}

@@ -4,10 +4,9 @@ use Rattle.std.specs.Prelude.{option_map}
 use Rattle.std.specs.List.{slice_get}
 use Rattle.std.proofs.lemmas.List.{length-map}
 use Rattle.std.proofs.lemmas.Option.{slice_get-map, slice_get-get_or, slice_get_past}
-use Rattle.version_ranges.specs.declared.boundary.Boundary.{Boundary}
-use Rattle.version_ranges.specs.Boundaries.{point_of, boundary_cmp}
-use Rattle.version_ranges.specs.Point.{Point, At, point_cmp}
-use Rattle.version_ranges.specs.Turns.{reaches, Rising}
+use Rattle.version_ranges.specs.Boundaries.{boundary_cmp}
+use Rattle.version_ranges.specs.Point.{At}
+use Rattle.version_ranges.specs.Turns.{Rising}
 use Rattle.pep440_rs.specs.Record.{VersionRecord}
 use Rattle.pep440_rs.specs.Order.{version_cmp}
 use Rattle.pep508_marker.specs.declared.keys.MarkerValueString.{MarkerValueString}
@@ -110,17 +109,25 @@ module _ (turns : Bool) (first : Tree) (root : Option NodeRecord) where
       Some (signed turns (Versions key first later)) ≡ root →
       length later + 1 ≡ length (children_of root)
   version_child_count key later at =
-      omega (arith, length-map later (λ branch. branch.child),
-      length-map (first ∷ map (λ branch. branch.child) later) (turned turns),
-      ap length (version_children turns key first later), ap (λ o. length (children_of o)) at)
+      omega (
+        arith,
+        length-map later (λ branch. branch.child),
+        length-map (first ∷ map (λ branch. branch.child) later) (turned turns),
+        ap length (version_children turns key first later),
+        ap (λ o. length (children_of o)) at,
+      )
 
   pub text_child_count : (key : MarkerValueString) (later : List (Branch (List ℕ) Tree)) →
       Some (signed turns (Texts key first later)) ≡ root →
       length later + 1 ≡ length (children_of root)
   text_child_count key later at =
-      omega (arith, length-map later (λ branch. branch.child),
-      length-map (first ∷ map (λ branch. branch.child) later) (turned turns),
-      ap length (text_children turns key first later), ap (λ o. length (children_of o)) at)
+      omega (
+        arith,
+        length-map later (λ branch. branch.child),
+        length-map (first ∷ map (λ branch. branch.child) later) (turned turns),
+        ap length (text_children turns key first later),
+        ap (λ o. length (children_of o)) at,
+      )
 
 -- what is found by an index is what stands there
 pub found_at : {T : Type 0} (first : Tree) (later : List (Branch T Tree)) (i : ℕ) (branch : Branch T Tree) →

@@ -1,15 +1,13 @@
 -- The diagram of a tree by the node at its root.
-use Rattle.std.proofs.Common.{◌≡◌, ℕ, zero, suc, ◌+◌, ◌-◌, ◌<◌, ◌≤◌, ◌==◌, Bool, true, false, not, List, [], ◌∷◌, ◌++◌, map, length, get_or, refl, sym, ap, ap₂, subst, ◌∙◌, arith, take, add-one, append-nil, append_assoc, Option, Some, None, inl, inr, cond, if◌then◌else◌, true≢false}
+use Rattle.std.proofs.Common.{◌≡◌, ℕ, zero, suc, ◌+◌, ◌-◌, ◌<◌, ◌≤◌, ◌==◌, Bool, true, false, not, List, [], ◌∷◌, ◌++◌, map, length, get_or, refl, sym, ap, ap₂, ◌∙◌, arith, take, add-one, append-nil, append_assoc, Option, Some, None, inl, inr, cond, if◌then◌else◌, true≢false}
 use Rattle.std.proofs.lemmas.Bool.{cases_Bool}
 use Rattle.std.specs.List.{flat_map, slice_get}
 use Rattle.std.specs.Prelude.{IfSome}
 use Rattle.std.specs.Cmp.{unsigned_Decides}
 use Rattle.version_ranges.specs.declared.boundary.Boundary.{Boundary}
-use Rattle.version_ranges.specs.Turns.{flips}
 use Rattle.version_ranges.specs.Point.{Point}
 use Rattle.pep440_rs.specs.Record.{VersionRecord}
 use Rattle.pep508_marker.specs.declared.keys.MarkerValueString.{MarkerValueString}
-use Rattle.pep508_marker.specs.declared.warnings.MarkerWarningKind.{MarkerWarningKind}
 use Rattle.pep508_diagram.specs.declared.branch.Branch.{Branch}
 use Rattle.pep508_diagram.specs.declared.variable.VersionVariable.{VersionVariable}
 use Rattle.pep508_diagram.specs.Diagram.{Diagram, Leaf, Test, turned_by}
@@ -21,8 +19,7 @@ use Rattle.pep508_diagram.proofs.Turned.{turned_not}
 use Rattle.pep508_diagram.proofs.Questions.{not_not}
 use Rattle.pep508_tree.specs.Tree.{Tree, negation}
 use Rattle.pep508_tree.specs.Meaning.{NodeRecord, Versions, Texts, Flagged, node_diagram, diagrams, diagram_of, IsTree}
-use Rattle.pep508_tree.specs.Nodes.{AllChildren, Above, AreSound, chosen, node_at, node_place, signed, turned_branch}
-use Rattle.pep508_tree.specs.Joining.{children}
+use Rattle.pep508_tree.specs.Nodes.{Above, AreSound, chosen, node_at, node_place, signed, turned_branch}
 use Rattle.pep508_tree.proofs.NodeChildren.{weaker_children, both_children}
 use Rattle.pep508_tree.proofs.Diagrams.{diagram_top}
 use Rattle.pep508_tree.proofs.OneTree.{top_or_node, tree_at, root_behind}

@@ -1,29 +1,28 @@
 -- What a node of a diagram gives of what is warned of.
-use Rattle.std.proofs.Common.{◌≡◌, inl, inr, ℕ, ◌+◌, ◌<◌, ◌==◌, Bool, true, false, not, cond, List, [], ◌∷◌, ◌++◌, map, refl, sym, ap, ap₂, subst, ◌∙◌, append_assoc, append-nil, true≢false, Option, Some, None}
-use Rattle.std.proofs.lemmas.Bool.{cases_Bool}
+use Rattle.std.proofs.Common.{◌≡◌, ℕ, Bool, true, false, not, cond, List, [], ◌∷◌, ◌++◌, map, refl, sym, ap, ap₂, subst, ◌∙◌, append_assoc, append-nil, Option, Some, None}
 use Rattle.std.specs.List.{FoldsTo, flat_map}
 use Rattle.std.specs.declared.cmp.Ordering.{Ordering}
 use Rattle.version_ranges.specs.declared.boundary.Boundary.{Boundary}
 use Rattle.version_ranges.specs.Boundaries.{point_of}
 use Rattle.version_ranges.specs.Point.{Point, point_cmp}
-use Rattle.version_ranges.specs.Turns.{reaches, flips}
+use Rattle.version_ranges.specs.Turns.{reaches}
 use Rattle.pep440_rs.specs.Order.{version_cmp}
 use Rattle.pep508_marker.specs.declared.keys.MarkerValueString.{MarkerValueString}
 use Rattle.pep508_marker.specs.declared.warnings.MarkerWarningKind.{MarkerWarningKind}
 use Rattle.pep508_diagram.specs.declared.branch.Branch.{Branch}
 use Rattle.pep508_diagram.specs.Text.{text_cmp}
-use Rattle.pep508_diagram.specs.Diagram.{Diagram, Leaf, Test, RootAbove, turned_by}
+use Rattle.pep508_diagram.specs.Diagram.{Diagram, Leaf, Test}
 use Rattle.pep508_diagram.specs.Branches.{branch_at, AllBranches}
 use Rattle.pep508_diagram.specs.Chains.{chain}
 use Rattle.pep508_diagram.specs.Children.{RootBehind}
-use Rattle.pep508_diagram.specs.Question.{Question, VersionBelow, TextBelow, IsSet, Valuation, version_rank, text_rank, text_boundaries, shares_variable, answer, lies_below, marker, place_of}
+use Rattle.pep508_diagram.specs.Question.{Question, IsSet, Valuation, version_rank, text_rank, text_boundaries, shares_variable, answer, lies_below, marker, place_of}
 use Rattle.pep508_diagram.proofs.Keyed.{IsKey}
 use Rattle.pep508_diagram.proofs.Chains.{versions_key, texts_key, behind_above}
 use Rattle.pep508_tree.specs.Tree.{Tree}
 use Rattle.pep508_tree.specs.Meaning.{NodeRecord, Versions, Texts, Flagged, node_diagram}
 use Rattle.pep508_tree.specs.Nodes.{AllChildren, HasBoundary, chosen, node_place}
 use Rattle.pep508_tree.specs.Joining.{children}
-use Rattle.pep508_evaluation.specs.Warned.{goes_on, key_names, names_of, old_names, edge, passed, edges_to, compared}
+use Rattle.pep508_evaluation.specs.Warned.{names_of, old_names, edge, passed, edges_to, compared}
 use Rattle.pep508_evaluation.specs.Edges.{text_edges, root_edges, root_names}
 
 -- ---- taken one after another

@@ -5,7 +5,7 @@ use Rattle.std.specs.declared.ops.ControlFlow.TheVariants.{Continue, Break}
 use Rattle.pep508_diagram.specs.declared.variable.Flag.TheVariants.{In, Contains, Extra, Arbitrary}
 use Rattle.pep508_diagram.specs.Question.{Valuation}
 use Rattle.pep508_tree.specs.Tree.{Tree}
-use Rattle.pep508_tree.specs.Meaning.{NodeRecord, Versions, Texts, Flagged, holds, diagram_of, IsTree}
+use Rattle.pep508_tree.specs.Meaning.{NodeRecord, Versions, Texts, Flagged, holds, IsTree}
 use Rattle.pep508_tree.specs.Joining.{children}
 use Rattle.pep508_tree.specs.Nodes.{chosen}
 use Rattle.pep508_tree.specs.Roots.{root_of, IsRoot}

@@ -2,7 +2,7 @@
 -- compared with on the way to the answer (PEP 508, "Environment Markers"). Tests of one variable in a row, each
 -- for where the one before is answered by no, are one node; the texts before its first test, between two of them
 -- and from its last one on are its edges.
-use Rattle.std.specs.Prelude.{ℕ, Bool, true, false, cond, List, [], ◌∷◌, ◌++◌, map, Option, Some, None, is_some}
+use Rattle.std.specs.Prelude.{ℕ, Bool, false, cond, List, [], ◌∷◌, ◌++◌, map, Option, Some, None, is_some}
 use Rattle.version_ranges.specs.declared.boundary.Boundary.{Boundary}
 use Rattle.version_ranges.specs.Boundaries.{point_of}
 use Rattle.version_ranges.specs.Bounds.{single_value}

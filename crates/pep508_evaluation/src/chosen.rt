@@ -12,11 +12,11 @@ ghost use Rattle.pep508_tree.specs.Nodes.{turned};
 ghost use Rattle.pep508_evaluation.specs.Steps.{Answers};
 ghost use Rattle.pep508_evaluation.specs.Valuations.{stands_in, variable_in, is_set, valuation_of};
 
-use pep508_tree::{Children, Interner, MarkerTree, TreeNode};
 use pep440_version::Version;
 use pep508_diagram::{Branch, Flag, MarkerText, VersionVariable, branch_at};
 use pep508_environment::MarkerEnvironment;
 use pep508_name::ExtraName;
+use pep508_tree::{Children, Interner, MarkerTree, TreeNode};
 use std::ops::ControlFlow;
 use version_ranges::Boundary;
 

@@ -10,9 +10,9 @@ ghost use Rattle.pep508_evaluation.specs.Steps.{AsksNoExtra, GoesPast, children_
 ghost use Rattle.pep508_evaluation.specs.Valuations.{HasJust, CanHold};
 
 use crate::chosen::turned;
-use pep508_tree::{Children, Interner, MarkerTree, TreeNode};
 use pep508_diagram::Flag;
 use pep508_name::ExtraName;
+use pep508_tree::{Children, Interner, MarkerTree, TreeNode};
 
 /// What stands for the extras under a flag that asks for one.
 fn extra_side(

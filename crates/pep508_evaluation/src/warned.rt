@@ -14,18 +14,22 @@ ghost use Rattle.pep508_tree.specs.Roots.{root_of};
 
 use crate::chosen::{is_reached, step};
 use crate::holding::{root_child, root_child_count};
-use pep508_tree::{Interner, MarkerTree, TreeNode};
 use pep508_diagram::{Branch, MarkerText};
 use pep508_environment::MarkerEnvironment;
 use pep508_marker::{MarkerValueString, MarkerWarningKind, Reporter};
 use pep508_name::ExtraName;
+use pep508_tree::{Interner, MarkerTree, TreeNode};
 use std::alloc::{AllocError, Global};
 use std::ops::ControlFlow;
 use version_ranges::Boundary;
 
 /// What is said of an old name. Of `sys.platform` it has always been said with two blanks.
 fn old_name_text(alloc: Global, key: MarkerValueString) -> Result<String, AllocError> {
-    let gap = if key == MarkerValueString::SysPlatformDeprecated { "  " } else { " " };
+    let gap = if key == MarkerValueString::SysPlatformDeprecated {
+        "  "
+    } else {
+        " "
+    };
     let mut text = format!(in alloc; "{}{gap}is deprecated", key.written())?;
     write!(text, " in favor of {}", key.name())?;
     Ok(text)

@@ -1,4 +1,4 @@
-use Rattle.std.proofs.Common.{◌≡◌, ◌++◌, ◌∙◌, ap, sym, subst, append_assoc, None, take, refl}
+use Rattle.std.proofs.Common.{◌++◌, ◌∙◌, ap, sym, subst, append_assoc, None, take, refl}
 use Rattle.std.specs.List.{FoldsTo, flat_map}
 use Rattle.pep508_tree.specs.Meaning.{diagram_of}
 use Rattle.pep508_tree.specs.Roots.{root_of}

@@ -1,4 +1,4 @@
-use Rattle.std.proofs.Common.{◌≡◌, List, ◌++◌, None, take}
+use Rattle.std.proofs.Common.{◌++◌, None, take}
 use Rattle.std.specs.List.{FoldsTo, flat_map}
 use Rattle.pep508_tree.specs.Meaning.{diagram_of}
 use Rattle.pep508_tree.specs.Roots.{root_of}

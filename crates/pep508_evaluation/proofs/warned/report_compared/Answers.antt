@@ -1,4 +1,4 @@
-use Rattle.std.proofs.Common.{◌≡◌, ◌++◌, ◌∙◌, ap, sym, subst, append_assoc, None}
+use Rattle.std.proofs.Common.{◌++◌, ◌∙◌, ap, sym, subst, append_assoc, None}
 use Rattle.std.specs.List.{FoldsTo}
 use Rattle.pep508_tree.specs.Meaning.{diagram_of}
 use Rattle.pep508_tree.specs.Roots.{root_of}

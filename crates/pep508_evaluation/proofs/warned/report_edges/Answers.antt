@@ -1,4 +1,4 @@
-use Rattle.std.proofs.Common.{rules, ap, not, []}
+use Rattle.std.proofs.Common.{rules, []}
 use Rattle.std.specs.Prelude.{option_to_list, option_copied}
 use Rattle.version_ranges.specs.Point.{At}
 use Rattle.pep508_evaluation.specs.Warned.{TakesKind}
