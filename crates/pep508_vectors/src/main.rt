@@ -5,6 +5,8 @@
 #![tactic(auto)]
 
 mod answers;
+mod calls;
+mod names;
 mod requirement;
 
 use answers::answer;
