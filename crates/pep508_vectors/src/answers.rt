@@ -1,6 +1,7 @@
 //! The answers.
 
 use crate::requirement::{picture, requirement, unnamed};
+use crate::warnings::warnings;
 use pep508_name::{InvalidNameError, PackageName, RequirementOrigin};
 use pep508_url::{
     Pep508Url, Scheme, Vars, VerbatimUrl, VerbatimUrlError, expand_env_vars, split_extras,
@@ -43,6 +44,7 @@ pub fn answer(alloc: Global, vars: &Vars, question: &str) -> Result<String, Allo
         "requirement" => requirement(alloc, vars, text, DIRECTORY),
         "picture" => picture(alloc, vars, text, DIRECTORY),
         "unnamed" => unnamed(alloc, vars, text, DIRECTORY),
+        "warnings" => warnings(alloc, vars, text),
         _ => String::from_str(alloc, "no question"),
     }
 }

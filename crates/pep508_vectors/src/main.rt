@@ -6,6 +6,7 @@
 
 mod answers;
 mod requirement;
+mod warnings;
 
 use answers::answer;
 use pep508_url::Vars;

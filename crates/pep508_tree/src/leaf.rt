@@ -1,0 +1,122 @@
+//! Trees of one variable.
+
+ghost use Rattle.std.specs.Prelude.{◌≡◌, IfOk, map};
+ghost use Rattle.version_ranges.specs.Turns.{Rising};
+ghost use Rattle.version_ranges.specs.Boundaries.{boundary_cmp};
+ghost use Rattle.version_ranges.specs.Held.{holds_at};
+ghost use Rattle.pep440_rs.specs.Order.{version_cmp};
+ghost use Rattle.pep508_diagram.specs.Text.{text_cmp};
+ghost use Rattle.pep508_diagram.specs.Branches.{branch_at, by_turns};
+ghost use Rattle.pep508_diagram.specs.Question.{Valuation};
+ghost use Rattle.pep508_tree.specs.Tree.{constant};
+ghost use Rattle.pep508_tree.specs.Leaves.{constant_branch, with_constants};
+ghost use Rattle.pep508_tree.specs.Forms.{record_of};
+ghost use Rattle.pep508_tree.specs.Meaning.{IsTree, Extends, holds};
+
+use crate::interner::Interner;
+use crate::node::Form;
+use crate::tree::MarkerTree;
+use pep440_version::Version;
+use pep508_diagram::{Branch, Flag, MarkerText, VersionVariable, turned_branches, turned_versions};
+use pep508_marker::MarkerValueString;
+use std::alloc::{AllocError, Global};
+use version_ranges::{Boundary, Ranges};
+
+/// The tree that always holds, or never does.
+fn constant(truth: bool) -> MarkerTree
+    ensures { result ≡ constant truth }
+{
+    MarkerTree::at_place(0, !truth)
+}
+
+/// Branches with the constant trees of truths.
+fn constant_branches<T: Drop>(
+    alloc: Global,
+    later: Vec<Branch<T, bool>>,
+) -> Result<Vec<Branch<T, MarkerTree>>, AllocError>
+    ensures { IfOk result (λ branches. branches.items ≡ map constant_branch later.items) }
+{
+    let mut branches = Vec::new(alloc);
+    for branch in later {
+        branches.push(Branch {
+            boundary: branch.boundary,
+            child: constant(branch.child),
+        })?;
+    }
+    Ok(branches)
+}
+
+/// The form with the constant trees of truths.
+pub(crate) fn with_constants(
+    alloc: Global,
+    form: Form<bool>,
+) -> Result<Form<MarkerTree>, AllocError>
+    ensures { IfOk result (λ trees. record_of trees ≡ with_constants (record_of form)) }
+{
+    Ok(match form {
+        Form::Versions(key, first, later) => Form::Versions(
+            key,
+            constant(first),
+            constant_branches(alloc, later)?,
+        ),
+        Form::Texts(key, first, later) => Form::Texts(
+            key,
+            constant(first),
+            constant_branches(alloc, later)?,
+        ),
+        Form::Flagged(flag, set, unset) => Form::Flagged(flag, constant(set), constant(unset)),
+    })
+}
+
+impl Interner {
+    /// The tree that holds where a key's version stands in a set. The only refusal is want of memory, and
+    /// earlier trees mean what they meant, refused or not. Counts nothing.
+    ///
+    /// Copies each boundary of the set, at the version without the zeros at its release's end.
+    pub fn versions_tree(
+        &mut self,
+        alloc: Global,
+        key: VersionVariable,
+        set: &Ranges<Version>,
+    ) -> Result<MarkerTree, AllocError>
+        ensures made { IfOk result (λ tree. IsTree self.new.nodes tree) }
+        ensures truth { IfOk result (λ tree. (v : Valuation) →
+            holds self.new.nodes tree v ≡ holds_at version_cmp set.now (v.version key)) }
+        ensures keeps { Extends self.old.nodes self.new.nodes }
+        ensures counts { self.new.conjunctions ≡ self.old.conjunctions }
+    {
+        let (starts_held, boundaries) = set.turns();
+        let later = turned_versions(alloc, starts_held, boundaries)?;
+        self.leaf(alloc, Form::Versions(key, starts_held, later))
+    }
+
+    /// The tree that holds where a key's text stands in the set that holds what lies below all boundaries, or
+    /// does not, and turns at each of them. Refusal, cost and count are those of `versions_tree`.
+    pub fn texts_tree(
+        &mut self,
+        alloc: Global,
+        key: MarkerValueString,
+        starts_held: bool,
+        boundaries: &[Boundary<MarkerText>],
+    ) -> Result<MarkerTree, AllocError>
+        requires { Rising (boundary_cmp text_cmp) boundaries.now }
+        ensures made { IfOk result (λ tree. IsTree self.new.nodes tree) }
+        ensures truth { IfOk result (λ tree. (v : Valuation) → holds self.new.nodes tree v
+            ≡ branch_at text_cmp starts_held (by_turns starts_held boundaries.now) (v.text key)) }
+        ensures keeps { Extends self.old.nodes self.new.nodes }
+        ensures counts { self.new.conjunctions ≡ self.old.conjunctions }
+    {
+        let later = turned_branches(alloc, starts_held, boundaries)?;
+        self.leaf(alloc, Form::Texts(key, starts_held, later))
+    }
+
+    /// The tree that holds where a flag is set. Refusal and count are those of `versions_tree`.
+    pub fn flag_tree(&mut self, alloc: Global, flag: Flag) -> Result<MarkerTree, AllocError>
+        ensures made { IfOk result (λ tree. IsTree self.new.nodes tree) }
+        ensures truth { IfOk result (λ tree. (v : Valuation) → holds self.new.nodes tree v ≡ v.flag flag) }
+        ensures keeps { Extends self.old.nodes self.new.nodes }
+        ensures counts { self.new.conjunctions ≡ self.old.conjunctions }
+    {
+        self.leaf(alloc, Form::Flagged(flag, true, false))
+    }
+}
