@@ -3,7 +3,7 @@ pub mod Diagrams
 pub mod Joins
 pub mod Orders
 pub mod Pairs
-pub mod Children
+pub mod NodeChildren
 pub mod OneNode
 pub mod OneTree
 pub mod Meanings
@@ -14,6 +14,8 @@ pub mod Splitting
 pub mod Storing
 pub mod Placing
 pub mod Conjoining
+pub mod Roots
+pub mod Leaves
 pub mod Knowing
 pub mod Plain
 pub mod Disjoining

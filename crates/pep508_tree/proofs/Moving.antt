@@ -25,7 +25,7 @@ use Rattle.pep508_tree.proofs.Meanings.{unmoved}
 
 -- ---- valuations with one variable given
 
-version_differs : (v : Valuation) (key : VersionVariable) (p : Point VersionRecord)
+pub version_differs : (v : Valuation) (key : VersionVariable) (p : Point VersionRecord)
     (b : Boundary VersionRecord) → DiffersAt marker (VersionBelow key b) v (with_version v key p)
 unfolding answer
 version_differs v key p b (VersionBelow j c) free =
@@ -33,7 +33,7 @@ version_differs v key p b (VersionBelow j c) free =
 version_differs v key p b (TextBelow j c) free = refl
 version_differs v key p b (IsSet flag) free = refl
 
-text_differs : (v : Valuation) (key : MarkerValueString) (p : Point (List ℕ)) (b : Boundary (List ℕ)) →
+pub text_differs : (v : Valuation) (key : MarkerValueString) (p : Point (List ℕ)) (b : Boundary (List ℕ)) →
     DiffersAt marker (TextBelow key b) v (with_text v key p)
 unfolding answer
 text_differs v key p b (VersionBelow j c) free = refl
@@ -41,23 +41,23 @@ text_differs v key p b (TextBelow j c) free =
     ap (λ same. lies_below text_cmp (cond same p (v.text j)) c) (sym (texts_share key j b c) ∙ free)
 text_differs v key p b (IsSet flag) free = refl
 
-flag_differs : (v : Valuation) (flag : Flag) (set : Bool) →
+pub flag_differs : (v : Valuation) (flag : Flag) (set : Bool) →
     DiffersAt marker (IsSet flag) v (with_flag v flag set)
 unfolding answer shares_variable
 flag_differs v flag set (VersionBelow j c) free = refl
 flag_differs v flag set (TextBelow j c) free = refl
 flag_differs v flag set (IsSet other) free = ap (λ same. cond same set (v.flag other)) free
 
-version_given : (v : Valuation) (key : VersionVariable) (p : Point VersionRecord) →
+pub version_given : (v : Valuation) (key : VersionVariable) (p : Point VersionRecord) →
     (with_version v key p).version key ≡ p
 version_given v key p =
     ap (λ same. cond same p (v.version key)) ((unsigned_Decides (version_rank key) (version_rank key)).1 refl)
 
-text_given : (v : Valuation) (key : MarkerValueString) (p : Point (List ℕ)) → (with_text v key p).text key ≡ p
+pub text_given : (v : Valuation) (key : MarkerValueString) (p : Point (List ℕ)) → (with_text v key p).text key ≡ p
 text_given v key p =
     ap (λ same. cond same p (v.text key)) ((unsigned_Decides (text_key_rank key) (text_key_rank key)).1 refl)
 
-flag_given : (v : Valuation) (flag : Flag) (set : Bool) → (with_flag v flag set).flag flag ≡ set
+pub flag_given : (v : Valuation) (flag : Flag) (set : Bool) → (with_flag v flag set).flag flag ≡ set
 flag_given v flag set =
     ap (λ same. cond same set (v.flag flag)) (ap is_eq (tied_itself nat_list_cmp_total (flag_place flag)))
 

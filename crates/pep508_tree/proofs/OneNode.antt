@@ -21,7 +21,7 @@ use Rattle.pep508_diagram.proofs.Chains.{canonical_chain_versions, canonical_cha
 use Rattle.pep508_tree.specs.Tree.{Tree}
 use Rattle.pep508_tree.specs.Meaning.{NodeOf, NodeRecord, Versions, Texts, Flagged, node_diagram}
 use Rattle.pep508_tree.specs.Nodes.{AllChildren, ChildrenDiffer, HasBoundary, IsRising, node_place, node_cmp, branch_cmp, tree_cmp}
-use Rattle.pep508_tree.proofs.Children.{first_of_branches}
+use Rattle.pep508_tree.proofs.NodeChildren.{first_of_branches}
 
 pub tied_trees : (a b : Tree) → a ≡ b → tree_cmp a b ≡ Equal
 tied_trees a b e =

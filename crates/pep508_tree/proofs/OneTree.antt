@@ -12,7 +12,7 @@ use Rattle.pep508_tree.specs.Tree.{Tree, always, never, negation}
 use Rattle.pep508_tree.specs.Meaning.{NodeRecord, node_diagram, diagrams, diagram_of, holds, IsTree}
 use Rattle.pep508_tree.specs.Nodes.{AllChildren, Above, AreSound, node_at, node_place, node_cmp, first_child}
 use Rattle.pep508_tree.proofs.Diagrams.{diagram_top, diagram_node}
-use Rattle.pep508_tree.proofs.Children.{weaker_children, both_children, first_of_children, behind_turned, leftmost_node, root_node}
+use Rattle.pep508_tree.proofs.NodeChildren.{weaker_children, both_children, first_of_children, behind_turned, leftmost_node, root_node}
 use Rattle.pep508_tree.proofs.OneNode.{AreBehind, leaf_not_node, canonical_node, one_node}
 
 pub top_or_node : (n : ℕ) → (n ≡ 0) ⊎ ((k : ℕ) × (n ≡ k + 1))

@@ -11,7 +11,7 @@ use Rattle.pep508_tree.specs.Tree.{Tree}
 use Rattle.pep508_tree.specs.Meaning.{NodeOf, NodeRecord, Versions, Texts, Flagged, holds, IsTree}
 use Rattle.pep508_tree.specs.Nodes.{AllChildren, IsChildIn, Above, AreSound, Paired, Splits, chosen, counterpart, node_at, node_place, turned}
 use Rattle.pep508_tree.specs.Places.{nodes_of}
-use Rattle.pep508_tree.proofs.Children.{weaker_children}
+use Rattle.pep508_tree.proofs.NodeChildren.{weaker_children}
 use Rattle.pep508_tree.proofs.Meanings.{chosen_child, each_child, holds_at, holds_turned}
 
 -- ---- nodes and their owners

@@ -23,7 +23,7 @@ use Rattle.pep508_tree.specs.Tree.{Tree, negation}
 use Rattle.pep508_tree.specs.Meaning.{NodeRecord, Versions, Texts, Flagged, holds, IsTree, Extends}
 use Rattle.pep508_tree.specs.Nodes.{AllChildren, IsRising, IsJoined, ChildrenDiffer, HasBoundary, IsAlone, Above, AreSound, IsSoundNode, Made, chosen, first_child, second_child, version_branches, text_branches, no_node, node_at, node_place, node_cmp, tree_cmp, branch_cmp, turned, turned_branch, signed}
 use Rattle.pep508_tree.specs.NodeLaws.{nodes_total}
-use Rattle.pep508_tree.proofs.Children.{weaker_children, both_children, first_of_children}
+use Rattle.pep508_tree.proofs.NodeChildren.{weaker_children, both_children, first_of_children}
 use Rattle.pep508_tree.proofs.Diagrams.{holds_kept}
 use Rattle.pep508_tree.proofs.Meanings.{chosen_all, holds_at, holds_turned}
 
@@ -222,7 +222,7 @@ turned_at cmp first (branch ∷ later) p =
     ap (λ x. cond up x (negation first)) (turned_at cmp branch.child later p)
     ∙ either_negation up (branch_at cmp branch.child later p) first
 
-signed_chosen : (turns : Bool) (n : NodeRecord) (v : Valuation) →
+pub signed_chosen : (turns : Bool) (n : NodeRecord) (v : Valuation) →
     chosen (signed turns n) v ≡ turned turns (chosen n v)
 signed_chosen true (Versions key first later) v = turned_at version_cmp first later (v.version key)
 signed_chosen true (Texts key first later) v = turned_at text_cmp first later (v.text key)
@@ -262,12 +262,12 @@ negation_back a b e = λ i. record {
 }
 
 module _ (P : Tree → Type 0) (stable : (t : Tree) → P t → P (negation t)) where
-  turned_branches : {T : Type 0} (first : Tree) (later : List (Branch T Tree)) → AllBranches P first later →
+  pub turned_branches : {T : Type 0} (first : Tree) (later : List (Branch T Tree)) → AllBranches P first later →
       AllBranches P (negation first) (map turned_branch later)
   turned_branches first [] all = stable first all
   turned_branches first (branch ∷ later) all = (stable first all.0, turned_branches branch.child later all.1)
 
-  signed_children : (turns : Bool) (n : NodeRecord) → AllChildren P n → AllChildren P (signed turns n)
+  pub signed_children : (turns : Bool) (n : NodeRecord) → AllChildren P n → AllChildren P (signed turns n)
   signed_children true (Versions key first later) all = turned_branches first later all
   signed_children true (Texts key first later) all = turned_branches first later all
   signed_children true (Flagged flag set unset) all = (stable set all.0, stable unset all.1)
@@ -278,7 +278,7 @@ same_boundaries : {T : Type 0} (later : List (Branch T Tree)) →
 same_boundaries [] = refl
 same_boundaries (branch ∷ later) = ap (λ bs. branch.boundary ∷ bs) (same_boundaries later)
 
-signed_rises : (turns : Bool) (n : NodeRecord) → IsRising n → IsRising (signed turns n)
+pub signed_rises : (turns : Bool) (n : NodeRecord) → IsRising n → IsRising (signed turns n)
 signed_rises true (Versions key first later) rises =
     subst (Rising (boundary_cmp version_cmp)) (sym (same_boundaries later)) rises
 signed_rises true (Texts key first later) rises =
@@ -292,7 +292,7 @@ turned_differ first [] differ = tt
 turned_differ first (branch ∷ later) differ =
     (λ e. differ.0 (negation_back first branch.child e), turned_differ branch.child later differ.1)
 
-signed_differ : (turns : Bool) (n : NodeRecord) → ChildrenDiffer n → ChildrenDiffer (signed turns n)
+pub signed_differ : (turns : Bool) (n : NodeRecord) → ChildrenDiffer n → ChildrenDiffer (signed turns n)
 signed_differ true (Versions key first later) differ = turned_differ first later differ
 signed_differ true (Texts key first later) differ = turned_differ first later differ
 signed_differ true (Flagged flag set unset) differ = λ e. differ (negation_back set unset e)
@@ -302,7 +302,7 @@ none_left : {T : Type 0} (later : List (Branch T Tree)) → map turned_branch la
 none_left [] e = refl
 none_left (branch ∷ later) e = absurd (cc)
 
-signed_wide : (turns : Bool) (n : NodeRecord) → HasBoundary n → HasBoundary (signed turns n)
+pub signed_wide : (turns : Bool) (n : NodeRecord) → HasBoundary n → HasBoundary (signed turns n)
 signed_wide true (Versions key first later) wide = λ e. wide (none_left later e)
 signed_wide true (Texts key first later) wide = λ e. wide (none_left later e)
 signed_wide true (Flagged flag set unset) wide = wide
@@ -329,7 +329,7 @@ wide_of (Versions key first later) several = several
 wide_of (Texts key first later) several = several
 wide_of (Flagged flag set unset) several = tt
 
-above_negation : (nodes : List NodeRecord) (place : List ℕ) (t : Tree) → Above nodes place t →
+pub above_negation : (nodes : List NodeRecord) (place : List ℕ) (t : Tree) → Above nodes place t →
     Above nodes place (negation t)
 unfolding Above
 above_negation nodes place t above = above

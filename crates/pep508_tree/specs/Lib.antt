@@ -1,6 +1,8 @@
 pub mod Tree
 pub mod Meaning
 pub mod Forms
+pub mod Roots
+pub mod Leaves
 pub mod Nodes
 pub mod Conjunctions
 pub mod Disjoint

@@ -15,6 +15,10 @@ always = record { place = 0; negated = false }
 abbrev pub never : Tree
 never = record { place = 0; negated = true }
 
+-- the tree that always holds, or never does
+abbrev pub constant : Bool → Tree
+constant truth = record { place = 0; negated = not truth }
+
 -- the tree of the same diagram with its leaves turned
 abbrev pub negation : Tree → Tree
 negation tree = record tree { negated = not tree.negated }

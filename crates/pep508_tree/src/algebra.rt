@@ -7,16 +7,21 @@ ghost use Rattle.pep508_tree.specs.Interning.{counted};
 
 use crate::interner::Interner;
 use crate::tree::MarkerTree;
-use std::alloc::AllocError;
+use std::alloc::{AllocError, Global};
 
 impl MarkerTree {
     /// The tree that holds where both hold. The only refusal is want of memory, and earlier trees mean what
     /// they meant, refused or not.
     ///
     /// Takes no more steps than the product of the numbers of the two trees' nodes, each as long as two
-    /// nodes' boundaries, and recursion as deep as the variables on a path. Counts as one of the interner's
-    /// conjunctions.
-    pub fn and(self, interner: &mut Interner, other: MarkerTree) -> Result<MarkerTree, AllocError>
+    /// nodes' boundaries, and recursion as deep as the variables on a path. Takes memory of `alloc` for lists
+    /// that are dropped again, and of the interner's for nodes. Counts as one of the interner's conjunctions.
+    pub fn and(
+        self,
+        alloc: Global,
+        interner: &mut Interner,
+        other: MarkerTree,
+    ) -> Result<MarkerTree, AllocError>
         requires made { IsTree interner.old.nodes self }
         requires other_made { IsTree interner.old.nodes other }
         ensures made { IfOk result (λ tree. IsTree interner.new.nodes tree) }
@@ -25,11 +30,16 @@ impl MarkerTree {
         ensures keeps { Extends interner.old.nodes interner.new.nodes }
         ensures counts { interner.new.conjunctions ≡ counted interner.old.conjunctions }
     {
-        interner.conjoined(self, other)
+        interner.conjoined(alloc, self, other)
     }
 
     /// The tree that holds where one of both holds. Refusal, cost and count are those of `and`.
-    pub fn or(self, interner: &mut Interner, other: MarkerTree) -> Result<MarkerTree, AllocError>
+    pub fn or(
+        self,
+        alloc: Global,
+        interner: &mut Interner,
+        other: MarkerTree,
+    ) -> Result<MarkerTree, AllocError>
         requires made { IsTree interner.old.nodes self }
         requires other_made { IsTree interner.old.nodes other }
         ensures made { IfOk result (λ tree. IsTree interner.new.nodes tree) }
@@ -38,7 +48,7 @@ impl MarkerTree {
         ensures keeps { Extends interner.old.nodes interner.new.nodes }
         ensures counts { interner.new.conjunctions ≡ counted interner.old.conjunctions }
     {
-        let neither = interner.conjoined(self.negate(), other.negate())?;
+        let neither = interner.conjoined(alloc, self.negate(), other.negate())?;
         Ok(neither.negate())
     }
 }

@@ -1,6 +1,6 @@
 //! Conjunctions of marker trees.
 
-ghost use Rattle.std.specs.Prelude.{◌≡◌, ◌⊎◌, ◌+◌, ◌<◌, false, [], List, MatchOption, IfOk, IfSome, refl};
+ghost use Rattle.std.specs.Prelude.{◌≡◌, ◌⊎◌, ◌+◌, ◌-◌, ◌<◌, false, [], List, MatchOption, IfOk, IfSome, refl};
 ghost use Rattle.std.specs.Cmp.{eq_by_cmp_equiv, partial_equiv_from_equiv, partial_order_from_agreeing_total};
 ghost use Rattle.std.specs.Ordering.{eq_by_cmp, as_partial_cmp, is_gt};
 ghost use Rattle.std.specs.List.{AllByRecursion};
@@ -8,12 +8,12 @@ ghost use Rattle.pep508_diagram.specs.Text.{text_cmp};
 ghost use Rattle.pep508_tree.specs.Meaning.{NodeRecord, IsTree, Extends};
 ghost use Rattle.pep508_tree.specs.Forms.{record_of};
 ghost use Rattle.pep508_tree.specs.Nodes.{AreSound};
-ghost use Rattle.pep508_tree.specs.Nodes.{first_place, node_place, Above, AllChildren, IsRising, IsJoined, Splits, Made};
+ghost use Rattle.pep508_tree.specs.Nodes.{first_place, node_place, node_at, Above, AllChildren, IsRising, IsJoined, Splits, Made};
 ghost use Rattle.pep508_tree.specs.Conjunctions.{Conjunction, ArePairs, Meet};
 ghost use Rattle.pep508_tree.specs.Asked.{asked_cmp};
 ghost use Rattle.pep508_tree.specs.AskedLaws.{asked_total};
 
-use crate::node::{Form, Pair};
+use crate::node::{Form, Node, Pair};
 use crate::table::NodeTable;
 use crate::tree::MarkerTree;
 use std::alloc::{AllocError, Global};
@@ -145,6 +145,16 @@ impl Conjoiner {
         self.known.get(&Asked::new(a, b)).copied()
     }
 
+    /// The node of a tree that is not constant.
+    pub fn node_of(&self, tree: MarkerTree) -> &Node
+        requires made { IsTree self.now tree }
+        requires some { 0 < tree.place }
+        ensures found { result.now ≡ node_at self.now (tree.place - 1) }
+        ensures sound { AreSound self.now }
+    {
+        self.table.node_of(tree)
+    }
+
     /// Keeps the conjunction of two trees.
     fn keep(&mut self, a: MarkerTree, b: MarkerTree, tree: MarkerTree) -> Result<(), AllocError>
         requires a { IsTree self.old a }
@@ -197,7 +207,12 @@ impl Conjoiner {
     /// The conjunction of two trees: no more steps than the product of the numbers of their nodes, each as
     /// long as the two nodes' boundaries. Recursion is as deep as the variables on a path.
     #[cycle(conjoining)]
-    pub fn conjunction(&mut self, a: MarkerTree, b: MarkerTree) -> Result<MarkerTree, AllocError>
+    pub fn conjunction(
+        &mut self,
+        alloc: Global,
+        a: MarkerTree,
+        b: MarkerTree,
+    ) -> Result<MarkerTree, AllocError>
         requires a { IsTree self.old a }
         requires b { IsTree self.old b }
         ensures made { IfOk result (λ tree. Conjunction self.old self.new a b tree) }
@@ -210,11 +225,10 @@ impl Conjoiner {
         if let Some(tree) = self.recall(a, b) {
             return Ok(tree);
         }
-        let alloc = self.allocator();
         let pairs = self.split(a, b)?;
         let children = pairs.children(alloc)?;
-        let trees = self.conjunctions(a, b, &children)?;
-        let tree = self.store(pairs.joined(alloc, &trees)?)?;
+        let trees = self.conjunctions(alloc, a, b, &children)?;
+        let tree = self.store(pairs.joined(self.allocator(), &trees)?)?;
         self.keep(a, b, tree)?;
         Ok(tree)
     }
@@ -223,6 +237,7 @@ impl Conjoiner {
     #[cycle(conjoining)]
     fn conjunctions(
         &mut self,
+        alloc: Global,
         a: MarkerTree,
         b: MarkerTree,
         pairs: &[Pair],
@@ -232,9 +247,10 @@ impl Conjoiner {
         ensures made { IfOk result (λ trees. Meet (ArePairs self.old self.new a b) pairs.now trees.items) }
         ensures keeps { Extends self.old self.new }
     {
-        let mut trees = Vec::new(self.allocator());
+        let mut trees = Vec::new(alloc);
         for pair in pairs {
             let tree = self.conjunction(
+                alloc,
                 pair.0.turned(a.is_negated()),
                 pair.1.turned(b.is_negated()),
             )?;

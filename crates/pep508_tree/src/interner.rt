@@ -1,13 +1,16 @@
 //! What makes marker trees.
 
-ghost use Rattle.std.specs.Prelude.{◌≡◌, ◌+◌, ◌^◌, ◌-◌, min, [], Bool, ◌&&◌, ◌||◌, IfOk, ◌↔◌, IsTrue};
+ghost use Rattle.std.specs.Prelude.{◌≡◌, ◌+◌, ◌<◌, ◌^◌, ◌-◌, min, [], Bool, ◌&&◌, ◌||◌, IfOk, ◌↔◌, IsTrue};
 ghost use Rattle.pep508_diagram.specs.Question.{Valuation};
 ghost use Rattle.pep508_tree.specs.Meaning.{IsTree, Extends, holds};
 ghost use Rattle.pep508_tree.specs.Disjoint.{AreDisjoint};
 ghost use Rattle.pep508_tree.specs.Interning.{counted};
-ghost use Rattle.pep508_tree.specs.Nodes.{AreSound};
+ghost use Rattle.pep508_tree.specs.Forms.{record_of};
+ghost use Rattle.pep508_tree.specs.Nodes.{AreSound, IsRising, IsJoined, chosen, node_at};
 
 use crate::conjoiner::Conjoiner;
+use crate::leaf::with_constants;
+use crate::node::{Form, Node};
 use crate::tree::MarkerTree;
 use std::alloc::{AllocError, Global};
 use std::collections::BTreeSet;
@@ -51,15 +54,35 @@ impl Interner {
     }
 
     /// What the nodes keep. Does nothing.
-    pub(crate) fn are_sound(&self)
+    pub fn are_sound(&self)
         ensures { AreSound self.now.nodes }
     {
         self.conjoiner.are_sound()
     }
 
+    /// The tree that holds where both hold, which isn't counted. Refusal and cost are those of
+    /// `MarkerTree::and`.
+    pub fn conjunction(
+        &mut self,
+        alloc: Global,
+        a: MarkerTree,
+        b: MarkerTree,
+    ) -> Result<MarkerTree, AllocError>
+        requires a { IsTree self.old.nodes a }
+        requires b { IsTree self.old.nodes b }
+        ensures made { IfOk result (λ tree. IsTree self.new.nodes tree) }
+        ensures truth { IfOk result (λ tree. (v : Valuation) →
+            holds self.new.nodes tree v ≡ (holds self.old.nodes a v && holds self.old.nodes b v)) }
+        ensures keeps { Extends self.old.nodes self.new.nodes }
+        ensures counts { self.new.conjunctions ≡ self.old.conjunctions }
+    {
+        self.conjoiner.conjunction(alloc, a, b)
+    }
+
     /// The conjunction, counted.
     pub(crate) fn conjoined(
         &mut self,
+        alloc: Global,
         a: MarkerTree,
         b: MarkerTree,
     ) -> Result<MarkerTree, AllocError>
@@ -72,7 +95,31 @@ impl Interner {
         ensures counts { self.new.conjunctions ≡ counted self.old.conjunctions }
     {
         self.conjunctions = self.conjunctions.saturating_add(1);
-        self.conjoiner.conjunction(a, b)
+        self.conjunction(alloc, a, b)
+    }
+
+    /// The tree of one node whose children are constants, which isn't counted.
+    pub(crate) fn leaf(&mut self, alloc: Global, form: Form<bool>) -> Result<MarkerTree, AllocError>
+        requires rises { IsRising (record_of form) }
+        requires joined { IsJoined (record_of form) }
+        ensures made { IfOk result (λ tree. IsTree self.new.nodes tree) }
+        ensures truth { IfOk result (λ tree. (v : Valuation) →
+            holds self.new.nodes tree v ≡ chosen (record_of form) v) }
+        ensures keeps { Extends self.old.nodes self.new.nodes }
+        ensures counts { self.new.conjunctions ≡ self.old.conjunctions }
+    {
+        let form = with_constants(alloc, form)?;
+        self.conjoiner.store(form)
+    }
+
+    /// The node of a tree that is not constant.
+    pub(crate) fn node_of(&self, tree: MarkerTree) -> &Node
+        requires made { IsTree self.now.nodes tree }
+        requires some { 0 < tree.place }
+        ensures found { result.now ≡ node_at self.now.nodes (tree.place - 1) }
+        ensures sound { AreSound self.now.nodes }
+    {
+        self.conjoiner.node_of(tree)
     }
 
     /// Whether two trees never hold together.

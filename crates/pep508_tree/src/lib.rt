@@ -9,9 +9,12 @@ mod conjoiner;
 mod disjointness;
 mod interner;
 pub mod laws;
+mod leaf;
 mod node;
+mod root;
 mod table;
 mod tree;
 
 pub use interner::Interner;
+pub use root::{Children, TreeNode};
 pub use tree::MarkerTree;

@@ -1,6 +1,6 @@
 //! What marker trees are made of.
 
-ghost use Rattle.std.specs.Prelude.{◌≡◌, [], ◌∷◌, map, IfOk, refl};
+ghost use Rattle.std.specs.Prelude.{◌≡◌, [], ◌∷◌, map, Some, IfOk, refl};
 ghost use Rattle.std.specs.Cmp.{eq_by_cmp_equiv, partial_equiv_from_equiv, partial_order_from_agreeing_total};
 ghost use Rattle.std.specs.Ordering.{eq_by_cmp, as_partial_cmp};
 ghost use Rattle.std.specs.Cmp.Lexicographic.{slice_cmp};
@@ -11,10 +11,12 @@ ghost use Rattle.std.specs.declared.cmp.Ordering.TheVariants.{Equal};
 ghost use Rattle.pep508_tree.specs.Forms.{record_of};
 ghost use Rattle.pep508_tree.specs.Joining.{children, joined, node_joined, head, tail};
 ghost use Rattle.pep508_tree.specs.Nodes.{node_rank, node_text, node_place, version_branches, text_branches};
-ghost use Rattle.pep508_tree.specs.Nodes.{first_child, second_child, counterpart, IsRising, Paired};
+ghost use Rattle.pep508_tree.specs.Nodes.{first_child, second_child, counterpart, IsRising, Paired, signed};
+ghost use Rattle.pep508_tree.specs.Roots.{shown};
 ghost use Rattle.pep508_tree.specs.Nodes.{branch_cmp, node_cmp};
 ghost use Rattle.pep508_tree.specs.NodeLaws.{nodes_total};
 
+use crate::root::{Children, TreeNode};
 use crate::tree::MarkerTree;
 use pep440_version::Version;
 use pep508_diagram::{Branch, Flag, MarkerText, NodeValue, VersionVariable, paired};
@@ -229,6 +231,35 @@ impl Node {
         match &self.form {
             Form::Flagged(flag, _, _) => flag_text(flag),
             _ => "",
+        }
+    }
+
+    /// The node for callers, with each child negated where the flag is set.
+    pub fn lent(&self, negated: bool) -> TreeNode<'_>
+        ensures { shown result ≡ Some (signed negated self.now) }
+    {
+        match &self.form {
+            Form::Versions(key, first, later) => TreeNode::Versions(
+                *key,
+                Children {
+                    first: *first,
+                    later,
+                    negated,
+                },
+            ),
+            Form::Texts(key, first, later) => TreeNode::Texts(
+                *key,
+                Children {
+                    first: *first,
+                    later,
+                    negated,
+                },
+            ),
+            Form::Flagged(flag, set, unset) => TreeNode::Flagged(
+                flag,
+                set.turned(negated),
+                unset.turned(negated),
+            ),
         }
     }
 

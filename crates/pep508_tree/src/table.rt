@@ -1,12 +1,12 @@
 //! What keeps the nodes of marker trees, each once.
 
-ghost use Rattle.std.specs.Prelude.{◌≡◌, ◌⊎◌, ◌<◌, false, [], length, map, IfOk, IsTrue, ◌↔◌};
+ghost use Rattle.std.specs.Prelude.{◌≡◌, ◌⊎◌, ◌-◌, ◌<◌, false, [], length, map, IfOk, IsTrue, ◌↔◌};
 ghost use Rattle.std.specs.Ordering.{is_gt};
 ghost use Rattle.pep508_diagram.specs.Text.{text_cmp};
 ghost use Rattle.pep508_tree.specs.Meaning.{IsTree, Extends};
 ghost use Rattle.pep508_tree.specs.Forms.{record_of};
 ghost use Rattle.pep508_tree.specs.Nodes.{AreSound};
-ghost use Rattle.pep508_tree.specs.Nodes.{first_place, node_place, Above, AllChildren, IsRising, IsJoined};
+ghost use Rattle.pep508_tree.specs.Nodes.{first_place, node_place, node_at, Above, AllChildren, IsRising, IsJoined};
 ghost use Rattle.pep508_tree.specs.Nodes.{IsSoundNode, IsPlaced, IsAlone, Splits, Made, signed, turned_branch, first_child};
 
 use crate::node::{Form, Node, Pair};
@@ -113,6 +113,16 @@ impl NodeTable {
         ensures { AreSound self.now }
     {
         let _ = &self.nodes;
+    }
+
+    /// The node of a tree that is not constant.
+    pub fn node_of(&self, tree: MarkerTree) -> &Node
+        requires made { IsTree self.now tree }
+        requires some { 0 < tree.place }
+        ensures found { result.now ≡ node_at self.now (tree.place - 1) }
+        ensures sound { AreSound self.now }
+    {
+        &self.nodes[tree.place() - 1]
     }
 
     /// The two trees, first the one whose first variable does not come after that of the other.
