@@ -11,10 +11,11 @@ use Rattle.pep508_marker.specs.declared.warnings.MarkerWarningKind.{MarkerWarnin
 use Rattle.pep508_marker.specs.Values.{ValueRecord}
 use Rattle.pep508_marker.specs.Expression.{ExpressionRecord}
 use Rattle.pep508_expression.specs.Expressions.{has_points}
-use Rattle.pep508_marker_read.specs.Compared.{Compared, compared}
+use Rattle.pep508_marker_comparison.specs.Compared.{Compared, compared}
 use Rattle.pep508_marker_read.specs.Formula.{Says, LeftOut}
-use Rattle.pep508_marker_read.specs.MarkerReading.{Reading, AtEnd, Marker, begins_by, ◌>>=◌, side_at, operator_at, of_said, of_compared}
-use Rattle.pep508_marker_read.specs.MarkerReading.{behind_operator, behind_side, comparison_at, closed, part_of, part_at}
+use Rattle.pep508_marker_comparison.specs.SideReading.{Reading, AtEnd, begins_by, ◌>>=◌, side_at, operator_at}
+use Rattle.pep508_marker_comparison.specs.SideReading.{behind_operator, behind_side, compared_at}
+use Rattle.pep508_marker_read.specs.MarkerReading.{Marker, of_said, of_compared, comparison_at, closed, part_of, part_at}
 use Rattle.pep508_marker_read.specs.MarkerText.{IsSpaced, IsSideText, IsComparisonText}
 use Rattle.pep508_marker_read.proofs.Cuts.{Unspaced, spaces_found, spaces_again, ok_same, in_steps}
 use Rattle.pep508_marker_read.proofs.Sides.{side_found, side_again, side_begins}
@@ -64,17 +65,21 @@ said_rest (Some expression) warned rest found h = said_if expression warned rest
 
 pub comparison_found : (from cs : List ℕ) (found : Marker × List ℕ) → IsSpaced from cs → comparison_at cs ≡ Ok found
     → IsComparisonText from found.0 found.1
-unfolding comparison_at
+unfolding comparison_at compared_at
 comparison_found from cs found s h =
-    let one = in_steps (side_at cs) behind_side found h in
+    let zero = in_steps (compared_at cs) of_compared found h in
+    let both : Compared × List ℕ = zero.middle in
+    let one = in_steps (side_at cs) behind_side both zero.first_is in
     let left : ValueRecord × List ℕ = one.middle in
-    let two = in_steps (operator_at (skip_leading_whitespace left.1)) (behind_operator left.0) found one.next_is in
+    let two = in_steps (operator_at (skip_leading_whitespace left.1)) (behind_operator left.0) both one.next_is in
     let sign : MarkerOperator × List ℕ = two.middle in
-    let next : ValueRecord × List ℕ → Reading Marker = λ right. of_compared (compared left.0 sign.0 right.0) right.1 in
-    let three = in_steps (side_at (skip_leading_whitespace sign.1)) next found two.next_is in
+    let next : ValueRecord × List ℕ → Reading Compared = λ right. Ok (compared left.0 sign.0 right.0, right.1) in
+    let three = in_steps (side_at (skip_leading_whitespace sign.1)) next both two.next_is in
     let right : ValueRecord × List ℕ = three.middle in
-    let both : Compared = compared left.0 sign.0 right.0 in
-    let same : right.1 ≡ found.1 = said_rest both.said both.warned right.1 found three.next_is in
+    let says : Compared × List ℕ = (compared left.0 sign.0 right.0, right.1) in
+    let paired : says ≡ both = ok_same says both three.next_is in
+    let same : right.1 ≡ found.1 =
+        ap (λ (p : Compared × List ℕ). p.1) paired ∙ said_rest both.0.said both.0.warned both.1 found zero.next_is in
     record {
       left = left.0;
       operator = sign.0;
@@ -91,16 +96,16 @@ comparison_found from cs found s h =
       spaced_right = spaced_found sign.1;
       is_right = subst (λ r. IsSideText (skip_leading_whitespace sign.1) right.0 r) same
           (side_found (skip_leading_whitespace sign.1) right three.first_is);
-      says = ap (of_compared both) (sym same) ∙ three.next_is;
+      says = ap (λ r. of_compared (says.0, r)) (sym same) ∙ ap of_compared paired ∙ zero.next_is;
     }
 
 -- ---- what is written is read
 
-comparison_here : (cs : List ℕ) (marker : Marker) (rest : List ℕ) → (h : IsComparisonText cs marker rest)
-    → comparison_at h.at_left ≡ Ok (marker, rest)
-unfolding comparison_at
-comparison_here cs marker rest h =
-    let next : ValueRecord × List ℕ → Reading Marker = λ right. of_compared (compared h.left h.operator right.0) right.1 in
+compared_here : (cs : List ℕ) (marker : Marker) (rest : List ℕ) → (h : IsComparisonText cs marker rest)
+    → compared_at h.at_left ≡ Ok (compared h.left h.operator h.right, rest)
+unfolding compared_at
+compared_here cs marker rest h =
+    let next : ValueRecord × List ℕ → Reading Compared = λ right. Ok (compared h.left h.operator right.0, right.1) in
     let right = side_begins h.at_right h.right rest h.is_right in
     ap (λ read. read >>= behind_side) (side_again h.at_left h.left h.behind_left h.is_left)
     ∙ ap (λ ds. operator_at ds >>= behind_operator h.left)
@@ -111,7 +116,12 @@ comparison_here cs marker rest h =
     ∙ ap (λ ds. side_at ds >>= next)
     (spaced_again h.behind_operator h.at_right h.spaced_right (ap (begins_by is_whitespace) right.split ∙ right.unspaced))
     ∙ ap (λ read. read >>= next) (side_again h.at_right h.right rest h.is_right)
-    ∙ h.says
+
+comparison_here : (cs : List ℕ) (marker : Marker) (rest : List ℕ) → (h : IsComparisonText cs marker rest)
+    → comparison_at h.at_left ≡ Ok (marker, rest)
+unfolding comparison_at
+comparison_here cs marker rest h =
+    ap (λ read. read >>= of_compared) (compared_here cs marker rest h) ∙ h.says
 
 pub comparison_again : (inner : List ℕ → Reading Marker) (cs : List ℕ) (marker : Marker) (rest : List ℕ)
     → IsComparisonText cs marker rest → part_at inner cs ≡ Ok (marker, rest)

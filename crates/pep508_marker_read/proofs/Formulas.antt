@@ -7,7 +7,8 @@ use Rattle.std.proofs.Common.{lit<}
 use Rattle.std.specs.Char.{is_whitespace}
 use Rattle.std.specs.Str.{bytes_eq, skip_leading_whitespace}
 use Rattle.pep440_rs.specs.SpecifierText.{AreSpaces}
-use Rattle.pep508_marker_read.specs.MarkerReading.{Reading, Malformed, TooDeep, Marker, ◌>>=◌, comparison_at}
+use Rattle.pep508_marker_comparison.specs.SideReading.{Reading, Malformed, TooDeep, ◌>>=◌}
+use Rattle.pep508_marker_read.specs.MarkerReading.{Marker, comparison_at}
 use Rattle.pep508_marker_read.specs.MarkerReading.{Connective, And, Or, word_of, is_next, joined_at}
 use Rattle.pep508_marker_read.specs.MarkerReading.{closed, part_of, part_at, either_at, formula_at}
 use Rattle.pep508_marker_read.specs.MarkerText.{IsSpaced, IsComparisonText, IsEnclosed, IsJoined, IsEither}

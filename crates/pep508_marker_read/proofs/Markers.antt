@@ -5,7 +5,8 @@ use Rattle.std.proofs.lemmas.List.{append-nil}
 use Rattle.std.specs.Prelude.{Result}
 use Rattle.std.specs.Str.{skip_leading_whitespace}
 use Rattle.pep440_rs.specs.SpecifierText.{AreSpaces}
-use Rattle.pep508_marker_read.specs.MarkerReading.{Refused, Malformed, Marker, ◌>>=◌, formula_at, if_end, marker_at}
+use Rattle.pep508_marker_comparison.specs.SideReading.{Refused, Malformed, ◌>>=◌, if_end}
+use Rattle.pep508_marker_read.specs.MarkerReading.{Marker, formula_at, marker_at}
 use Rattle.pep508_marker_read.specs.MarkerText.{IsSpaced, IsFormulaText, IsMarkerText}
 use Rattle.pep508_marker_read.proofs.Tests.{the_same}
 use Rattle.pep508_marker_read.proofs.Cuts.{only_spaces, ok_same, in_steps}

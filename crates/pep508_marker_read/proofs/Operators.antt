@@ -15,8 +15,8 @@ use Rattle.pep508_marker.specs.declared.operators.MarkerOperator.{MarkerOperator
 use Rattle.pep508_marker.specs.declared.operators.MarkerOperator.TheVariants.{NotIn}
 use Rattle.pep508_marker.specs.Operators.{marker_operator_of, is_not_in}
 use Rattle.pep508_marker.specs.Operators as texts
-use Rattle.pep508_marker_read.specs.MarkerReading.{Reading, Malformed, begins_by, cut_before, ends_word, ends_signs}
-use Rattle.pep508_marker_read.specs.MarkerReading.{in_at, behind_not, if_operator, operator_in, operator_at}
+use Rattle.pep508_marker_comparison.specs.SideReading.{Reading, Malformed, begins_by, cut_before, ends_word, ends_signs}
+use Rattle.pep508_marker_comparison.specs.SideReading.{in_at, behind_not, if_operator, operator_in, operator_at}
 use Rattle.pep508_marker_read.specs.MarkerText.{IsBefore, IsNotIn, IsOperatorText}
 use Rattle.pep508_marker_read.proofs.Tests.{the_same, or_cases}
 use Rattle.pep508_marker_read.proofs.Cuts.{Unspaced, NonePasses, Ends, cut_again, cut_found, cut_is}

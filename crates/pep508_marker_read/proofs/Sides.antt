@@ -8,8 +8,8 @@ use Rattle.std.specs.List.{position_or_len, before_first, after_first}
 use Rattle.std.specs.Prelude.{nat_lt, length}
 use Rattle.std.specs.Char.{is_whitespace}
 use Rattle.pep508_marker.specs.Values.{ValueRecord, Quoted, key_of_text, version_key_of, text_key_of}
-use Rattle.pep508_marker_read.specs.MarkerReading.{Reading, Malformed, cut_before, ends_key, if_side, is_quote}
-use Rattle.pep508_marker_read.specs.MarkerReading.{quoted_at, key_at, side_at}
+use Rattle.pep508_marker_comparison.specs.SideReading.{Reading, Malformed, cut_before, ends_key, if_side, is_quote}
+use Rattle.pep508_marker_comparison.specs.SideReading.{quoted_at, key_at, side_at}
 use Rattle.pep508_marker_read.specs.MarkerText.{IsQuotedText, IsKeyText, IsSideText}
 use Rattle.pep508_marker_read.proofs.Tests.{itself, the_same, or_cases, neither}
 use Rattle.pep508_marker_read.proofs.Cuts.{NonePasses, Ends, cut_again, cut_found, cut_is}

@@ -7,9 +7,10 @@ use Rattle.pep508_marker.specs.declared.operators.MarkerOperator.{MarkerOperator
 use Rattle.pep508_marker.specs.declared.operators.MarkerOperator.TheVariants.{NotIn}
 use Rattle.pep508_marker.specs.Operators.{marker_operator_of}
 use Rattle.pep508_marker.specs.Values.{ValueRecord, Quoted, key_of_text}
-use Rattle.pep508_marker_read.specs.Compared.{compared}
-use Rattle.pep508_marker_read.specs.MarkerReading.{Marker, Connective, And, Or, word_of, join_with, of_compared, is_quote}
-use Rattle.pep508_marker_read.specs.MarkerReading.{begins_by, ends_key, ends_word, ends_signs}
+use Rattle.pep508_marker_comparison.specs.Compared.{compared}
+use Rattle.pep508_marker_comparison.specs.SideReading.{is_quote}
+use Rattle.pep508_marker_read.specs.MarkerReading.{Marker, Connective, And, Or, word_of, join_with, of_compared}
+use Rattle.pep508_marker_comparison.specs.SideReading.{begins_by, ends_key, ends_word, ends_signs}
 
 -- nothing follows, or a character that passes the test
 abbrev pub IsBefore : (ℕ → Bool) → List ℕ → Type 0
@@ -81,7 +82,7 @@ pub record IsComparisonText (cs : List ℕ) (marker : Marker) (rest : List ℕ) 
   pub is_operator : IsOperatorText at_operator operator behind_operator
   pub spaced_right : IsSpaced behind_operator at_right
   pub is_right : IsSideText at_right right rest
-  pub says : of_compared (compared left operator right) rest ≡ Ok (marker, rest)
+  pub says : of_compared (compared left operator right, rest) ≡ Ok (marker, rest)
 
 -- a piece in brackets
 pub record IsEnclosed (piece : List ℕ → Marker → List ℕ → Type 0) (cs : List ℕ) (marker : Marker)

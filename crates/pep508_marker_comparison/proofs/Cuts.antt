@@ -1,0 +1,113 @@
+-- A text that is cut before the first character that passes a test.
+use Rattle.std.proofs.Common.{◌≡◌, ℕ, ◌+◌, Bool, true, false, not, cond, List, [], ◌∷◌, ◌++◌, length, take, drop, eqb, nat_lt, if◌then◌else◌, ◌<◌, ◌≤◌, None, Ok, Err, refl, ap, sym, ◌∙◌, arith}
+use Rattle.std.proofs.Math.Seq.{take-append_seam, drop-append_seam}
+use Rattle.std.proofs.lemmas.List.{take-append-drop, append-nil, append_cancel_left, length-drop, drop-drop}
+use Rattle.std.proofs.lemmas.Bool.Decides.{nat_tests}
+use Rattle.std.proofs.lemmas.Str.{chars-append, chars-nil, chars_from_encodes, chars_past_char, IsUtf8-take, IsUtf8-drop}
+use Rattle.std.specs.List.{prefix_len, position_or_len, before_first, after_first}
+use Rattle.std.specs.Str.{chars, encode_utf8_all, IsUtf8, NonePass}
+use Rattle.std.specs.Str.Pattern.{FindsBy, MatchBeginsAt}
+use Rattle.pep508_marker.specs.Values.{ValueRecord, Quoted}
+use Rattle.pep508_marker_comparison.specs.SideReading.{Reading, Malformed, quoted_at}
+use Rattle.pep508_marker_comparison.specs.Stops.{encoded_cut}
+
+none_place : (p : ℕ → Bool) (cs : List ℕ) → NonePass p cs → position_or_len p (cs ++ []) ≡ length cs
+none_place p [] h = refl
+none_place p (c ∷ cs) h =
+    ap (λ b. cond (not b) (1 + prefix_len (λ x. not (p x)) (cs ++ [])) 0) h.0
+    ∙ (let e = none_place p cs h.1 in omega (arith, e))
+
+first_place : (p : ℕ → Bool) (cs : List ℕ) (c : ℕ) (ds : List ℕ) → NonePass p cs → p c ≡ true
+    → position_or_len p (cs ++ c ∷ ds) ≡ length cs
+first_place p [] c ds h t = ap (λ b. cond (not b) (1 + prefix_len (λ x. not (p x)) ds) 0) t
+first_place p (d ∷ cs) c ds h t =
+    ap (λ b. cond (not b) (1 + prefix_len (λ x. not (p x)) (cs ++ c ∷ ds)) 0) h.0
+    ∙ (let e = first_place p cs c ds h.1 t in omega (arith, e))
+
+-- a text whose characters are these and those, cut between them
+cut_is : (p : ℕ → Bool) (text front rest cs ds : List ℕ) → chars text ≡ cs ++ ds
+    → position_or_len p (cs ++ ds) ≡ length cs → encode_utf8_all cs ≡ front → chars rest ≡ ds
+    → (front, chars rest) ≡ encoded_cut p (chars text)
+cut_is p text front rest cs ds whole place before behind =
+    ap (λ (x : List ℕ). (x, chars rest)) (sym before)
+    ∙ ap (λ (x : List ℕ). (encode_utf8_all cs, x)) behind
+    ∙ ap (λ (x : List ℕ). (encode_utf8_all x, ds)) (sym (take-append_seam cs ds))
+    ∙ ap (λ (x : List ℕ). (encode_utf8_all (take (length cs) (cs ++ ds)), x)) (sym (drop-append_seam cs ds))
+    ∙ ap (λ (n : ℕ). (encode_utf8_all (take n (cs ++ ds)), drop n (cs ++ ds))) (sym place)
+    ∙ ap (encoded_cut p) (sym whole)
+
+-- no character passes
+pub cut_none : (p : ℕ → Bool) (text : List ℕ) → IsUtf8 text → FindsBy p text None
+    → (text, chars []) ≡ encoded_cut p (chars text)
+cut_none p text u h =
+    let cs : List ℕ = h.0 in
+    let same : chars text ≡ cs = sym (chars_from_encodes cs text u h.1) in
+    cut_is p text text [] cs [] (same ∙ sym (append-nil cs)) (none_place p cs h.2) h.1 chars-nil
+
+-- a character passes
+pub cut_some : (p : ℕ → Bool) (text front rest : List ℕ) (end : ℕ) → IsUtf8 text
+    → MatchBeginsAt (FindsBy p) text end → front ≡ take end text → rest ≡ drop end text
+    → (front, chars rest) ≡ encoded_cut p (chars text)
+cut_some p text front rest end u h f r =
+    let none = h.1.0 in
+    let found = h.1.1 in
+    let cs : List ℕ = none.0 in
+    let c : ℕ = found.0 in
+    let ds : List ℕ = chars (drop h.0 text) in
+    let at_rest : chars (drop end text) ≡ c ∷ ds =
+    chars_past_char (drop end text) (drop h.0 text) c (IsUtf8-drop text end u h.3) found.2.split in
+    let front_utf8 : IsUtf8 (take end text) = IsUtf8-take text end u h.3 in
+    let before : chars (take end text) ≡ cs = sym (chars_from_encodes cs (take end text) front_utf8 none.1) in
+    let whole : chars text ≡ cs ++ c ∷ ds =
+    ap chars (sym (take-append-drop end text)) ∙ chars-append (take end text) (drop end text) front_utf8
+    ∙ ap (λ xs. xs ++ chars (drop end text)) before ∙ ap (λ xs. cs ++ xs) at_rest in
+    cut_is p text front rest cs (c ∷ ds) whole (first_place p cs c ds none.2 found.1) (none.1 ∙ sym f)
+    (ap chars r ∙ at_rest)
+
+-- ---- at a place
+
+pub placed : (p : ℕ → Bool) (here text front rest later : List ℕ) → text ≡ here → text ≡ front ++ rest
+    → here ≡ front ++ later → (front, chars rest) ≡ encoded_cut p (chars text)
+    → (front, chars later) ≡ encoded_cut p (chars here)
+placed p here text front rest later e whole at cut =
+    let same : later ≡ rest = append_cancel_left front later rest (sym at ∙ sym e ∙ whole) in
+    ap (λ (xs : List ℕ). (front, chars xs)) same ∙ cut ∙ ap (λ (xs : List ℕ). encoded_cut p (chars xs)) e
+
+-- ---- up to a quote
+
+below : (a b : ℕ) → a < b → nat_lt a b ≡ true
+below a b h = grind (arith, nat_tests)
+
+not_below : (a b : ℕ) → b ≤ a → nat_lt a b ≡ false
+not_below a b h = grind (arith, nat_tests)
+
+abbrev chosen : ℕ → List ℕ → Bool → Reading ValueRecord
+chosen c cs found =
+    if found then Ok (Quoted (encode_utf8_all (before_first (λ d. eqb d c) cs)), after_first (λ d. eqb d c) cs)
+    else Err Malformed
+
+-- the quote stands behind the cut
+pub quoted_some : (c x : ℕ) (cs front rest ds : List ℕ) → (front, rest) ≡ encoded_cut (λ d. eqb d c) cs
+    → rest ≡ x ∷ ds → quoted_at c cs ≡ Ok (Quoted front, ds)
+quoted_some c x cs front rest ds cut e =
+    let n : ℕ = position_or_len (λ d. eqb d c) cs in
+    let one : front ≡ encode_utf8_all (before_first (λ d. eqb d c) cs) = ap (λ (q : List ℕ × List ℕ). q.0) cut in
+    let two : drop n cs ≡ x ∷ ds = sym (ap (λ (q : List ℕ × List ℕ). q.1) cut) ∙ e in
+    let l : length (drop n cs) ≡ length (x ∷ ds) = ap length two in
+    let m = length-drop n cs in
+    let inside : n < length cs = omega (arith, l, m) in
+    let three : ds ≡ after_first (λ d. eqb d c) cs = sym (ap (drop 1) two) ∙ drop-drop 1 n cs in
+    ap (chosen c cs) (below n (length cs) inside)
+    ∙ ap (λ (xs : List ℕ). Ok (Quoted (encode_utf8_all (before_first (λ d. eqb d c) cs)), xs)) (sym three)
+    ∙ ap (λ (xs : List ℕ). Ok (Quoted xs, ds)) (sym one)
+
+-- nothing does
+pub quoted_none : (c : ℕ) (cs front rest : List ℕ) → (front, rest) ≡ encoded_cut (λ d. eqb d c) cs → rest ≡ []
+    → quoted_at c cs ≡ Err Malformed
+quoted_none c cs front rest cut e =
+    let n : ℕ = position_or_len (λ d. eqb d c) cs in
+    let two : drop n cs ≡ [] = sym (ap (λ (q : List ℕ × List ℕ). q.1) cut) ∙ e in
+    let l : length (drop n cs) ≡ 0 = ap length two in
+    let m = length-drop n cs in
+    let past : length cs ≤ n = omega (arith, l, m) in
+    ap (chosen c cs) (not_below n (length cs) past)

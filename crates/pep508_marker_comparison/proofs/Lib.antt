@@ -1,0 +1,4 @@
+pub mod Cuts
+pub mod Tellings
+pub mod Warned
+pub mod Runs

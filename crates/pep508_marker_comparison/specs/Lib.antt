@@ -1,0 +1,5 @@
+pub mod Compared
+pub mod SideReading
+pub mod Stops
+pub mod Notices
+pub mod Outcome

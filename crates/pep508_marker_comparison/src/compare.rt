@@ -1,0 +1,136 @@
+//! What two sides with an operator between them say.
+
+ghost use Rattle.std.specs.Prelude.{◌≡◌, IfOk};
+ghost use Rattle.std.specs.String.{string_bytes};
+ghost use Rattle.pep508_marker.specs.Values.{value_of, VersionKey, TextKey, ExtraKey, Quoted};
+ghost use Rattle.pep508_marker_comparison.specs.Compared.{compared};
+ghost use Rattle.pep508_marker_comparison.specs.Outcome.{IsCompared};
+
+use crate::keys::{compare_extra, compare_text};
+use crate::notice::{Notice, leave_out};
+use crate::numbers::{compare_turned, compare_version};
+use pep508_marker::{
+    MarkerExpression, MarkerOperator, MarkerValue, MarkerValueString, MarkerValueVersion, Reporter,
+};
+use std::alloc::{AllocError, Global};
+
+/// What a comparison says, if anything. The warnings are reported in their order.
+pub(crate) fn compare<R: Reporter>(
+    alloc: Global,
+    reporter: &mut R,
+    left: MarkerValue,
+    operator: MarkerOperator,
+    right: MarkerValue,
+) -> Result<Option<MarkerExpression>, AllocError>
+    requires { R.can_report reporter.old }
+    ensures said { IfOk result (λ said. IsCompared R.takes reporter.old reporter.new said
+        (compared (value_of left) operator (value_of right))) }
+    ensures again { R.can_report reporter.new }
+{
+    match left {
+        MarkerValue::MarkerEnvVersion(key) => {
+            compare_version_key(alloc, reporter, key, operator, &right)
+        }
+        MarkerValue::MarkerEnvString(key) => {
+            compare_text_key(alloc, reporter, key, operator, right)
+        }
+        MarkerValue::Extra => compare_extra_key(alloc, reporter, operator, &right),
+        MarkerValue::QuotedString(text) => compare_quoted(alloc, reporter, text, operator, &right),
+    }
+}
+
+/// A key of versions before another side.
+#[tactic(auto, unfolding(crate::specs::Compared::compared))]
+fn compare_version_key<R: Reporter>(
+    alloc: Global,
+    reporter: &mut R,
+    key: MarkerValueVersion,
+    operator: MarkerOperator,
+    right: &MarkerValue,
+) -> Result<Option<MarkerExpression>, AllocError>
+    requires { R.can_report reporter.old }
+    ensures said { IfOk result (λ said. IsCompared R.takes reporter.old reporter.new said
+        (compared (VersionKey key) operator (value_of right.now))) }
+    ensures again { R.can_report reporter.new }
+{
+    match right {
+        MarkerValue::QuotedString(text) => {
+            compare_version(alloc, reporter, key, operator, text.as_str())
+        }
+        MarkerValue::MarkerEnvVersion(_) | MarkerValue::MarkerEnvString(_) | MarkerValue::Extra => {
+            leave_out(alloc, reporter, Notice::Unquoted(key, right))
+        }
+    }
+}
+
+/// A key of texts before another side.
+#[tactic(auto, unfolding(crate::specs::Compared::compared))]
+fn compare_text_key<R: Reporter>(
+    alloc: Global,
+    reporter: &mut R,
+    key: MarkerValueString,
+    operator: MarkerOperator,
+    right: MarkerValue,
+) -> Result<Option<MarkerExpression>, AllocError>
+    requires { R.can_report reporter.old }
+    ensures said { IfOk result (λ said. IsCompared R.takes reporter.old reporter.new said
+        (compared (TextKey key) operator (value_of right))) }
+    ensures again { R.can_report reporter.new }
+{
+    match right {
+        MarkerValue::QuotedString(text) => compare_text(alloc, reporter, key, operator, text),
+        MarkerValue::MarkerEnvVersion(_) | MarkerValue::MarkerEnvString(_) | MarkerValue::Extra => {
+            leave_out(alloc, reporter, Notice::Keys)
+        }
+    }
+}
+
+/// `extra` before another side.
+#[tactic(auto, unfolding(crate::specs::Compared::compared))]
+fn compare_extra_key<R: Reporter>(
+    alloc: Global,
+    reporter: &mut R,
+    operator: MarkerOperator,
+    right: &MarkerValue,
+) -> Result<Option<MarkerExpression>, AllocError>
+    requires { R.can_report reporter.old }
+    ensures said { IfOk result (λ said. IsCompared R.takes reporter.old reporter.new said
+        (compared ExtraKey operator (value_of right.now))) }
+    ensures again { R.can_report reporter.new }
+{
+    match right {
+        MarkerValue::QuotedString(text) => compare_extra(alloc, reporter, operator, text.as_str()),
+        MarkerValue::MarkerEnvVersion(_) | MarkerValue::MarkerEnvString(_) | MarkerValue::Extra => {
+            leave_out(alloc, reporter, Notice::Extra)
+        }
+    }
+}
+
+/// A quoted text before another side: a key stands on the left in what is said.
+#[tactic(auto, unfolding(crate::specs::Compared::compared))]
+fn compare_quoted<R: Reporter>(
+    alloc: Global,
+    reporter: &mut R,
+    text: String,
+    operator: MarkerOperator,
+    right: &MarkerValue,
+) -> Result<Option<MarkerExpression>, AllocError>
+    requires { R.can_report reporter.old }
+    ensures said { IfOk result (λ said. IsCompared R.takes reporter.old reporter.new said
+        (compared (Quoted (string_bytes text)) operator (value_of right.now))) }
+    ensures again { R.can_report reporter.new }
+{
+    match right {
+        MarkerValue::MarkerEnvVersion(key) => {
+            compare_turned(alloc, reporter, *key, operator.invert(), text.as_str())
+        }
+        MarkerValue::MarkerEnvString(key) => {
+            compare_text(alloc, reporter, *key, operator.invert(), text)
+        }
+        MarkerValue::Extra => compare_extra(alloc, reporter, operator, text.as_str()),
+        MarkerValue::QuotedString(other) => {
+            let notice = Notice::Quoted(text.as_str(), operator, other.as_str());
+            leave_out(alloc, reporter, notice)
+        }
+    }
+}

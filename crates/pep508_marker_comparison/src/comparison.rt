@@ -1,0 +1,36 @@
+//! Reading a comparison.
+
+ghost use Rattle.std.specs.Prelude.{◌≡◌};
+ghost use Rattle.pep508_marker_comparison.specs.SideReading.{compared_at};
+ghost use Rattle.pep508_marker_comparison.specs.Outcome.{behind, ReadsComparison, StaysIn};
+
+use crate::compare::compare;
+use crate::operator::read_operator;
+use crate::side::read_side;
+use pep508_error::{Cursor, Refusal};
+use pep508_marker::{MarkerExpression, Reporter};
+use std::alloc::Global;
+
+/// The comparison that stands at a place, and the place behind it (PEP 508, "Environment Markers"); nothing
+/// where it is left out. Its warnings are reported in their order.
+///
+/// Linear in its text; takes memory for what it says, for the texts of the warnings that are wanted, and for
+/// a refusal, which shows the part at fault.
+#[tactic(auto, unfolding(crate::specs::SideReading::compared_at))]
+pub fn read_comparison<'a, R: Reporter>(
+    alloc: Global,
+    start: Cursor<'a>,
+    reporter: &mut R,
+) -> Result<(Option<MarkerExpression>, Cursor<'a>), Refusal<'a>>
+    requires { R.can_report reporter.old }
+    ensures read { ReadsComparison R.takes reporter.old reporter.new result
+        (compared_at (behind start.entry)) }
+    ensures stays { StaysIn start.entry result }
+    ensures again { R.can_report reporter.new }
+{
+    let (left, behind_left) = read_side(alloc, start)?;
+    let (operator, behind_operator) = read_operator(alloc, behind_left.after_whitespace())?;
+    let (right, later) = read_side(alloc, behind_operator.after_whitespace())?;
+    let said = compare(alloc, reporter, left, operator, right)?;
+    Ok((said, later))
+}

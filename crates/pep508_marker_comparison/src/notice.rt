@@ -1,0 +1,142 @@
+//! What is said of a comparison that means nothing, or not what it seems to.
+
+ghost use Rattle.std.specs.Prelude.{◌≡◌, OnOk, IfOk, ◌∷◌, []};
+ghost use Rattle.pep508_marker_comparison.specs.Notices.{kind_of};
+ghost use Rattle.pep508_marker_comparison.specs.Compared.{left_out};
+ghost use Rattle.pep508_marker_comparison.specs.Outcome.{IsWarned, IsCompared};
+
+use pep440_rs::{Version, VersionParseError, VersionPatternParseError, VersionSpecifierBuildError};
+use pep508_marker::{
+    MarkerExpression, MarkerOperator, MarkerValue, MarkerValueVersion, MarkerWarningKind, Reporter,
+};
+use pep508_name::InvalidNameError;
+use std::alloc::{AllocError, Global};
+use std::fmt;
+
+/// A warning whose text is yet to be made. Prints as that text.
+#[derive(Clone, Copy)]
+pub(crate) enum Notice<'a> {
+    /// Behind a key of versions stands another side than a quoted text.
+    Unquoted(MarkerValueVersion, &'a MarkerValue),
+    /// A run of the text behind `in` or `not in` is no version.
+    Listed(MarkerValueVersion, &'a str, &'a VersionParseError),
+    /// The text behind a key is no version and no pattern of versions.
+    Pattern(MarkerValueVersion, &'a str, &'a VersionPatternParseError),
+    /// The text before a key is no version.
+    Single(MarkerValueVersion, &'a str, &'a VersionParseError),
+    /// The operator compares no versions.
+    Operator(MarkerValueVersion, &'a Version, MarkerOperator),
+    /// The operator and the version make no specifier.
+    Combination(&'a VersionSpecifierBuildError),
+    /// A key of texts is compared with a key.
+    Keys,
+    /// Texts are compared by `~=`.
+    Compatible,
+    /// `extra` is compared with a key, or by an operator that names don't have.
+    Extra,
+    /// `extra` is compared with a text that is no name.
+    Name(&'a str, &'a InvalidNameError),
+    /// A quoted text is compared with a quoted text.
+    Quoted(&'a str, MarkerOperator, &'a str),
+}
+
+impl Notice<'_> {
+    /// What the warning is about.
+    pub(crate) fn kind(&self) -> MarkerWarningKind
+        ensures { result ≡ kind_of self.now }
+    {
+        match self {
+            Notice::Keys => MarkerWarningKind::MarkerMarkerComparison,
+            Notice::Compatible => MarkerWarningKind::LexicographicComparison,
+            Notice::Extra | Notice::Name(..) => MarkerWarningKind::ExtraInvalidComparison,
+            Notice::Quoted(..) => MarkerWarningKind::StringStringComparison,
+            _ => MarkerWarningKind::Pep440Error,
+        }
+    }
+}
+
+impl fmt::Display for Notice<'_> {
+    fn fmt<W: fmt::Write>(&self, f: &mut fmt::Formatter<W>) -> fmt::Result {
+        match self {
+            Notice::Unquoted(key, found) => {
+                write!(
+                    f,
+                    "Expected double quoted PEP 440 version to compare with {key}, found "
+                )?;
+                write!(f, "{found}, will be ignored")
+            }
+            Notice::Listed(key, text, fault) => {
+                write!(f, "Expected PEP 440 versions to compare with {key}, found ")?;
+                write!(f, "{text}, will be ignored: {fault}")
+            }
+            Notice::Pattern(key, text, fault) => {
+                write!(f, "Expected PEP 440 version to compare with {key}, found ")?;
+                write!(f, "{text}, will be ignored: {fault}")
+            }
+            Notice::Single(key, text, fault) => {
+                write!(f, "Expected PEP 440 version to compare with {key}, found ")?;
+                write!(f, "{text}, will be ignored: {fault}")
+            }
+            Notice::Operator(key, version, operator) => {
+                write!(
+                    f,
+                    "Expected PEP 440 version operator to compare {key} with "
+                )?;
+                write!(f, "`{version}`, found `{operator}`, will be ignored")
+            }
+            Notice::Combination(fault) => write!(
+                f,
+                "Invalid operator/version combination: {fault}"
+            ),
+            Notice::Keys => write!(
+                f,
+                "Comparing two markers with each other doesn't make any sense, will be ignored"
+            ),
+            Notice::Compatible => write!(f, "Can't compare strings with `~=`, will be ignored"),
+            Notice::Extra => write!(
+                f,
+                "Comparing extra with something other than a quoted string is wrong, will be ignored"
+            ),
+            Notice::Name(text, fault) => write!(f, "Expected extra name (found `{text}`): {fault}"),
+            Notice::Quoted(left, operator, right) => {
+                write!(
+                    f,
+                    "Comparing two quoted strings with each other doesn't make sense: "
+                )?;
+                write!(f, "'{left}' {operator} '{right}', will be ignored")
+            }
+        }
+    }
+}
+
+/// Reports a warning, where warnings are wanted.
+pub(crate) fn warn<R: Reporter>(
+    alloc: Global,
+    reporter: &mut R,
+    notice: Notice<'_>,
+) -> Result<(), AllocError>
+    requires { R.can_report reporter.old }
+    ensures taken { OnOk result (IsWarned R.takes reporter.old reporter.new (kind_of notice.entry ∷ [])) }
+    ensures again { R.can_report reporter.new }
+{
+    if !reporter.wants() {
+        return Ok(());
+    }
+    let text = format!(in alloc; "{notice}")?;
+    reporter.report(notice.kind(), text)
+}
+
+/// A comparison that is left out with a warning.
+pub(crate) fn leave_out<R: Reporter>(
+    alloc: Global,
+    reporter: &mut R,
+    notice: Notice<'_>,
+) -> Result<Option<MarkerExpression>, AllocError>
+    requires { R.can_report reporter.old }
+    ensures said { IfOk result (λ said. IsCompared R.takes reporter.old reporter.new said
+        (left_out (kind_of notice.entry))) }
+    ensures again { R.can_report reporter.new }
+{
+    warn(alloc, reporter, notice)?;
+    Ok(None)
+}

@@ -1,0 +1,105 @@
+//! Reading the operator of a comparison.
+
+ghost use Rattle.std.specs.Prelude.{◌≡◌};
+ghost use Rattle.pep508_error.specs.Cursors.{IsBehind};
+ghost use Rattle.pep508_marker_comparison.specs.SideReading.{Malformed, operator_at, operator_in, behind_not, in_at, cut_before};
+ghost use Rattle.pep508_marker_comparison.specs.Stops.{stops_at};
+ghost use Rattle.pep508_marker_comparison.specs.Outcome.{behind, Fits, IsOf, Reads, StaysIn};
+
+use crate::place::{cut, expect, malformed, refuse_between};
+use crate::stop::Stop;
+use pep508_error::{Cursor, Refusal};
+use pep508_marker::MarkerOperator;
+use std::alloc::Global;
+
+/// An operator at a place, of letters or of signs, and the place behind it.
+pub(crate) fn read_operator<'a>(
+    alloc: Global,
+    start: Cursor<'a>,
+) -> Result<(MarkerOperator, Cursor<'a>), Refusal<'a>>
+    ensures read { Reads (λ operator. operator) result (operator_at (behind start.entry)) }
+    ensures stays { StaysIn start.entry result }
+{
+    match start.peek() {
+        None => Err(refuse_operator(alloc, start, "", start)),
+        Some(c) => {
+            if c.is_ascii_alphabetic() {
+                read_up_to(alloc, start, Stop::Word)
+            } else {
+                read_up_to(alloc, start, Stop::Signs)
+            }
+        }
+    }
+}
+
+/// The refusal of a text that is no operator.
+fn refuse_operator<'a>(alloc: Global, start: Cursor<'a>, text: &str, end: Cursor<'a>) -> Refusal<'a>
+    requires { IsBehind start end }
+    ensures fits { Fits result.kind Malformed }
+    ensures of { IsOf start.entry result }
+{
+    refuse_between(
+        start,
+        end,
+        malformed(format!(in alloc;
+            "Expected a valid marker operator (such as `>=` or `not in`), found `{text}`"
+        )),
+    )
+}
+
+/// An operator as far as no character of a kind ends it.
+fn read_up_to<'a>(
+    alloc: Global,
+    start: Cursor<'a>,
+    stop: Stop,
+) -> Result<(MarkerOperator, Cursor<'a>), Refusal<'a>>
+    ensures read { Reads (λ operator. operator) result
+        (operator_in (cut_before (stops_at stop) (behind start.entry))) }
+    ensures stays { StaysIn start.entry result }
+{
+    let (text, later) = cut(start, stop);
+    if text == "not" {
+        return read_in(alloc, later);
+    }
+    match MarkerOperator::from_str(alloc, text) {
+        Ok(operator) => Ok((operator, later)),
+        Err(_) => Err(refuse_operator(alloc, start, text, later)),
+    }
+}
+
+/// White space and `in`, behind `not`.
+fn read_in<'a>(
+    alloc: Global,
+    start: Cursor<'a>,
+) -> Result<(MarkerOperator, Cursor<'a>), Refusal<'a>>
+    ensures read { Reads (λ operator. operator) result (behind_not (behind start.entry)) }
+    ensures stays { StaysIn start.entry result }
+{
+    match start.split_first() {
+        None => Err(start.refuse_char(malformed(String::from_str(
+            alloc,
+            "Expected whitespace after 'not', found end of input",
+        )))),
+        Some((c, later)) => {
+            if !c.is_whitespace() {
+                return Err(start.refuse_char(malformed(format!(in alloc;
+                    "Expected whitespace after `not`, found `{c}`"
+                ))));
+            }
+            read_letters(alloc, later.after_whitespace())
+        }
+    }
+}
+
+/// `in` at a place, behind `not` and white space.
+fn read_letters<'a>(
+    alloc: Global,
+    start: Cursor<'a>,
+) -> Result<(MarkerOperator, Cursor<'a>), Refusal<'a>>
+    ensures read { Reads (λ operator. operator) result (in_at (behind start.entry)) }
+    ensures stays { StaysIn start.entry result }
+{
+    let second = expect(alloc, start, 'i')?;
+    let end = expect(alloc, second, 'n')?;
+    Ok((MarkerOperator::NotIn, end))
+}

@@ -1,0 +1,77 @@
+//! Reading a side of a comparison.
+
+ghost use Rattle.std.specs.Prelude.{◌≡◌};
+ghost use Rattle.pep508_error.specs.Cursors.{IsBehind};
+ghost use Rattle.pep508_marker.specs.Values.{value_of};
+ghost use Rattle.pep508_marker_comparison.specs.SideReading.{side_at, quoted_at, key_at, cut_before, ends_key};
+ghost use Rattle.pep508_marker_comparison.specs.Outcome.{behind, Reads, StaysIn};
+
+use crate::place::{cut, malformed, refuse_between};
+use crate::stop::Stop;
+use pep508_error::{Cursor, Refusal};
+use pep508_marker::MarkerValue;
+use std::alloc::Global;
+
+/// A quoted text or a key at a place, and the place behind it.
+pub(crate) fn read_side<'a>(
+    alloc: Global,
+    start: Cursor<'a>,
+) -> Result<(MarkerValue, Cursor<'a>), Refusal<'a>>
+    ensures read { Reads value_of result (side_at (behind start.entry)) }
+    ensures stays { StaysIn start.entry result }
+{
+    match start.split_first() {
+        None => Err(start.refuse_char(malformed(String::from_str(
+            alloc,
+            "Expected marker value, found end of dependency specification",
+        )))),
+        Some((c, inner)) => {
+            if c == '\'' || c == '"' {
+                read_quoted(alloc, start, c, inner)
+            } else {
+                read_key(alloc, start)
+            }
+        }
+    }
+}
+
+/// The text up to a quote, behind an opening one.
+fn read_quoted<'a>(
+    alloc: Global,
+    opening: Cursor<'a>,
+    quote: char,
+    inner: Cursor<'a>,
+) -> Result<(MarkerValue, Cursor<'a>), Refusal<'a>>
+    requires { IsBehind opening inner }
+    ensures read { Reads value_of result (quoted_at quote (behind inner.entry)) }
+    ensures stays { StaysIn opening.entry result }
+{
+    let (text, end) = cut(inner, Stop::Quote(quote));
+    match end.split_first() {
+        Some((_, later)) => {
+            let text = String::from_str(alloc, text)?;
+            Ok((MarkerValue::QuotedString(text), later))
+        }
+        None => Err(opening.refuse_char(malformed(format!(in alloc;
+            "Expected '{quote}', found end of dependency specification"
+        )))),
+    }
+}
+
+/// A key.
+fn read_key<'a>(alloc: Global, start: Cursor<'a>) -> Result<(MarkerValue, Cursor<'a>), Refusal<'a>>
+    ensures read { Reads value_of result (key_at (cut_before ends_key (behind start.entry))) }
+    ensures stays { StaysIn start.entry result }
+{
+    let (text, later) = cut(start, Stop::Key);
+    match MarkerValue::from_str(alloc, text) {
+        Ok(key) => Ok((key, later)),
+        Err(_) => Err(refuse_between(
+            start,
+            later,
+            malformed(format!(in alloc;
+                "Expected a quoted string or a valid marker name, found `{text}`"
+            )),
+        )),
+    }
+}

@@ -1,0 +1,73 @@
+//! The versions and patterns that texts are.
+
+ghost use Rattle.std.specs.Prelude.{◌≡◌, [], ◌∷◌, option_map, IfOk, MatchOption};
+ghost use Rattle.std.specs.Result.{result_ok};
+ghost use Rattle.pep440_rs.specs.Reading.{version_of, pattern_of};
+ghost use Rattle.pep508_marker_comparison.specs.Compared.{runs_of, versions_of};
+
+use crate::stop::{Stop, split};
+use pep440_rs::{Version, VersionParseError, VersionPattern, VersionPatternParseError};
+use std::alloc::{AllocError, Global};
+
+/// The version that a text is, or why it is none.
+#[tactic(auto, using(pep440_version::proofs::Found::reads_found))]
+pub(crate) fn read_version(
+    alloc: Global,
+    text: &str,
+) -> Result<Result<Version, VersionParseError>, AllocError>
+    ensures { IfOk result (λ found. result_ok found ≡ version_of text.now) }
+{
+    match Version::from_str(alloc, text) {
+        Err(VersionParseError::Memory) => Err(AllocError),
+        found => Ok(found),
+    }
+}
+
+/// The pattern that a text is, or why it is none.
+#[tactic(auto, unfolding(pep440_text::specs::Reading::pattern_of, pep440_version::specs::VersionReading::pattern_reading))]
+pub(crate) fn read_pattern(
+    alloc: Global,
+    text: &str,
+) -> Result<Result<VersionPattern, VersionPatternParseError>, AllocError>
+    ensures { IfOk result (λ found. result_ok found ≡ pattern_of text.now) }
+{
+    match VersionPattern::from_str(alloc, text) {
+        Err(VersionPatternParseError::Memory) => Err(AllocError),
+        found => Ok(found),
+    }
+}
+
+/// The versions that the runs of a text between white space are, in their order, or why the first of them that
+/// is no version is none. A text without runs has none.
+///
+/// Linear in the text.
+pub(crate) fn read_versions(
+    alloc: Global,
+    text: &str,
+) -> Result<Result<Vec<Version>, VersionParseError>, AllocError>
+    ensures { IfOk result (λ found. option_map (λ versions. versions.items) (result_ok found)
+        ≡ versions_of (runs_of text.now)) }
+{
+    let mut versions = Vec::new(alloc);
+    let mut rest = text;
+    while let Some((run, later)) = next_run(rest) {
+        match read_version(alloc, run)? {
+            Ok(version) => versions.push(version)?,
+            Err(error) => return Ok(Err(error)),
+        }
+        rest = later;
+    }
+    Ok(Ok(versions))
+}
+
+/// The first run of a text that is no white space, and what stands behind it, if there is one.
+fn next_run(text: &str) -> Option<(&str, &str)>
+    ensures { MatchOption result (runs_of text.now ≡ [])
+        (λ found. runs_of text.now ≡ found.0.now ∷ runs_of found.1.now) }
+{
+    let trimmed = text.trim_start();
+    if trimmed.is_empty() {
+        return None;
+    }
+    Some(split(trimmed, Stop::Space))
+}
