@@ -116,7 +116,7 @@ module _ {T E : Type 0} (Reads : List ℕ → Result T E → Type 0) (lacks : E 
   front_cause sources.Memory kind said h = tt
   front_cause (sources.UrlError error) kind said h = absurd said
   front_cause sources.NumberAtEnd kind said h =
-      no_number (front_reading text) (subst (λ k. Tells vars k (front_reading text)) said h)
+      absurd (no_number (front_reading text) (subst (λ k. Tells vars k (front_reading text)) said h))
   front_cause (sources.String message) kind said h =
       inl (front_refused vars text (kinds.String message) (front_reading text) refl (λ e. cc)
       (subst (λ k. Tells vars k (front_reading text)) said h))

@@ -82,7 +82,7 @@ module _ {T E : Type 0} (Reads : List ℕ → Result T E → Type 0) (lacks : E 
       → (kind ≡ kinds.Memory) ⊎ IsUnnamedReading text (Err Malformed) → UnnamedRefusedBy Reads lacks text source
   front_cause sources.Memory kind said plain h = tt
   front_cause (sources.UrlError error) kind said plain h = absurd said
-  front_cause sources.NumberAtEnd kind said plain h = subst IsPlain said plain
+  front_cause sources.NumberAtEnd kind said plain h = absurd (subst IsPlain said plain)
   front_cause (sources.UnsupportedRequirement message) kind said plain h = absurd (subst IsPlain said plain)
   front_cause (sources.String message) kind said plain h =
       ⊎_elim (λ (e : kind ≡ kinds.Memory). cc)

@@ -4,4 +4,4 @@ use Rattle.pep508_requirement.proofs.laws.a_written_unnamed_requirement_is_not_r
 pub returns : goal.returns
 returns g c = λ vars directory.
     not_refused _ c.a_text_has_one_unnamed_front.ensures c.a_written_unnamed_front_is_read.ensures
-    c.a_written_marker_is_read.ensures g.U.UnnamedRequirementUrl.Pep508Url.lacks_memory
+    c.a_written_marker_is_read.ensures _
