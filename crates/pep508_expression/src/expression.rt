@@ -1,0 +1,65 @@
+//! Trees of comparisons.
+
+ghost use Rattle.std.specs.Prelude.{◌≡◌, List, Result};
+ghost use Rattle.pep440_rs.specs.declared.RangeError.{RangeError};
+ghost use Rattle.pep508_marker.specs.Expression.{ExpressionRecord, expression_of};
+ghost use Rattle.pep508_tree.specs.Meaning.{NodeRecord, Extends};
+ghost use Rattle.pep508_expression.specs.Trees.{IsComparison, GivesTree};
+
+use crate::texts::{extra_tree, text_tree};
+use crate::versions::{listed_tree, version_tree};
+use pep440_rs::RangeError;
+use pep508_marker::MarkerExpression;
+use pep508_tree::{Interner, MarkerTree};
+use std::alloc::Global;
+
+/// What makes trees of comparisons.
+pub trait MarkerTreeExpression {
+    /// This may be returned for a comparison, by an interner that has these nodes afterwards.
+    ghost gives: { List NodeRecord → Result Self RangeError → ExpressionRecord → Type 0 };
+
+    /// The tree of a comparison (PEP 508, "Environment Markers"), which isn't counted. Earlier trees mean
+    /// what they meant, refused or not. Texts are compared by their bytes; `~=` of texts is not to be asked.
+    ///
+    /// `NumberAtEnd` where a number that has to be raised is the greatest of 64 bits. n listed versions take
+    /// O(n log n) comparisons of versions, any other comparison a fixed number of passes over it.
+    fn expression(
+        alloc: Global,
+        interner: &mut Interner,
+        expression: MarkerExpression,
+    ) -> Result<Self, RangeError>
+        requires { IsComparison (expression_of expression) }
+        ensures answers { gives interner.new.nodes result (expression_of expression) }
+        ensures keeps { Extends interner.old.nodes interner.new.nodes }
+        ensures counts { interner.new.conjunctions ≡ interner.old.conjunctions };
+}
+
+impl MarkerTreeExpression for MarkerTree {
+    ghost gives = { GivesTree };
+
+    #[tactic(auto, unfolding(crate::specs::Expressions::has_points, crate::specs::Expressions::expression_holds))]
+    fn expression(
+        alloc: Global,
+        interner: &mut Interner,
+        expression: MarkerExpression,
+    ) -> Result<MarkerTree, RangeError> {
+        match expression {
+            MarkerExpression::Version { key, specifier } => {
+                version_tree(alloc, interner, key, &specifier)
+            }
+            MarkerExpression::VersionIn {
+                key,
+                versions,
+                negated,
+            } => listed_tree(alloc, interner, key, &versions, negated),
+            MarkerExpression::String {
+                key,
+                operator,
+                value,
+            } => Ok(text_tree(alloc, interner, key, operator, &value)?),
+            MarkerExpression::Extra { operator, name } => {
+                Ok(extra_tree(alloc, interner, operator, &name)?)
+            }
+        }
+    }
+}
