@@ -79,7 +79,7 @@ comparison_found from cs found s h =
     let says : Compared × List ℕ = (compared left.0 sign.0 right.0, right.1) in
     let paired : says ≡ both = ok_same says both three.next_is in
     let same : right.1 ≡ found.1 =
-        ap (λ (p : Compared × List ℕ). p.1) paired ∙ said_rest both.0.said both.0.warned both.1 found zero.next_is in
+    ap (λ (p : Compared × List ℕ). p.1) paired ∙ said_rest both.0.said both.0.warned both.1 found zero.next_is in
     record {
       left = left.0;
       operator = sign.0;
