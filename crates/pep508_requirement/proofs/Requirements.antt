@@ -64,8 +64,7 @@ one_requirement front_law law text front other marker another h k =
     let a = are_read front_law law text front marker h in
     let b = are_read front_law law text other another k in
     let same : ◌≡◌ {A = Front × List ℕ} (front, a.rest) (other, b.rest) =
-    front_same (front, a.rest) (other, b.rest) (sym a.reading ∙ b.reading) in
-    (
+    front_same (front, a.rest) (other, b.rest) (sym a.reading ∙ b.reading) in (
       ap (λ (found : Front × List ℕ). found.0) same,
       marker_same marker another
           (sym a.is_marker

@@ -66,8 +66,7 @@ one_requirement one front_law law text front other marker another h k =
     let b = are_read front_law law text other another k in
     let same : ◌≡◌ {A = UnnamedFront × List ℕ} (front, a.rest) (other, b.rest) =
     front_same (front, a.rest) (other, b.rest)
-    (one text (Ok (front, a.rest)) (Ok (other, b.rest)) a.reading b.reading) in
-    (
+    (one text (Ok (front, a.rest)) (Ok (other, b.rest)) a.reading b.reading) in (
       ap (λ (found : UnnamedFront × List ℕ). found.0) same,
       marker_same marker another
           (sym a.is_marker

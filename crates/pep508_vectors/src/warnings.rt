@@ -54,6 +54,10 @@ pub fn warnings(alloc: Global, vars: &Vars, text: &str) -> Result<String, AllocE
             return Err(AllocError);
         }
     }
-    let (count, told) = (interner.conjunctions(), kept.text.as_str());
-    format!(in alloc; "{count} {told}")
+    let count = interner.conjunctions();
+    if kept.text.is_empty() {
+        return format!(in alloc; "{count} conjunctions, no warning");
+    }
+    let told = kept.text.as_str();
+    format!(in alloc; "{count} conjunctions, {told}")
 }
