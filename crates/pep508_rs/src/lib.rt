@@ -10,11 +10,13 @@ pub use pep508_environment::{
     MarkerEnvironmentBuilder, StringVersion,
 };
 pub use pep508_error::{Pep508Error, Pep508ErrorSource};
+pub use pep508_expression::MarkerTreeExpression;
 pub use pep508_marker::{
     ClosureReporter, ExtraOperator, MarkerExpression, MarkerOperator, MarkerTextError, MarkerValue,
     MarkerValueExtra, MarkerValueString, MarkerValueVersion, MarkerWarningKind, Reporter, Silent,
     TracingReporter,
 };
+pub use pep508_marker_comparison::{parse_expression, parse_expression_reporter};
 pub use pep508_name::{ExtraName, InvalidNameError, PackageName, RequirementOrigin};
 pub use pep508_requirement::{
     Extras, Requirement, UnnamedRequirement, VersionOrUrl, VersionOrUrlRef,

@@ -1,6 +1,7 @@
 //! The answers.
 
 use crate::requirement::{picture, requirement, unnamed};
+use crate::warnings::warnings;
 use crate::{calls, names};
 use pep508_name::{InvalidNameError, PackageName, RequirementOrigin};
 use pep508_url::{
@@ -45,6 +46,7 @@ pub fn answer(alloc: Global, vars: &Vars, question: &str) -> Result<String, Allo
         "requirement" => requirement(alloc, vars, text, DIRECTORY),
         "picture" => picture(alloc, vars, text, DIRECTORY),
         "unnamed" => unnamed(alloc, vars, text, DIRECTORY),
+        "warnings" => warnings(alloc, vars, text),
         "packages" => names::packages(alloc, text, text_at(&question, 2)),
         "extra-names" => names::extras(alloc, text, text_at(&question, 2)),
         "origins" => names::origins(alloc, text, text_at(&question, 2)),

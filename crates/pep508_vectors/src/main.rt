@@ -8,6 +8,7 @@ mod answers;
 mod calls;
 mod names;
 mod requirement;
+mod warnings;
 
 use answers::answer;
 use pep508_url::Vars;
