@@ -11,7 +11,8 @@ use Rattle.pep508_tree.specs.Nodes.{chosen}
 use Rattle.pep508_tree.specs.Roots.{root_of, IsRoot}
 use Rattle.pep508_evaluation.specs.Valuations.{HasJust}
 
--- what stands at the root of a tree at the valuation, which was made earlier and holds there where the tree does
+-- what stands at the root of a tree at the valuation, which was made earlier and holds there where the tree
+-- does
 pub record GoesDown (nodes : List NodeRecord) (tree : Tree) (v : Valuation) (next : Tree) : Type 0 where
   pub root : NodeRecord
   pub root_is : root_of nodes tree ≡ Some root

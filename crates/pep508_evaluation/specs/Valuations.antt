@@ -1,5 +1,5 @@
--- The valuation of an environment with extras, and when some valuation with just these extras makes a tree hold
--- (PEP 508, "Environment Markers").
+-- The valuation of an environment with extras, and when some valuation with just these extras makes a tree
+-- hold (PEP 508, "Environment Markers").
 use Rattle.std.specs.Prelude.{◌≡◌, ◌↔◌, ℕ, ◌||◌, eqb, Bool, IsTrue, true, false, List, [], ◌∷◌, Option, Some, None}
 use Rattle.std.specs.List.{starts_with, list_any}
 use Rattle.version_ranges.specs.Point.{At}
@@ -55,5 +55,6 @@ CanHold nodes tree extras = (v : Valuation) × HasJust extras v × (holds nodes 
 
 -- in an environment the tree holds; without one, some valuation makes it hold
 abbrev pub AnswersIn : List NodeRecord → Tree → Option EnvironmentRecord → List (List ℕ) → Bool → Type 0
-AnswersIn nodes tree (Some environment) extras answer = answer ≡ holds nodes tree (valuation_of environment extras)
+AnswersIn nodes tree (Some environment) extras answer =
+    answer ≡ holds nodes tree (valuation_of environment extras)
 AnswersIn nodes tree None extras answer = IsTrue answer ↔ CanHold nodes tree extras
