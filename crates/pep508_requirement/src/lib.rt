@@ -2,6 +2,7 @@
 //! requirements that a URL alone names.
 #![tactic(auto)]
 
+mod evaluating;
 mod extras;
 pub mod laws;
 mod left;
