@@ -8,7 +8,7 @@ ghost use Rattle.pep508_evaluation.specs.Warned.{warned};
 use crate::{Requirement, UnnamedRequirement};
 use pep440_rs::Version;
 use pep508_environment::MarkerEnvironment;
-use pep508_evaluation::MarkerEvaluation;
+use pep508_evaluation::MarkerTreeEvaluation;
 use pep508_marker::MarkerWarningKind;
 use pep508_name::ExtraName;
 use pep508_tree::Interner;

@@ -10,7 +10,7 @@ pub use pep508_environment::{
     MarkerEnvironmentBuilder, StringVersion,
 };
 pub use pep508_error::{Pep508Error, Pep508ErrorSource};
-pub use pep508_evaluation::MarkerEvaluation;
+pub use pep508_evaluation::MarkerTreeEvaluation;
 pub use pep508_expression::MarkerTreeExpression;
 pub use pep508_marker::{
     ClosureReporter, ExtraOperator, MarkerExpression, MarkerOperator, MarkerTextError, MarkerValue,
