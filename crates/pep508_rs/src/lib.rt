@@ -27,3 +27,7 @@ pub use pep508_url::{
     Pep508Url, Scheme, UnnamedRequirementUrl, Vars, VerbatimUrl, VerbatimUrlError, expand_env_vars,
     normalize_absolute_path, normalize_url_path, split_extras, split_scheme, strip_host,
 };
+pub use pep508_view::{
+    ContainsMarkerTree, Edge, Edges, ExtraMarkerTree, InMarkerTree, MarkerExtra, MarkerTreeKind,
+    MarkerTreeView, StringMarkerTree, TextEdges, VersionMarkerTree,
+};
