@@ -43,7 +43,11 @@ fn text_at(question: &Value, place: usize) -> &str {
 }
 
 /// The extras whose names stand from a place on.
-fn extras_from(alloc: Global, question: &Value, first: usize) -> Result<Vec<ExtraName>, AllocError> {
+fn extras_from(
+    alloc: Global,
+    question: &Value,
+    first: usize,
+) -> Result<Vec<ExtraName>, AllocError> {
     let mut extras = Vec::new(alloc);
     let Some(texts) = question.as_array() else {
         return Ok(extras);

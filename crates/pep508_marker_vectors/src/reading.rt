@@ -65,7 +65,9 @@ pub fn name_of(tree: MarkerTree) -> &'static str {
 /// The print of a comparison, with the warnings of its reading; or its refusal.
 pub fn expression(alloc: Global, text: &str) -> Result<String, AllocError> {
     let mut told = Told::behind(alloc, String::new(alloc));
-    let read: Result<_, Pep508Error<VerbatimUrl>> = parse_expression_reporter(alloc, text, &mut told);
+    let read: Result<_, Pep508Error<VerbatimUrl>> = parse_expression_reporter(
+        alloc, text, &mut told,
+    );
     let said = match read {
         Ok(Some(expression)) => expression.to_string(alloc)?,
         Ok(None) => String::from_str(alloc, "left out")?,

@@ -50,7 +50,11 @@ fn subtree(tree: MarkerTree) -> &'static str {
     }
 }
 
-fn choices(alloc: Global, head: &String, children: [(bool, MarkerTree); 2]) -> Result<String, AllocError> {
+fn choices(
+    alloc: Global,
+    head: &String,
+    children: [(bool, MarkerTree); 2],
+) -> Result<String, AllocError> {
     let set = subtree(children[0].1);
     let unset = subtree(children[1].1);
     format!(in alloc; "{head}{{true {set}, false {unset}}}")
