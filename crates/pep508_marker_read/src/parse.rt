@@ -1,6 +1,9 @@
 //! Reading a text that is a marker.
 
 ghost use Rattle.std.specs.Prelude.{◌≡◌, chars};
+ghost use Rattle.serde_json.specs.View.{view};
+ghost use Rattle.serde_json.specs.Find.{as_str};
+ghost use Rattle.read_outcome.specs.Outcome.{ReadsText};
 ghost use Rattle.pep508_tree.specs.Tree.{Tree};
 ghost use Rattle.pep508_tree.specs.Meaning.{Extends};
 ghost use Rattle.pep508_marker_read.specs.MarkerReading.{marker_at};
@@ -11,6 +14,8 @@ use pep508_error::{Cursor, Pep508Error};
 use pep508_marker::{Reporter, Silent};
 use pep508_tree::{Interner, MarkerTree};
 use pep508_url::{Pep508Url, VerbatimUrl};
+use read_outcome::FromValueError;
+use serde_json::Value;
 use std::alloc::Global;
 
 /// What is read of the texts of markers.
@@ -55,6 +60,19 @@ pub trait MarkerTreeReading {
             interner.new.nodes text.now result (marker_at (chars text.now)) }
         ensures keeps { Extends interner.old.nodes interner.new.nodes }
         ensures counts { interner.new.conjunctions ≡ interner.old.conjunctions };
+
+    /// Reads the marker that a JSON text is, as `from_str` does. `Shape` where the value is no text.
+    fn from_value(
+        alloc: Global,
+        interner: &mut Interner,
+        value: &Value,
+    ) -> Result<Self, FromValueError<Pep508Error<VerbatimUrl>>>
+        ensures answered { (old : Silent) → ReadsText
+            (λ text read. ReadsMarkerText named ⟦<Silent as Reporter>⟧.takes old old interner.new.nodes
+            text read (marker_at (chars text)))
+            (as_str (view value.now)) result }
+        ensures keeps { Extends interner.old.nodes interner.new.nodes }
+        ensures counts { interner.new.conjunctions ≡ interner.old.conjunctions };
 }
 
 impl MarkerTreeReading for MarkerTree {
@@ -86,5 +104,19 @@ impl MarkerTreeReading for MarkerTree {
         text: &str,
     ) -> Result<MarkerTree, Pep508Error<VerbatimUrl>> {
         MarkerTree::parse_str(alloc, interner, text)
+    }
+
+    fn from_value(
+        alloc: Global,
+        interner: &mut Interner,
+        value: &Value,
+    ) -> Result<MarkerTree, FromValueError<Pep508Error<VerbatimUrl>>> {
+        let Some(text) = value.as_str() else {
+            return Err(FromValueError::Shape);
+        };
+        match MarkerTree::from_str(alloc, interner, text) {
+            Ok(tree) => Ok(tree),
+            Err(error) => Err(FromValueError::Text(error)),
+        }
     }
 }
