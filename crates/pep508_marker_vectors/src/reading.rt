@@ -7,7 +7,7 @@ use crate::told::Told;
 use pep508_error::{Cursor, Pep508Error, Pep508ErrorSource};
 use pep508_marker::Silent;
 use pep508_marker_comparison::parse_expression_reporter;
-use pep508_marker_read::read_marker;
+use pep508_marker_read::{MarkerTreeReading, read_marker};
 use pep508_tree::{Interner, MarkerTree};
 use pep508_url::VerbatimUrl;
 use std::alloc::{AllocError, Global};
@@ -41,14 +41,23 @@ pub fn refused(alloc: Global, error: &Pep508Error<VerbatimUrl>) -> Result<String
 pub fn marker(alloc: Global, text: &str) -> Result<String, AllocError> {
     let mut interner = Interner::new(alloc);
     let mut told = Told::behind(alloc, String::new(alloc));
-    match read_marker(alloc, &mut interner, Cursor::new(text), &mut told) {
+    match read_reporting(alloc, &mut interner, text, &mut told) {
         Ok(tree) => {
             let name = name_of(tree);
             let warnings = told.into_text();
             format!(in alloc; "{name}{warnings}")
         }
-        Err(refusal) => refused(alloc, &Pep508Error::of(alloc, refusal)),
+        Err(error) => refused(alloc, &error),
     }
+}
+
+fn read_reporting(
+    alloc: Global,
+    interner: &mut Interner,
+    text: &str,
+    told: &mut Told,
+) -> Result<MarkerTree, Pep508Error<VerbatimUrl>> {
+    MarkerTree::parse_reporter(alloc, interner, text, told)
 }
 
 /// A constant's name.
