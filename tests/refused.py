@@ -11,19 +11,22 @@ for itself. Where an input is refused and its text can't be made, the text of wa
 the refusal. The last run gives the answer with ample memory.
 
 The commands are `reqs check` on each example and on lists that are refused, its help, and the questions of
-crates/pep440_vectors and crates/pep508_vectors, one a run. The last line is `refused: N passed, M failed`, a command or a kind of question each.
+crates/pep440_vectors and crates/pep508_vectors and every eighth of crates/pep508_marker_vectors, one a run. The last line is `refused: N passed, M failed`, a command or a kind of question each.
 """
 
+import itertools
 import json
 import multiprocessing
 import os
+import shutil
 import subprocess
 import sys
 import tempfile
 
 TOP = os.path.dirname(os.path.dirname(os.path.abspath(__file__)))
 REQS = os.path.join(TOP, "crates", "reqs_cli", "out", "reqs_cli")
-VECTORS = ("pep440_vectors", "pep508_vectors")
+# Of the questions of each program every so many-th is asked: those on markers are many, and much alike.
+VECTORS = {"pep440_vectors": 1, "pep508_vectors": 1, "pep508_marker_vectors": 8}
 # Every request after the first that is refused.
 ALL = 2 ** 62
 # A command that asks more often than this doesn't end.
@@ -142,10 +145,10 @@ def commands(room):
 def tasks(library, room):
     for name, words, folder, wanted in commands(room):
         yield library, name, [REQS, *words], folder, wanted, None
-    for name in VECTORS:
-        for question, answer in questions(name):
+    for name, step in VECTORS.items():
+        for question, answer in itertools.islice(questions(name), 0, None, step):
             kind = f"questions of {json.loads(question)[0]}:"
-            yield library, kind, [program(name)], None, (0, answer, b""), question
+            yield library, kind, [program(name)], name, (0, answer, b""), question
 
 
 def questions(name):
@@ -166,6 +169,7 @@ def work(task):
     if question is None:
         return try_command(library, kind, words, folder, wanted)
     with tempfile.TemporaryDirectory(prefix="refused-") as room:
+        shutil.copytree(os.path.join(TOP, "crates", folder, "data"), room, dirs_exist_ok=True)
         with open(os.path.join(room, "vectors.jsonl"), "wb") as file:
             file.write(question + b"\n")
         tally = try_command(library, kind, words, room, wanted)

@@ -49,13 +49,13 @@ def main():
     here = os.path.dirname(os.path.abspath(__file__))
     with open(os.path.join(here, "runs.json"), encoding="utf-8") as file:
         stored = json.load(file)
-    failed = 0
-    for run in stored["runs"]:
+    failed, runs = 0, stored["runs"] + stored["worked"]
+    for run in runs:
         found = differences(program, run, stored["environment"])
         if found:
             failed += 1
             print(f"FAILED: stored run {run['name']}: {'; '.join(found)}")
-    print(f"runs: {len(stored['runs']) - failed} passed, {failed} failed")
+    print(f"runs: {len(runs) - failed} passed, {failed} failed")
     return 1 if failed else 0
 
 

@@ -3,10 +3,10 @@
 
     wrong.py [--texts | --gate] [CRATE..]
 
-A crate C has wrong edits in crates/C/must-fail/, which `rt ci` tries, and in tests/wrong/C/. Both
-kinds are tried in a copy of the tree, as many crates side by side as there are processors and memory;
-all crates where none is named. With --texts nothing is proved: it is only seen that each edit still
-fits the files that it changes.
+The wrong edits of a crate C stand in tests/wrong/C/; any in crates/C/must-fail/, which `rt ci` tries
+one by one, are taken with them. They are tried in a copy of the tree, as many crates side by side as
+there are processors and memory; all crates where none is named. With --texts nothing is proved: it is
+only seen that each edit still fits the files that it changes.
 
 Edits of different functions stand together in one `rt check`, which tells of each function by
 itself: an edit is refused where the very function that it changes is told as not proved. An edit
@@ -99,7 +99,7 @@ def below(crate, crates):
 
 
 def find_edits(crate):
-    """Finds the crate's edits of both kinds, and what is no edit."""
+    """Finds the crate's edits, and what is no edit."""
     for folder in (os.path.join(crate.folder, "must-fail"), os.path.join(TOP, "tests", "wrong", crate.name)):
         for name in sorted(os.listdir(folder)) if os.path.isdir(folder) else []:
             path = os.path.join(folder, name)

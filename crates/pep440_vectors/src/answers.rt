@@ -1,6 +1,6 @@
 //! The answers.
 
-use crate::{faults, sets};
+use crate::{calls, faults, lists, said, sets};
 use pep440_rs::{
     LocalSegment, RangeError, Version, VersionParseError, VersionSpecifier,
     VersionSpecifierParseError, VersionSpecifiers, VersionSpecifiersParseError,
@@ -8,7 +8,6 @@ use pep440_rs::{
 };
 use serde_json::Value;
 use std::alloc::{AllocError, Global};
-use std::cmp::Ordering;
 use std::fmt::Write;
 use version_ranges::Ranges;
 
@@ -38,7 +37,38 @@ pub fn answer(alloc: Global, question: &str) -> Result<String, AllocError> {
         "version fault" => faults::version_fault(alloc, first),
         "pattern" => faults::pattern(alloc, first),
         "list fault" => faults::list_fault(alloc, first),
-        _ => sets::answer(alloc, kind, first),
+        "set" | "release set" | "list set" | "release list set" | "end" => {
+            sets::answer(alloc, kind, first)
+        }
+        "want of memory"
+        | "operators"
+        | "operator"
+        | "specifiers"
+        | "specifier copy"
+        | "specifier parts"
+        | "specifier value"
+        | "specifiers of 1"
+        | "below"
+        | "up to"
+        | "included"
+        | "excluded"
+        | "unbounded" => { said::answer(alloc, kind, first, text_at(&question, 2)) }
+        "counted"
+        | "list of"
+        | "list of one"
+        | "list prints"
+        | "list value"
+        | "lists"
+        | "empty list"
+        | "list picture"
+        | "but from"
+        | "but up to"
+        | "around"
+        | "no intervals" => {
+            let (second, third) = (text_at(&question, 2), text_at(&question, 3));
+            lists::answer(alloc, kind, first, second, third)
+        }
+        _ => calls::answer(alloc, kind, first, text_at(&question, 2)),
     }
 }
 
@@ -48,7 +78,7 @@ fn text_at(question: &Value, place: usize) -> &str {
 }
 
 /// A version, none where the text isn't one.
-fn version(alloc: Global, text: &str) -> Result<Option<Version>, AllocError> {
+pub fn version(alloc: Global, text: &str) -> Result<Option<Version>, AllocError> {
     match Version::from_str(alloc, text) {
         Ok(version) => Ok(Some(version)),
         Err(VersionParseError::Memory) => Err(AllocError),
@@ -107,12 +137,7 @@ fn order(alloc: Global, left: &str, right: &str) -> Result<String, AllocError> {
     let (Some(left), Some(right)) = (version(alloc, left)?, version(alloc, right)?) else {
         return String::from_str(alloc, REFUSED);
     };
-    let sign = match left.cmp(&right) {
-        Ordering::Less => "<",
-        Ordering::Equal => "=",
-        Ordering::Greater => ">",
-    };
-    String::from_str(alloc, sign)
+    String::from_str(alloc, calls::sign(left.cmp(&right)))
 }
 
 fn specifier(alloc: Global, text: &str) -> Result<String, AllocError> {

@@ -4,7 +4,10 @@
 #![tactic(auto)]
 
 mod answers;
+mod calls;
 mod faults;
+mod lists;
+mod said;
 mod sets;
 
 use answers::answer;

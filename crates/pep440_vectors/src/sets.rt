@@ -49,7 +49,7 @@ fn told(alloc: Global, range: Result<Ranges<Version>, RangeError>) -> Result<Str
 }
 
 /// A specifier, none where the text isn't one.
-fn specifier(alloc: Global, text: &str) -> Result<Option<VersionSpecifier>, AllocError> {
+pub fn specifier(alloc: Global, text: &str) -> Result<Option<VersionSpecifier>, AllocError> {
     match VersionSpecifier::from_str(alloc, text) {
         Ok(specifier) => Ok(Some(specifier)),
         Err(VersionSpecifierParseError::Memory) => Err(AllocError),

@@ -1,5 +1,5 @@
 -- Trees that hold where something does.
-use Rattle.std.proofs.Common.{◌≡◌, ◌∙◌, Bool, true, false, not, List, Result, Ok, Err, IfOk, refl, ap, sym, subst}
+use Rattle.std.proofs.Common.{◌≡◌, ◌∙◌, Bool, true, false, not, List, Result, Ok, Err, IfOk, ap, sym, subst}
 use Rattle.version_ranges.specs.Turns.{flips}
 use Rattle.pep508_diagram.specs.Question.{Valuation}
 use Rattle.pep508_tree.specs.Tree.{Tree, negation}

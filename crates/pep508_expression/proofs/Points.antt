@@ -1,5 +1,5 @@
 -- The points of a comparison that has some.
-use Rattle.std.proofs.Common.{◌≡◌, Bool, refl, Option, Some, None}
+use Rattle.std.proofs.Common.{◌≡◌, refl, Option, Some, None}
 use Rattle.version_ranges.specs.Point.{Point}
 use Rattle.pep440_rs.specs.Record.{VersionRecord}
 use Rattle.pep440_rs.specs.Ranges.{PointTest, range_holds}

@@ -1,10 +1,10 @@
 -- When a comparison of a marker holds, under valuations of what markers ask for (PEP 508, "Environment Markers").
 use Rattle.std.specs.Prelude.{ℕ, Bool, true, false, not, List, Option, Some, None}
-use Rattle.std.specs.Option.{option_map, is_some}
+use Rattle.std.specs.Option.{is_some}
 use Rattle.std.specs.Ordering.{is_eq}
 use Rattle.std.specs.declared.ops.Bound.TheVariants.{Included, Excluded}
 use Rattle.version_ranges.specs.Bounds.{starts_by, goes_on_to}
-use Rattle.version_ranges.specs.Point.{Point, At, point_cmp}
+use Rattle.version_ranges.specs.Point.{At, point_cmp}
 use Rattle.pep440_rs.specs.Record.{VersionRecord}
 use Rattle.pep440_rs.specs.Matching.{SpecifierRecord}
 use Rattle.pep440_rs.specs.Ranges.{PointTest, release_range_of}

@@ -129,10 +129,5 @@ pub(crate) fn extra_tree(
     ensures counts { interner.new.conjunctions ≡ interner.old.conjunctions }
 {
     let flag = flag_of(alloc, name)?;
-    flag_tree(
-        alloc,
-        interner,
-        flag,
-        operator == ExtraOperator::NotEqual,
-    )
+    flag_tree(alloc, interner, flag, operator == ExtraOperator::NotEqual)
 }

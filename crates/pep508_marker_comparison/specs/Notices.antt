@@ -2,13 +2,12 @@
 use Rattle.pep508_marker.specs.declared.warnings.MarkerWarningKind.{MarkerWarningKind}
 use Rattle.pep508_marker.specs.declared.warnings.MarkerWarningKind.TheVariants.{ExtraInvalidComparison, LexicographicComparison, MarkerMarkerComparison, Pep440Error, StringStringComparison}
 use Rattle.pep508_marker_comparison.specs.declared.notice.Notice.{Notice}
-use Rattle.pep508_marker_comparison.specs.declared.notice.Notice.TheVariants.{Unquoted, Listed, Pattern, Single, Operator, Combination, Keys, Compatible, Extra, Name, Quoted}
+use Rattle.pep508_marker_comparison.specs.declared.notice.Notice.TheVariants.{Unquoted, Listed, Pattern, Operator, Combination, Keys, Compatible, Extra, Name, Quoted}
 
 abbrev pub kind_of : Notice → MarkerWarningKind
 kind_of (Unquoted key found) = Pep440Error
 kind_of (Listed key text fault) = Pep440Error
 kind_of (Pattern key text fault) = Pep440Error
-kind_of (Single key text fault) = Pep440Error
 kind_of (Operator key version operator) = Pep440Error
 kind_of (Combination fault) = Pep440Error
 kind_of Keys = MarkerMarkerComparison

@@ -79,13 +79,15 @@ pub record IsCompared {R : Type 0} (takes : R → Warning → R → Type 0) (old
 pub record IsNamed {R : Type 0} (takes : R → Warning → R → Type 0) (old new : R) (extra : MarkerValueExtra)
     (text : List ℕ) : Type 0 where
   pub extra_is : values.extra_of extra ≡ extra_of (name_of text) text
-  pub warned : IsWarned takes old new (warned_of_name (name_of text) (record { said = None; warned = [] })).warned
+  pub warned :
+      IsWarned takes old new (warned_of_name (name_of text) (record { said = None; warned = [] })).warned
 
 -- what was returned is the reading of a comparison
 abbrev pub ReadsComparison : {R : Type 0} → (R → Warning → R → Type 0) → R → R
     → Result (Option MarkerExpression × Cursor) Refusal → Reading Compared → Type 0
 ReadsComparison takes old new (Ok found) reading =
-    (compared : Compared) × (reading ≡ Ok (compared, behind found.1)) × IsCompared takes old new found.0 compared
+    (compared : Compared) × (reading ≡ Ok (compared, behind found.1))
+    × IsCompared takes old new found.0 compared
 ReadsComparison takes old new (Err refusal) reading = Tells refusal.kind reading
 
 -- what was returned is the reading of a comparison alone

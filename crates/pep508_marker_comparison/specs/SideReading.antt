@@ -10,8 +10,8 @@ use Rattle.pep508_marker.specs.Operators.{marker_operator_of}
 use Rattle.pep508_marker.specs.Values.{ValueRecord, Quoted, key_of_text}
 use Rattle.pep508_marker_comparison.specs.Compared.{Compared, compared}
 
--- why a text is no marker: by the grammar; since a number of a comparison can't be raised; since brackets nest
--- too deep
+-- why a text is no marker: by the grammar; since a number of a comparison can't be raised; since brackets
+-- nest too deep
 pub data Refused : Type 0 where
   Malformed : Refused
   AtEnd : Refused

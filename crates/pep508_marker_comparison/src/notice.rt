@@ -13,6 +13,11 @@ use pep508_name::InvalidNameError;
 use std::alloc::{AllocError, Global};
 use std::fmt;
 
+const KEYS: &str = "Comparing two markers with each other doesn't make any sense, will be ignored";
+
+const EXTRA: &str =
+    "Comparing extra with something other than a quoted string is wrong, will be ignored";
+
 /// A warning whose text is yet to be made. Prints as that text.
 #[derive(Clone, Copy)]
 pub(crate) enum Notice<'a> {
@@ -20,10 +25,8 @@ pub(crate) enum Notice<'a> {
     Unquoted(MarkerValueVersion, &'a MarkerValue),
     /// A run of the text behind `in` or `not in` is no version.
     Listed(MarkerValueVersion, &'a str, &'a VersionParseError),
-    /// The text behind a key is no version and no pattern of versions.
+    /// The text behind a key is no version and no pattern of versions, or that before one no version.
     Pattern(MarkerValueVersion, &'a str, &'a VersionPatternParseError),
-    /// The text before a key is no version.
-    Single(MarkerValueVersion, &'a str, &'a VersionParseError),
     /// The operator compares no versions.
     Operator(MarkerValueVersion, &'a Version, MarkerOperator),
     /// The operator and the version make no specifier.
@@ -73,10 +76,6 @@ impl fmt::Display for Notice<'_> {
                 write!(f, "Expected PEP 440 version to compare with {key}, found ")?;
                 write!(f, "{text}, will be ignored: {fault}")
             }
-            Notice::Single(key, text, fault) => {
-                write!(f, "Expected PEP 440 version to compare with {key}, found ")?;
-                write!(f, "{text}, will be ignored: {fault}")
-            }
             Notice::Operator(key, version, operator) => {
                 write!(
                     f,
@@ -88,15 +87,9 @@ impl fmt::Display for Notice<'_> {
                 f,
                 "Invalid operator/version combination: {fault}"
             ),
-            Notice::Keys => write!(
-                f,
-                "Comparing two markers with each other doesn't make any sense, will be ignored"
-            ),
+            Notice::Keys => write!(f, "{}", KEYS),
             Notice::Compatible => write!(f, "Can't compare strings with `~=`, will be ignored"),
-            Notice::Extra => write!(
-                f,
-                "Comparing extra with something other than a quoted string is wrong, will be ignored"
-            ),
+            Notice::Extra => write!(f, "{}", EXTRA),
             Notice::Name(text, fault) => write!(f, "Expected extra name (found `{text}`): {fault}"),
             Notice::Quoted(left, operator, right) => {
                 write!(

@@ -7,7 +7,7 @@ ghost use Rattle.pep508_marker_comparison.specs.Outcome.{IsCompared};
 
 use crate::notice::{Notice, leave_out, warn};
 use crate::versions::{read_pattern, read_version, read_versions};
-use pep440_rs::{Version, VersionSpecifier, VersionSpecifierBuildError};
+use pep440_rs::{VersionPatternParseError, VersionSpecifier, VersionSpecifierBuildError};
 use pep508_marker::{MarkerExpression, MarkerOperator, MarkerValueVersion, Reporter};
 use std::alloc::{AllocError, Global};
 
@@ -106,7 +106,10 @@ pub(crate) fn compare_turned<R: Reporter>(
 {
     let version = match read_version(alloc, text)? {
         Ok(version) => version,
-        Err(error) => return leave_out(alloc, reporter, Notice::Single(key, text, &error)),
+        Err(error) => {
+            let error = VersionPatternParseError::Version(error);
+            return leave_out(alloc, reporter, Notice::Pattern(key, text, &error));
+        }
     };
     match operator.to_pep440_operator() {
         Some(sign) => say(

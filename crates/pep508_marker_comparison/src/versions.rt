@@ -24,7 +24,7 @@ pub(crate) fn read_version(
 }
 
 /// The pattern that a text is, or why it is none.
-#[tactic(auto, unfolding(pep440_text::specs::Reading::pattern_of, pep440_version::specs::VersionReading::pattern_reading))]
+#[tactic(auto, using(pep440_version::proofs::Found::reads_found))]
 pub(crate) fn read_pattern(
     alloc: Global,
     text: &str,
@@ -37,8 +37,8 @@ pub(crate) fn read_pattern(
     }
 }
 
-/// The versions that the runs of a text between white space are, in their order, or why the first of them that
-/// is no version is none. A text without runs has none.
+/// The versions that the runs of a text between white space are, in their order, or why the first of them
+/// that is no version is none. A text without runs has none.
 ///
 /// Linear in the text.
 pub(crate) fn read_versions(

@@ -1,3 +1,7 @@
 pub mod Refusing
 pub mod RefusedExtras
 pub mod RefusingUnnamed
+pub mod Behind
+pub mod Requirements
+pub mod UnnamedRequirements
+pub mod Markers

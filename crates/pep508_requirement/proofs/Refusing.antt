@@ -11,6 +11,9 @@ use Rattle.pep508_error.specs.declared.error.Pep508Error.{Pep508Error}
 use Rattle.pep508_error.specs.declared.error.Pep508ErrorSource.{Pep508ErrorSource}
 use Rattle.pep508_error.specs.declared.error.Pep508ErrorSource.TheVariants as sources
 use Rattle.pep508_error.specs.Errors.{Fault, told_by, said_by, told_error, told_refusal}
+use Rattle.pep508_marker_read.specs.MarkerReading.{Marker}
+use Rattle.pep508_marker_read.specs.SideReading as marker_reading
+use Rattle.pep508_marker_read.specs.Outcome as marker_outcome
 use Rattle.pep508_requirement_text.specs.FrontReading.{Front, Refused, front_reading}
 use Rattle.pep508_requirement_text.specs.FrontReading as reading
 use Rattle.pep508_requirement_text.specs.FrontOutcome.{Tells}
@@ -20,8 +23,10 @@ use Rattle.pep508_requirement_text.specs.declared.source.Source.TheVariants as r
 use Rattle.pep508_requirement_text.specs.declared.source.UrlPiece.{UrlPiece}
 use Rattle.pep508_requirement.specs.declared.version_or_url.VersionOrUrl.{VersionOrUrl}
 use Rattle.pep508_requirement.specs.declared.version_or_url.VersionOrUrl.TheVariants as asked
-use Rattle.pep508_requirement.specs.Pieces.{UrlRefusedBy, ReadsAsked, LeftRefusedBy}
-use Rattle.pep508_requirement.specs.RequirementReading.{AsksFor, IsReadUpTo, IsFrontRefused, RefusedBy, IsRefused}
+use Rattle.pep508_requirement.specs.MarkerBehind.{marker_behind}
+use Rattle.pep508_requirement.specs.Pieces.{UrlRefusedBy, ReadsAsked}
+use Rattle.pep508_requirement.specs.RequirementReading.{AsksFor, IsReadUpTo, IsFrontRefused, IsMarkerRefused}
+use Rattle.pep508_requirement.specs.RequirementReading.{RefusedBy, IsRefused}
 
 -- ---- errors made of refusals
 
@@ -111,13 +116,13 @@ module _ {T E : Type 0} (Reads : List ℕ → Result T E → Type 0) (lacks : E 
   front_cause sources.Memory kind said h = tt
   front_cause (sources.UrlError error) kind said h = absurd said
   front_cause sources.NumberAtEnd kind said h =
-      no_number (front_reading text) (subst (λ k. Tells vars k (front_reading text)) said h)
+      absurd (no_number (front_reading text) (subst (λ k. Tells vars k (front_reading text)) said h))
   front_cause (sources.String message) kind said h =
       inl (front_refused vars text (kinds.String message) (front_reading text) refl (λ e. cc)
       (subst (λ k. Tells vars k (front_reading text)) said h))
   front_cause (sources.UnsupportedRequirement message) kind said h =
-      inl (front_refused vars text (kinds.UnsupportedRequirement message) (front_reading text) refl (λ e. cc)
-      (subst (λ k. Tells vars k (front_reading text)) said h))
+      front_refused vars text (kinds.UnsupportedRequirement message) (front_reading text) refl (λ e. cc)
+      (subst (λ k. Tells vars k (front_reading text)) said h)
 
   -- the front is refused
   pub front_error : (error : Pep508Error T E) (refusal : Refusal)
@@ -132,32 +137,41 @@ module _ {T E : Type 0} (Reads : List ℕ → Result T E → Type 0) (lacks : E 
         said_input T E (told_error error) refusal.kind refusal.input.now text refusal.start refusal.len of told;
   }
 
-  left_cause : (source : Pep508ErrorSource T E) (kind : RefusalKind) (front : Front)
-      (what : Option (VersionOrUrl T E)) (left : List ℕ) → Says source kind
-      → IsReadUpTo Reads text front what left → LeftRefusedBy left kind → RefusedBy Reads lacks vars text source
-  left_cause sources.Memory kind front what left said whole h = tt
-  left_cause (sources.UrlError error) kind front what left said whole h = absurd said
-  left_cause sources.NumberAtEnd kind front what left said whole h = subst (LeftRefusedBy left) said h
-  left_cause (sources.String message) kind front what left said whole h =
-      let at = subst (LeftRefusedBy left) said h in
-      inr (record {
-        front = front;
-        what = what;
-        first = at.0;
-        left = at.1;
-        read = subst (IsReadUpTo Reads text front what) at.2 whole;
-        is = at.3;
-      })
-  left_cause (sources.UnsupportedRequirement message) kind front what left said whole h =
-      let at = subst (LeftRefusedBy left) said h in
-      inr (record {
-        front = front;
-        what = what;
-        first = 59;
-        left = at.0;
-        read = subst (IsReadUpTo Reads text front what) at.1 whole;
-        is = refl;
-      })
+  -- the marker is refused
+  marker_refused : (kind : RefusalKind) (front : Front) (what : Option (VersionOrUrl T E)) (left : List ℕ)
+      (outcome : Result Marker marker_reading.Refused) → IsReadUpTo Reads text front what left
+      → marker_behind left ≡ outcome → (kind ≡ kinds.Memory → ⊥) → marker_outcome.Tells kind outcome
+      → IsMarkerRefused Reads text kind
+  marker_refused kind front what left (Ok marker) whole e other h = absurd (other h)
+  marker_refused kind front what left (Err refused) whole e other h = record {
+    front = front;
+    what = what;
+    left = left;
+    refused = refused;
+    read = whole;
+    is_marker = e;
+    fits = h;
+  }
+
+  unsupported_never : (message : _) (outcome : Result Marker marker_reading.Refused)
+      → marker_outcome.Tells (kinds.UnsupportedRequirement message) outcome → ⊥
+  unsupported_never message (Ok marker) h = cc
+  unsupported_never message (Err refused) h = h
+
+  marker_cause : (source : Pep508ErrorSource T E) (kind : RefusalKind) (front : Front)
+      (what : Option (VersionOrUrl T E)) (left : List ℕ) → Says source kind → IsReadUpTo Reads text front what left
+      → marker_outcome.Tells kind (marker_behind left) → RefusedBy Reads lacks vars text source
+  marker_cause sources.Memory kind front what left said whole h = tt
+  marker_cause (sources.UrlError error) kind front what left said whole h = absurd said
+  marker_cause sources.NumberAtEnd kind front what left said whole h =
+      marker_refused kinds.NumberAtEnd front what left (marker_behind left) whole refl (λ e. cc)
+      (subst (λ k. marker_outcome.Tells k (marker_behind left)) said h)
+  marker_cause (sources.String message) kind front what left said whole h =
+      inr (marker_refused (kinds.String message) front what left (marker_behind left) whole refl (λ e. cc)
+      (subst (λ k. marker_outcome.Tells k (marker_behind left)) said h))
+  marker_cause (sources.UnsupportedRequirement message) kind front what left said whole h =
+      absurd (unsupported_never message (marker_behind left)
+      (subst (λ k. marker_outcome.Tells k (marker_behind left)) said h))
 
   -- ---- what is asked for
 
@@ -205,19 +219,28 @@ module _ {T E : Type 0} (Reads : List ℕ → Result T E → Type 0) (lacks : E 
     input = moved T E (told_error error) piece.start.input.now text (in_it ∙ at) h.input;
   }
 
-  -- something is left behind the front
-  pub left_error : (error : Pep508Error T E) (refusal : Refusal) (source : Source) (front : Front)
+  -- what was read of front and URL
+  pub read_up_to : (source : Source) (front : Front) (what : Option (VersionOrUrl T E)) (rest : List ℕ)
+      → front_reading text ≡ Ok (front, rest) → IsSource source front.source
+      → ReadsAsked Reads lacks source (Ok what)
+      → IsReadUpTo Reads text front what (skip_leading_whitespace rest)
+  read_up_to source front what rest e s wanted =
+      record { rest = rest; reading = e; asks = asks source front.source what s wanted; behind = refl }
+
+  -- the marker behind the front is refused
+  pub marker_error : (error : Pep508Error T E) (refusal : Refusal) (source : Source) (front : Front)
       (what : Option (VersionOrUrl T E)) (rest : List ℕ)
       → IfSome (told_error error) (λ fault. told_refusal refusal ≡ Some fault)
       → ((refusal.kind ≡ kinds.Memory → ⊥) → refusal.input.now ≡ text)
       → front_reading text ≡ Ok (front, rest) → IsSource source front.source
-      → ReadsAsked Reads lacks source (Ok what) → LeftRefusedBy (skip_leading_whitespace rest) refusal.kind
+      → ReadsAsked Reads lacks source (Ok what)
+      → marker_outcome.Tells refusal.kind (marker_behind (skip_leading_whitespace rest))
       → IsRefused Reads lacks vars text error
-  left_error error refusal source front what rest told of e s wanted h = record {
+  marker_error error refusal source front what rest told of e s wanted h = record {
     cause =
-        left_cause error.message refusal.kind front what (skip_leading_whitespace rest)
+        marker_cause error.message refusal.kind front what (skip_leading_whitespace rest)
         (says T E error.message error.excerpt refusal.kind refusal.input.now refusal.start refusal.len told)
-        (record { rest = rest; reading = e; asks = asks source front.source what s wanted; behind = refl }) h;
+        (read_up_to source front what rest e s wanted) h;
     input =
         said_input T E (told_error error) refusal.kind refusal.input.now text refusal.start refusal.len of told;
   }

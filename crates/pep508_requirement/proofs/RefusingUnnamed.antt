@@ -9,11 +9,16 @@ use Rattle.pep508_error.specs.declared.error.Pep508Error.{Pep508Error}
 use Rattle.pep508_error.specs.declared.error.Pep508ErrorSource.{Pep508ErrorSource}
 use Rattle.pep508_error.specs.declared.error.Pep508ErrorSource.TheVariants as sources
 use Rattle.pep508_error.specs.Errors.{Fault, fault_at, told_by, told_error, told_refusal}
+use Rattle.pep508_marker_read.specs.MarkerReading.{Marker}
+use Rattle.pep508_marker_read.specs.SideReading as marker_reading
+use Rattle.pep508_marker_read.specs.Outcome as marker_outcome
 use Rattle.pep508_requirement_text.specs.FrontReading.Refused.{Malformed}
 use Rattle.pep508_requirement_text.specs.FrontOutcome.{IsPlain}
 use Rattle.pep508_requirement_text.specs.UnnamedReading.{UnnamedFront, IsUnnamedReading}
-use Rattle.pep508_requirement.specs.Pieces.{UrlRefusedBy, IsUrlError, LeftRefusedBy}
-use Rattle.pep508_requirement.specs.UnnamedRequirementReading.{UnnamedRefusedBy, IsUnnamedRefused}
+use Rattle.pep508_requirement.specs.MarkerBehind.{marker_behind}
+use Rattle.pep508_requirement.specs.Pieces.{UrlRefusedBy, IsUrlError}
+use Rattle.pep508_requirement.specs.UnnamedRequirementReading.{IsUnnamedMarkerRefused, UnnamedRefusedBy}
+use Rattle.pep508_requirement.specs.UnnamedRequirementReading.{IsUnnamedRefused}
 use Rattle.pep508_requirement.proofs.Refusing.{Says, says, said_input, moved, source_in, input_in}
 
 -- ---- errors of URLs
@@ -77,7 +82,7 @@ module _ {T E : Type 0} (Reads : List ℕ → Result T E → Type 0) (lacks : E 
       → (kind ≡ kinds.Memory) ⊎ IsUnnamedReading text (Err Malformed) → UnnamedRefusedBy Reads lacks text source
   front_cause sources.Memory kind said plain h = tt
   front_cause (sources.UrlError error) kind said plain h = absurd said
-  front_cause sources.NumberAtEnd kind said plain h = subst IsPlain said plain
+  front_cause sources.NumberAtEnd kind said plain h = absurd (subst IsPlain said plain)
   front_cause (sources.UnsupportedRequirement message) kind said plain h = absurd (subst IsPlain said plain)
   front_cause (sources.String message) kind said plain h =
       ⊎_elim (λ (e : kind ≡ kinds.Memory). cc)
@@ -113,47 +118,51 @@ module _ {T E : Type 0} (Reads : List ℕ → Result T E → Type 0) (lacks : E 
       input = moved T E (told_error error) whole text at h.input;
     }
 
-    left_cause : (source : Pep508ErrorSource T E) (kind : RefusalKind) (read : T) → Reads front.url (Ok read)
-        → Says source kind → LeftRefusedBy (skip_leading_whitespace rest) kind
-        → UnnamedRefusedBy Reads lacks text source
-    left_cause sources.Memory kind read url said h = tt
-    left_cause (sources.UrlError error) kind read url said h = absurd said
-    left_cause sources.NumberAtEnd kind read url said h = subst (LeftRefusedBy (skip_leading_whitespace rest)) said h
-    left_cause (sources.String message) kind read url said h =
-        let at = subst (LeftRefusedBy (skip_leading_whitespace rest)) said h in
-        inr (record {
-          front = front;
-          rest = rest;
-          reading = reading;
-          read = read;
-          url = url;
-          first = at.0;
-          left = at.1;
-          behind = at.2;
-          is = at.3;
-        })
-    left_cause (sources.UnsupportedRequirement message) kind read url said h =
-        let at = subst (LeftRefusedBy (skip_leading_whitespace rest)) said h in
-        record {
-          front = front;
-          rest = rest;
-          reading = reading;
-          read = read;
-          url = url;
-          first = 59;
-          left = at.0;
-          behind = at.1;
-          is = refl;
-        }
+    module _ (read : T) (url : Reads front.url (Ok read)) where
+      marker_refused : (kind : RefusalKind) (outcome : Result Marker marker_reading.Refused)
+          → marker_behind (skip_leading_whitespace rest) ≡ outcome → (kind ≡ kinds.Memory → ⊥)
+          → marker_outcome.Tells kind outcome → IsUnnamedMarkerRefused Reads text kind
+      marker_refused kind (Ok marker) e other h = absurd (other h)
+      marker_refused kind (Err refused) e other h = record {
+        front = front;
+        rest = rest;
+        read = read;
+        refused = refused;
+        reading = reading;
+        url = url;
+        is_marker = e;
+        fits = h;
+      }
 
-    -- something is left behind the URL
-    pub unnamed_left_error : (error : Pep508Error T E) (refusal : Refusal) (read : T) → Reads front.url (Ok read)
+      unsupported_never : (message : _) (outcome : Result Marker marker_reading.Refused)
+          → marker_outcome.Tells (kinds.UnsupportedRequirement message) outcome → ⊥
+      unsupported_never message (Ok marker) h = cc
+      unsupported_never message (Err refused) h = h
+
+      marker_cause : (source : Pep508ErrorSource T E) (kind : RefusalKind) → Says source kind
+          → marker_outcome.Tells kind (marker_behind (skip_leading_whitespace rest))
+          → UnnamedRefusedBy Reads lacks text source
+      marker_cause sources.Memory kind said h = tt
+      marker_cause (sources.UrlError error) kind said h = absurd said
+      marker_cause sources.NumberAtEnd kind said h =
+          marker_refused kinds.NumberAtEnd (marker_behind (skip_leading_whitespace rest)) refl (λ e. cc)
+          (subst (λ k. marker_outcome.Tells k (marker_behind (skip_leading_whitespace rest))) said h)
+      marker_cause (sources.String message) kind said h =
+          inr (marker_refused (kinds.String message) (marker_behind (skip_leading_whitespace rest)) refl (λ e. cc)
+          (subst (λ k. marker_outcome.Tells k (marker_behind (skip_leading_whitespace rest))) said h))
+      marker_cause (sources.UnsupportedRequirement message) kind said h =
+          unsupported_never message (marker_behind (skip_leading_whitespace rest))
+          (subst (λ k. marker_outcome.Tells k (marker_behind (skip_leading_whitespace rest))) said h)
+
+    -- the marker behind the URL is refused
+    pub unnamed_marker_error : (error : Pep508Error T E) (refusal : Refusal) (read : T) → Reads front.url (Ok read)
         → IfSome (told_error error) (λ fault. told_refusal refusal ≡ Some fault)
         → ((refusal.kind ≡ kinds.Memory → ⊥) → refusal.input.now ≡ text)
-        → LeftRefusedBy (skip_leading_whitespace rest) refusal.kind → IsUnnamedRefused Reads lacks text error
-    unnamed_left_error error refusal read url told of h = record {
+        → marker_outcome.Tells refusal.kind (marker_behind (skip_leading_whitespace rest))
+        → IsUnnamedRefused Reads lacks text error
+    unnamed_marker_error error refusal read url told of h = record {
       cause =
-          left_cause error.message refusal.kind read url
+          marker_cause read url error.message refusal.kind
           (says T E error.message error.excerpt refusal.kind refusal.input.now refusal.start refusal.len told) h;
       input =
           said_input T E (told_error error) refusal.kind refusal.input.now text refusal.start refusal.len of told;

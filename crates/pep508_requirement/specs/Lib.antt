@@ -1,7 +1,9 @@
 pub mod Asked
 pub mod Requirements
+pub mod MarkerBehind
 pub mod RequirementReading
 pub mod Pieces
 pub mod ExtrasReading
 pub mod UnnamedUrls
 pub mod UnnamedRequirementReading
+pub mod RequirementText

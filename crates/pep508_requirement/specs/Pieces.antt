@@ -1,7 +1,5 @@
--- What the steps of reading answer: the URL of a front, and what is left behind one.
-use Rattle.std.specs.Prelude.{◌≡◌, ◌≢◌, ℕ, Bool, false, List, ◌∷◌, Option, Some, None, Result, Ok, Err, IfSome}
-use Rattle.pep508_error.specs.declared.refusal.RefusalKind.{RefusalKind}
-use Rattle.pep508_error.specs.declared.refusal.RefusalKind.TheVariants as kinds
+-- What the steps of reading answer: the URL of a front.
+use Rattle.std.specs.Prelude.{◌≡◌, ℕ, Bool, false, List, Option, Some, None, Result, Ok, Err, IfSome}
 use Rattle.pep508_error.specs.declared.error.Pep508Error.{Pep508Error}
 use Rattle.pep508_error.specs.declared.error.Pep508ErrorSource.{Pep508ErrorSource}
 use Rattle.pep508_error.specs.declared.error.Pep508ErrorSource.TheVariants as sources
@@ -41,17 +39,3 @@ ReadsAsked Reads lacks (read.Url piece) (Ok (Some (asked.VersionSpecifier list))
 ReadsAsked Reads lacks (read.Url piece) (Ok (Some (asked.Url url))) = Reads piece.text.now (Ok url)
 ReadsAsked Reads lacks (read.Url piece) (Err error) =
     IsUrlError Reads lacks piece.text.now piece.start.input.now error
-
--- characters that are left are refused so: a `;` begins a marker, which is not read yet
-abbrev pub LeftRefusedBy : List ℕ → RefusalKind → Type 0
-LeftRefusedBy left kinds.Memory = Unit {0}
-LeftRefusedBy left (kinds.UnsupportedRequirement message) = (more : List ℕ) × (left ≡ 59 ∷ more)
-LeftRefusedBy left (kinds.String message) = (c : ℕ) × (more : List ℕ) × (left ≡ c ∷ more) × (c ≢ 59)
-LeftRefusedBy left kinds.NumberAtEnd = ⊥
-
--- a marker is refused so, or memory ran out
-abbrev pub IsMarkerRefusal : RefusalKind → Type 0
-IsMarkerRefusal kinds.Memory = Unit {0}
-IsMarkerRefusal (kinds.UnsupportedRequirement message) = Unit {0}
-IsMarkerRefusal (kinds.String message) = ⊥
-IsMarkerRefusal kinds.NumberAtEnd = ⊥

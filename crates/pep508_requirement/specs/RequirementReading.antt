@@ -1,19 +1,24 @@
--- What reading a requirement's text answers, by its front and by what is left behind it. `Reads` says what
+-- What reading a requirement's text answers, by its front and by the marker behind it. `Reads` says what
 -- may be returned for the text of a URL: it is the type of URLs that knows.
-use Rattle.std.specs.Prelude.{◌≡◌, ◌≢◌, ◌⊎◌, ℕ, Bool, false, List, [], ◌∷◌, Option, Some, None, Result, Ok, Err, IfSome}
+use Rattle.std.specs.Prelude.{◌≡◌, ◌⊎◌, ℕ, Bool, false, List, Option, Some, None, Result, Ok, Err, IfSome}
 use Rattle.std.specs.Str.{skip_leading_whitespace}
 use Rattle.pep440_rs.specs.Lists.{IsInOrder}
 use Rattle.pep508_url.specs.Vars.{Variables}
-use Rattle.pep508_tree.specs.Tree.{always}
+use Rattle.pep508_tree.specs.Meaning.{NodeRecord}
 use Rattle.pep508_error.specs.declared.refusal.RefusalKind.{RefusalKind}
 use Rattle.pep508_error.specs.declared.refusal.RefusalKind.TheVariants as kinds
 use Rattle.pep508_error.specs.declared.error.Pep508Error.{Pep508Error}
 use Rattle.pep508_error.specs.declared.error.Pep508ErrorSource.{Pep508ErrorSource}
 use Rattle.pep508_error.specs.declared.error.Pep508ErrorSource.TheVariants as sources
 use Rattle.pep508_error.specs.Errors.{told_error}
+use Rattle.pep508_marker_read.specs.MarkerReading.{Marker}
+use Rattle.pep508_marker_read.specs.SideReading as marker_reading
+use Rattle.pep508_marker_read.specs.MarkerOutcome.{IsTreeOf}
+use Rattle.pep508_marker_read.specs.Outcome as outcome
 use Rattle.pep508_requirement_text.specs.FrontReading.{Source, Front, Refused, front_reading}
 use Rattle.pep508_requirement_text.specs.FrontReading.Source.{Any, Specifiers, Url}
 use Rattle.pep508_requirement_text.specs.FrontOutcome.{Fits}
+use Rattle.pep508_requirement.specs.MarkerBehind.{marker_behind}
 use Rattle.pep508_requirement.specs.declared.requirement.Requirement.{Requirement}
 use Rattle.pep508_requirement.specs.declared.version_or_url.VersionOrUrl.{VersionOrUrl}
 use Rattle.pep508_requirement.specs.declared.version_or_url.VersionOrUrl.TheVariants as asked
@@ -37,15 +42,18 @@ pub record IsReadUpTo {T E : Type 0} (Reads : List ℕ → Result T E → Type 0
   pub asks : AsksFor Reads front.source what
   pub behind : skip_leading_whitespace rest ≡ left
 
--- the text is read as this requirement, and nothing is left: it holds always, and comes from no place that
+-- the text is read as this requirement, whose marker is a tree of these nodes; it comes from no place that
 -- was told
-pub record IsRead {T E : Type 0} (Reads : List ℕ → Result T E → Type 0) (text : List ℕ) (r : Requirement T E)
-    : Type 0 where
+pub record IsRead {T E : Type 0} (Reads : List ℕ → Result T E → Type 0) (nodes : List NodeRecord)
+    (text : List ℕ) (r : Requirement T E) : Type 0 where
   pub front : Front
-  pub whole : IsReadUpTo Reads text front r.version_or_url []
+  pub left : List ℕ
+  pub marker : Marker
+  pub whole : IsReadUpTo Reads text front r.version_or_url left
   pub name : r.name ≡ front.name
   pub extras : r.extras.items ≡ front.extras
-  pub marker : r.marker ≡ always
+  pub is_marker : marker_behind left ≡ Ok marker
+  pub tree : IsTreeOf nodes r.marker marker.formula
   pub origin : r.origin ≡ None
 
 -- the front of the text is refused, for a reason that this kind of refusal tells
@@ -65,26 +73,27 @@ pub record IsUrlRefused {T E : Type 0} (Reads : List ℕ → Result T E → Type
   pub reads : Reads url (Err error)
   pub told : lacks error ≡ false
 
--- behind the front and white space such a character stands
-pub record IsFollowed {T E : Type 0} (Reads : List ℕ → Result T E → Type 0) (text : List ℕ) (Is : ℕ → Type 0)
-    : Type 0 where
+-- front and URL are read, and the marker behind them is refused, for a reason that this kind of refusal tells
+pub record IsMarkerRefused {T E : Type 0} (Reads : List ℕ → Result T E → Type 0) (text : List ℕ)
+    (kind : RefusalKind) : Type 0 where
   pub front : Front
   pub what : Option (VersionOrUrl T E)
-  pub first : ℕ
   pub left : List ℕ
-  pub read : IsReadUpTo Reads text front what (first ∷ left)
-  pub is : Is first
+  pub refused : marker_reading.Refused
+  pub read : IsReadUpTo Reads text front what left
+  pub is_marker : marker_behind left ≡ Err refused
+  pub fits : outcome.Fits kind refused
 
--- Why a text is refused, by what its error says. A `;` begins a marker, which is not read yet.
+-- why a text is refused, by what its error says
 abbrev pub RefusedBy : {T E : Type 0} → (List ℕ → Result T E → Type 0) → (E → Bool) → Variables → List ℕ
     → Pep508ErrorSource T E → Type 0
 RefusedBy Reads lacks vars text sources.Memory = Unit {0}
-RefusedBy Reads lacks vars text sources.NumberAtEnd = ⊥
+RefusedBy Reads lacks vars text sources.NumberAtEnd = IsMarkerRefused Reads text kinds.NumberAtEnd
 RefusedBy Reads lacks vars text (sources.UrlError error) = IsUrlRefused Reads lacks text error
 RefusedBy Reads lacks vars text (sources.UnsupportedRequirement message) =
-    IsFrontRefused vars text (kinds.UnsupportedRequirement message) ⊎ IsFollowed Reads text (λ c. c ≡ 59)
+    IsFrontRefused vars text (kinds.UnsupportedRequirement message)
 RefusedBy Reads lacks vars text (sources.String message) =
-    IsFrontRefused vars text (kinds.String message) ⊎ IsFollowed Reads text (λ c. c ≢ 59)
+    IsFrontRefused vars text (kinds.String message) ⊎ IsMarkerRefused Reads text (kinds.String message)
 
 -- the text is refused with this error, which shows it, or memory ran out
 pub record IsRefused {T E : Type 0} (Reads : List ℕ → Result T E → Type 0) (lacks : E → Bool)
@@ -92,8 +101,8 @@ pub record IsRefused {T E : Type 0} (Reads : List ℕ → Result T E → Type 0)
   pub cause : RefusedBy Reads lacks vars text error.message
   pub input : IfSome (told_error error) (λ fault. fault.input ≡ text)
 
--- what reading the text answers
+-- what reading the text answers, with these nodes afterwards
 abbrev pub ReadsRequirement : {T E : Type 0} → (List ℕ → Result T E → Type 0) → (E → Bool) → Variables
-    → List ℕ → Result (Requirement T E) (Pep508Error T E) → Type 0
-ReadsRequirement Reads lacks vars text (Ok r) = IsRead Reads text r
-ReadsRequirement Reads lacks vars text (Err error) = IsRefused Reads lacks vars text error
+    → List NodeRecord → List ℕ → Result (Requirement T E) (Pep508Error T E) → Type 0
+ReadsRequirement Reads lacks vars nodes text (Ok r) = IsRead Reads nodes text r
+ReadsRequirement Reads lacks vars nodes text (Err error) = IsRefused Reads lacks vars text error

@@ -1,16 +1,23 @@
--- What reading a requirement without a name answers, by its URL and extras and by what is left behind them.
+-- What reading a requirement without a name answers, by its URL and extras and by the marker behind them.
 -- `Reads` says what may be returned for the text of a URL without its extras.
-use Rattle.std.specs.Prelude.{◌≡◌, ◌≢◌, ◌⊎◌, ℕ, Bool, false, List, [], ◌∷◌, None, Result, Ok, Err, IfSome}
+use Rattle.std.specs.Prelude.{◌≡◌, ◌⊎◌, ℕ, Bool, false, List, None, Result, Ok, Err, IfSome}
 use Rattle.std.specs.Str.{skip_leading_whitespace}
 use Rattle.pep508_url.specs.Vars.{Variables}
 use Rattle.pep508_url.specs.Expansion.{expanded}
-use Rattle.pep508_tree.specs.Tree.{always}
+use Rattle.pep508_tree.specs.Meaning.{NodeRecord}
+use Rattle.pep508_error.specs.declared.refusal.RefusalKind.{RefusalKind}
+use Rattle.pep508_error.specs.declared.refusal.RefusalKind.TheVariants as kinds
 use Rattle.pep508_error.specs.declared.error.Pep508Error.{Pep508Error}
 use Rattle.pep508_error.specs.declared.error.Pep508ErrorSource.{Pep508ErrorSource}
 use Rattle.pep508_error.specs.declared.error.Pep508ErrorSource.TheVariants as sources
 use Rattle.pep508_error.specs.Errors.{told_error}
+use Rattle.pep508_marker_read.specs.MarkerReading.{Marker}
+use Rattle.pep508_marker_read.specs.SideReading as marker_reading
+use Rattle.pep508_marker_read.specs.Outcome.{Fits}
+use Rattle.pep508_marker_read.specs.MarkerOutcome.{IsTreeOf}
 use Rattle.pep508_requirement_text.specs.FrontReading.Refused.{Malformed}
 use Rattle.pep508_requirement_text.specs.UnnamedReading.{UnnamedFront, IsUnnamedReading}
+use Rattle.pep508_requirement.specs.MarkerBehind.{marker_behind}
 use Rattle.pep508_requirement.specs.declared.unnamed.UnnamedRequirement.{UnnamedRequirement}
 
 -- what may be returned for a text: the URL that is read of it, its variables' values put in, given as the
@@ -21,17 +28,18 @@ ReadsGiven {T} {E} Reads IsGiven vars text (Ok url) =
     (read : T) × Reads (expanded vars text) (Ok read) × IsGiven read text url
 ReadsGiven Reads IsGiven vars text (Err error) = Reads (expanded vars text) (Err error)
 
--- the text is read as this requirement, and nothing is left: it holds always, and comes from no place that
+-- the text is read as this requirement, whose marker is a tree of these nodes; it comes from no place that
 -- was told
-pub record IsUnnamedRead {T E : Type 0} (Reads : List ℕ → Result T E → Type 0) (text : List ℕ)
-    (r : UnnamedRequirement T E) : Type 0 where
+pub record IsUnnamedRead {T E : Type 0} (Reads : List ℕ → Result T E → Type 0) (nodes : List NodeRecord)
+    (text : List ℕ) (r : UnnamedRequirement T E) : Type 0 where
   pub front : UnnamedFront
   pub rest : List ℕ
+  pub marker : Marker
   pub reading : IsUnnamedReading text (Ok (front, rest))
   pub url : Reads front.url (Ok r.url)
   pub extras : r.extras.items ≡ front.extras
-  pub behind : skip_leading_whitespace rest ≡ []
-  pub marker : r.marker ≡ always
+  pub is_marker : marker_behind (skip_leading_whitespace rest) ≡ Ok marker
+  pub tree : IsTreeOf nodes r.marker marker.formula
   pub origin : r.origin ≡ None
 
 -- of the URL this error is told, and not for want of memory
@@ -43,29 +51,28 @@ pub record IsUnnamedUrlRefused {T E : Type 0} (Reads : List ℕ → Result T E �
   pub reads : Reads front.url (Err error)
   pub told : lacks error ≡ false
 
--- behind the URL, its extras and white space such a character stands
-pub record IsUnnamedFollowed {T E : Type 0} (Reads : List ℕ → Result T E → Type 0) (text : List ℕ)
-    (Is : ℕ → Type 0) : Type 0 where
+-- the URL and its extras are read, and the marker behind them is refused, for a reason that this kind of
+-- refusal tells
+pub record IsUnnamedMarkerRefused {T E : Type 0} (Reads : List ℕ → Result T E → Type 0) (text : List ℕ)
+    (kind : RefusalKind) : Type 0 where
   pub front : UnnamedFront
   pub rest : List ℕ
-  pub reading : IsUnnamedReading text (Ok (front, rest))
   pub read : T
+  pub refused : marker_reading.Refused
+  pub reading : IsUnnamedReading text (Ok (front, rest))
   pub url : Reads front.url (Ok read)
-  pub first : ℕ
-  pub left : List ℕ
-  pub behind : skip_leading_whitespace rest ≡ first ∷ left
-  pub is : Is first
+  pub is_marker : marker_behind (skip_leading_whitespace rest) ≡ Err refused
+  pub fits : Fits kind refused
 
--- Why a text is refused, by what its error says. A `;` begins a marker, which is not read yet.
+-- why a text is refused, by what its error says
 abbrev pub UnnamedRefusedBy : {T E : Type 0} → (List ℕ → Result T E → Type 0) → (E → Bool) → List ℕ
     → Pep508ErrorSource T E → Type 0
 UnnamedRefusedBy Reads lacks text sources.Memory = Unit {0}
-UnnamedRefusedBy Reads lacks text sources.NumberAtEnd = ⊥
+UnnamedRefusedBy Reads lacks text sources.NumberAtEnd = IsUnnamedMarkerRefused Reads text kinds.NumberAtEnd
 UnnamedRefusedBy Reads lacks text (sources.UrlError error) = IsUnnamedUrlRefused Reads lacks text error
-UnnamedRefusedBy Reads lacks text (sources.UnsupportedRequirement message) =
-    IsUnnamedFollowed Reads text (λ c. c ≡ 59)
+UnnamedRefusedBy Reads lacks text (sources.UnsupportedRequirement message) = ⊥
 UnnamedRefusedBy Reads lacks text (sources.String message) =
-    IsUnnamedReading text (Err Malformed) ⊎ IsUnnamedFollowed Reads text (λ c. c ≢ 59)
+    IsUnnamedReading text (Err Malformed) ⊎ IsUnnamedMarkerRefused Reads text (kinds.String message)
 
 -- the text is refused with this error, which shows it, or memory ran out
 pub record IsUnnamedRefused {T E : Type 0} (Reads : List ℕ → Result T E → Type 0) (lacks : E → Bool)
@@ -73,8 +80,8 @@ pub record IsUnnamedRefused {T E : Type 0} (Reads : List ℕ → Result T E → 
   pub cause : UnnamedRefusedBy Reads lacks text error.message
   pub input : IfSome (told_error error) (λ fault. fault.input ≡ text)
 
--- what reading the text answers
-abbrev pub ReadsUnnamedRequirement : {T E : Type 0} → (List ℕ → Result T E → Type 0) → (E → Bool) → List ℕ
-    → Result (UnnamedRequirement T E) (Pep508Error T E) → Type 0
-ReadsUnnamedRequirement Reads lacks text (Ok r) = IsUnnamedRead Reads text r
-ReadsUnnamedRequirement Reads lacks text (Err error) = IsUnnamedRefused Reads lacks text error
+-- what reading the text answers, with these nodes afterwards
+abbrev pub ReadsUnnamedRequirement : {T E : Type 0} → (List ℕ → Result T E → Type 0) → (E → Bool)
+    → List NodeRecord → List ℕ → Result (UnnamedRequirement T E) (Pep508Error T E) → Type 0
+ReadsUnnamedRequirement Reads lacks nodes text (Ok r) = IsUnnamedRead Reads nodes text r
+ReadsUnnamedRequirement Reads lacks nodes text (Err error) = IsUnnamedRefused Reads lacks text error

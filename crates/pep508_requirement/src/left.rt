@@ -1,21 +1,11 @@
-//! What is left of a text behind a requirement.
+//! What is left of a text behind a requirement and is no marker.
 
 ghost use Rattle.std.specs.Prelude.{◌≡◌};
 ghost use Rattle.pep508_error.specs.Cursors.{IsBehind};
-ghost use Rattle.pep508_requirement.specs.Pieces.{IsMarkerRefusal};
 ghost use Rattle.pep508_requirement_text.specs.FrontOutcome.{IsOf, IsPlain};
 
 use pep508_error::{Cursor, Refusal, RefusalKind};
 use std::alloc::Global;
-
-/// The refusal of a `;`, which begins a marker.
-pub(crate) fn refuse_marker<'a>(alloc: Global, left: Cursor<'a>) -> Refusal<'a>
-    ensures kind { IsMarkerRefusal result.kind }
-    ensures of { IsOf left.entry result }
-{
-    let message = String::from_str(alloc, "Markers are not read yet");
-    left.refuse_char(RefusalKind::unsupported(message))
-}
 
 /// The refusal of the first character that is left, or of the last of a URL whose end isn't clear.
 pub(crate) fn refuse_first<'a>(

@@ -1,8 +1,10 @@
-//! Requirements of Python packages (PEP 508): a name, extras, and specifiers or a URL; and requirements that
-//! a URL alone names.
+//! Requirements of Python packages (PEP 508): a name, extras, specifiers or a URL, and a marker; and
+//! requirements that a URL alone names.
 #![tactic(auto)]
 
+mod evaluating;
 mod extras;
+pub mod laws;
 mod left;
 mod reading;
 mod requirement;

@@ -1,20 +1,24 @@
 //! Reading requirements.
 
-ghost use Rattle.std.specs.Prelude.{◌≡◌, [], chars, MatchOption, IfSome, None, option_copied};
+ghost use Rattle.std.specs.Prelude.{◌≡◌, chars, IfSome, IfErr, None, OnOk, option_copied};
 ghost use Rattle.serde_json.specs.View.{view};
 ghost use Rattle.serde_json.specs.Find.{as_str};
 ghost use Rattle.read_outcome.specs.Outcome.{ReadsText};
 ghost use Rattle.std.specs.Str.{skip_leading_whitespace};
 ghost use Rattle.pep508_url.specs.Vars.{IsAbsolute};
-ghost use Rattle.pep508_error.specs.Cursors.{rest_of};
-ghost use Rattle.pep508_requirement_text.specs.FrontOutcome.{IsOf};
-ghost use Rattle.pep508_requirement.specs.Pieces.{ReadsAsked, ReadsPiece, LeftRefusedBy};
+ghost use Rattle.pep508_error.specs.Cursors.{rest_of, IsBehind};
+ghost use Rattle.pep508_tree.specs.Meaning.{Extends};
+ghost use Rattle.pep508_marker_read.specs.MarkerOutcome.{ReadsMarker};
+ghost use Rattle.pep508_requirement_text.specs.FrontOutcome.{IsOf, IsPlain};
+ghost use Rattle.pep508_requirement.specs.MarkerBehind.{marker_behind, TakesWarnings};
+ghost use Rattle.pep508_requirement.specs.Pieces.{ReadsAsked, ReadsPiece};
 ghost use Rattle.pep508_requirement.specs.RequirementReading.{ReadsRequirement};
 
-use crate::left::{last_mark, refuse_first, refuse_marker};
+use crate::left::{last_mark, refuse_first};
 use crate::{Requirement, VersionOrUrl};
 use pep508_error::{Cursor, Pep508Error, Refusal};
 use pep508_marker::{Reporter, Silent};
+use pep508_marker_read::read_marker;
 use pep508_requirement_text::{Front, Source, UrlPiece, read_front};
 use pep508_tree::{Interner, MarkerTree};
 use pep508_url::{Pep508Url, Vars};
@@ -23,15 +27,18 @@ use serde_json::Value;
 use std::alloc::{AllocError, Global};
 
 impl<T: Pep508Url> Requirement<T> {
-    /// Reads a requirement, as `requests[security]>=2.8.1,<3` or `pip @ https://example.org/pip.whl` (PEP
-    /// 508, "Grammar"). A URL that is a relative path stands in the absolute directory, where there is one.
+    /// Reads a requirement, as `requests[security]>=2.8.1,<3 ; python_version < '3.8'` or
+    /// `pip @ https://example.org/pip.whl` (PEP 508, "Grammar"). A URL that is a relative path stands in the
+    /// absolute directory, where there is one. The marker is a tree of the interner, `TRUE` where there is
+    /// none or where none of its comparisons says anything.
     ///
-    /// A `;` that would begin a marker is refused as `UnsupportedRequirement`, since markers are not read
-    /// yet, and so is a URL, a path or an archive that stands where a name is wanted. A text that is no
-    /// requirement otherwise is refused as `String`, and one whose URL is none as `UrlError`.
+    /// A URL, a path or an archive that stands where a name is wanted is refused as `UnsupportedRequirement`,
+    /// a text whose URL is none as `UrlError`, one whose marker has a version number that can't be raised as
+    /// `NumberAtEnd`, and any other that is no requirement as `String`. What is wrong with the front comes
+    /// before the URL's fault, and that before the marker's.
     ///
-    /// Linear in the text, but for bringing specifiers in order; takes memory for what is read and for an
-    /// error.
+    /// Linear in the text, but for bringing specifiers in order and for combining the marker's trees; takes
+    /// memory for what is read and for an error. The nodes of the interner stay, refused or not.
     pub fn parse(
         alloc: Global,
         interner: &mut Interner,
@@ -41,13 +48,15 @@ impl<T: Pep508Url> Requirement<T> {
     ) -> Result<Self, Pep508Error<T>>
         requires { IfSome working_dir (λ directory. IsAbsolute directory.now) }
         ensures answered { ReadsRequirement (λ url. T.reads vars.now url (option_copied working_dir.entry))
-            T.lacks_memory vars.now text.now result }
-        ensures nodes { interner.new ≡ interner.old }
+            T.lacks_memory vars.now interner.new.nodes text.now result }
+        ensures keeps { Extends interner.old.nodes interner.new.nodes }
+        ensures counts { interner.new.conjunctions ≡ interner.old.conjunctions }
     {
         Requirement::parse_reporter(alloc, interner, vars, text, working_dir, &mut Silent)
     }
 
-    /// Reads a requirement as `parse` does, and reports the warnings of its marker. So far there are none.
+    /// Reads a requirement as `parse` does, and reports the warnings of its marker. Those of a marker that is
+    /// refused may have been reported too, as far as it was read.
     pub fn parse_reporter<R: Reporter>(
         alloc: Global,
         interner: &mut Interner,
@@ -59,11 +68,35 @@ impl<T: Pep508Url> Requirement<T> {
         requires directory { IfSome working_dir (λ directory. IsAbsolute directory.now) }
         requires can_report { R.can_report reporter.old }
         ensures answered { ReadsRequirement (λ url. T.reads vars.now url (option_copied working_dir.entry))
-            T.lacks_memory vars.now text.now result }
-        ensures nodes { interner.new ≡ interner.old }
-        ensures warnings { reporter.new ≡ reporter.old }
+            T.lacks_memory vars.now interner.new.nodes text.now result }
+        ensures warnings { OnOk result (TakesWarnings R.takes reporter.old reporter.new text.now) }
+        ensures again { R.can_report reporter.new }
+        ensures keeps { Extends interner.old.nodes interner.new.nodes }
+        ensures counts { interner.new.conjunctions ≡ interner.old.conjunctions }
     {
-        read_requirement(alloc, vars, text, working_dir)
+        let (front, rest) = match read_front(alloc, Cursor::new(text), vars) {
+            Ok(found) => found,
+            Err(refusal) => return Err(Pep508Error::of(alloc, refusal)),
+        };
+        let Front {
+            name,
+            extras,
+            source,
+        } = front;
+        let version_or_url = match read_asked(alloc, source, vars, working_dir) {
+            Ok(version_or_url) => version_or_url,
+            Err(error) => return Err(error),
+        };
+        match read_behind(alloc, interner, &version_or_url, rest, reporter) {
+            Ok(marker) => Ok(Requirement {
+                name,
+                extras,
+                version_or_url,
+                marker,
+                origin: None,
+            }),
+            Err(refusal) => Err(Pep508Error::of(alloc, refusal)),
+        }
     }
 
     /// Reads a requirement as `parse` does, with no directory, so that a relative path is refused.
@@ -74,8 +107,9 @@ impl<T: Pep508Url> Requirement<T> {
         text: &str,
     ) -> Result<Self, Pep508Error<T>>
         ensures answered { ReadsRequirement (λ url. T.reads vars.now url None) T.lacks_memory
-            vars.now text.now result }
-        ensures nodes { interner.new ≡ interner.old }
+            vars.now interner.new.nodes text.now result }
+        ensures keeps { Extends interner.old.nodes interner.new.nodes }
+        ensures counts { interner.new.conjunctions ≡ interner.old.conjunctions }
     {
         Requirement::parse(alloc, interner, vars, text, None)
     }
@@ -89,9 +123,10 @@ impl<T: Pep508Url> Requirement<T> {
     ) -> Result<Self, FromValueError<Pep508Error<T>>>
         ensures answered { ReadsText
             (λ text read. ReadsRequirement (λ url. T.reads vars.now url None) T.lacks_memory
-            vars.now text read)
+            vars.now interner.new.nodes text read)
             (as_str (view value.now)) result }
-        ensures nodes { interner.new ≡ interner.old }
+        ensures keeps { Extends interner.old.nodes interner.new.nodes }
+        ensures counts { interner.new.conjunctions ≡ interner.old.conjunctions }
     {
         let Some(text) = value.as_str() else {
             return Err(FromValueError::Shape);
@@ -101,42 +136,6 @@ impl<T: Pep508Url> Requirement<T> {
             Err(error) => Err(FromValueError::Text(error)),
         }
     }
-}
-
-/// The requirement that a text is.
-fn read_requirement<T: Pep508Url>(
-    alloc: Global,
-    vars: &Vars,
-    text: &str,
-    working_dir: Option<&str>,
-) -> Result<Requirement<T>, Pep508Error<T>>
-    requires { IfSome working_dir (λ directory. IsAbsolute directory.now) }
-    ensures { ReadsRequirement (λ url. T.reads vars.now url (option_copied working_dir.entry)) T.lacks_memory
-        vars.now text.now result }
-{
-    let (front, rest) = match read_front(alloc, Cursor::new(text), vars) {
-        Ok(found) => found,
-        Err(refusal) => return Err(Pep508Error::of(alloc, refusal)),
-    };
-    let Front {
-        name,
-        extras,
-        source,
-    } = front;
-    let version_or_url = match read_asked(alloc, source, vars, working_dir) {
-        Ok(version_or_url) => version_or_url,
-        Err(error) => return Err(error),
-    };
-    if let Some(refusal) = refuse_left(alloc, &version_or_url, rest) {
-        return Err(Pep508Error::of(alloc, refusal));
-    }
-    Ok(Requirement {
-        name,
-        extras,
-        version_or_url,
-        marker: MarkerTree::TRUE,
-        origin: None,
-    })
 }
 
 /// What is asked for by what was read at the front.
@@ -177,24 +176,47 @@ fn read_piece<T: Pep508Url>(
     }
 }
 
-/// The refusal of what is left behind white space, where something is.
+/// The marker behind a front, which always holds where nothing is left; or why what is left is none.
+fn read_behind<'a, T: Pep508Url, R: Reporter>(
+    alloc: Global,
+    interner: &mut Interner,
+    version_or_url: &Option<VersionOrUrl<T>>,
+    rest: Cursor<'a>,
+    reporter: &mut R,
+) -> Result<MarkerTree, Refusal<'a>>
+    requires { R.can_report reporter.old }
+    ensures read { ReadsMarker R.takes reporter.old reporter.new interner.new.nodes result
+        (marker_behind (skip_leading_whitespace (chars (rest_of rest.entry)))) }
+    ensures again { R.can_report reporter.new }
+    ensures keeps { Extends interner.old.nodes interner.new.nodes }
+    ensures counts { interner.new.conjunctions ≡ interner.old.conjunctions }
+    ensures of { IfErr result (IsOf rest.entry) }
+{
+    let left = rest.after_whitespace();
+    let Some((first, inside)) = left.split_first() else {
+        return Ok(MarkerTree::TRUE);
+    };
+    if first == ';' {
+        return read_marker(alloc, interner, inside, reporter);
+    }
+    Err(refuse_left(alloc, version_or_url, rest, left, first))
+}
+
+/// The refusal of a character that is left, and begins no marker.
 fn refuse_left<'a, T: Pep508Url>(
     alloc: Global,
     version_or_url: &Option<VersionOrUrl<T>>,
     rest: Cursor<'a>,
-) -> Option<Refusal<'a>>
-    ensures left { MatchOption result (skip_leading_whitespace (chars (rest_of rest.entry)) ≡ [])
-        (λ refusal. LeftRefusedBy (skip_leading_whitespace (chars (rest_of rest.entry))) refusal.kind) }
-    ensures of { IfSome result (IsOf rest.entry) }
+    left: Cursor<'a>,
+    first: char,
+) -> Refusal<'a>
+    requires { IsBehind rest left }
+    ensures plain { IsPlain result.kind }
+    ensures of { IsOf rest.entry result }
 {
-    let left = rest.after_whitespace();
-    let first = left.peek()?;
-    if first == ';' {
-        return Some(refuse_marker(alloc, left));
-    }
     match printed_mark(alloc, version_or_url) {
-        Ok(mark) => Some(refuse_first(alloc, mark, rest, left, first)),
-        Err(_) => Some(Refusal::memory()),
+        Ok(mark) => refuse_first(alloc, mark, rest, left, first),
+        Err(_) => Refusal::memory(),
     }
 }
 

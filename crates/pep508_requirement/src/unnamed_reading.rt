@@ -1,34 +1,40 @@
 //! Reading requirements without a name.
 
-ghost use Rattle.std.specs.Prelude.{◌≡◌, [], chars, MatchOption, IfSome, None, option_copied};
+ghost use Rattle.std.specs.Prelude.{◌≡◌, chars, IfSome, IfErr, None, OnOk, option_copied};
 ghost use Rattle.std.specs.Str.{skip_leading_whitespace, IsCharBoundary};
 ghost use Rattle.pep508_url.specs.Vars.{IsAbsolute};
 ghost use Rattle.pep508_error.specs.Cursors.{rest_of};
+ghost use Rattle.pep508_tree.specs.Meaning.{Extends};
+ghost use Rattle.pep508_marker_read.specs.MarkerOutcome.{ReadsMarker};
 ghost use Rattle.pep508_requirement_text.specs.FrontOutcome.{IsOf};
-ghost use Rattle.pep508_requirement.specs.Pieces.{ReadsPiece, LeftRefusedBy};
+ghost use Rattle.pep508_requirement.specs.MarkerBehind.{marker_behind, TakesUnnamedWarnings};
+ghost use Rattle.pep508_requirement.specs.Pieces.{ReadsPiece};
 ghost use Rattle.pep508_requirement.specs.UnnamedUrls.{ReadsUnnamed};
 ghost use Rattle.pep508_requirement.specs.UnnamedRequirementReading.{ReadsGiven, ReadsUnnamedRequirement};
 
 use crate::UnnamedRequirement;
-use crate::left::{last_mark, refuse_first, refuse_marker};
+use crate::left::{last_mark, refuse_first};
 use crate::unnamed_url::read_unnamed_url;
 use pep508_error::{Cursor, Pep508Error, Refusal};
 use pep508_marker::{Reporter, Silent};
+use pep508_marker_read::read_marker;
 use pep508_requirement_text::{Unnamed, UrlPiece, read_unnamed};
 use pep508_tree::{Interner, MarkerTree};
 use pep508_url::{UnnamedRequirementUrl, Vars, expand_env_vars};
 use std::alloc::Global;
 
 impl<Url: UnnamedRequirementUrl> UnnamedRequirement<Url> {
-    /// Reads a requirement without a name, as `https://example.org/pip.whl` or `./pip[dev]`: a URL or a path,
-    /// and extras at its end. A relative path stands in the absolute directory, where there is one. The URL
-    /// is given as its text, with variables' names in place of their values, without the extras.
+    /// Reads a requirement without a name, as `https://example.org/pip.whl` or `./pip[dev] ; os_name == 'nt'`:
+    /// a URL or a path, extras at its end, and a marker. A relative path stands in the absolute directory,
+    /// where there is one. The URL is given as its text, with variables' names in place of their values,
+    /// without the extras. The marker and its warnings are those of `Requirement::parse_reporter`.
     ///
-    /// A `;` that would begin a marker is refused as `UnsupportedRequirement`, since markers are not read
-    /// yet. A text whose URL is none is refused as `UrlError`, and any other that is no such requirement as
-    /// `String`. The warnings of a marker are reported; so far there are none.
+    /// A text whose URL is none is refused as `UrlError`, one whose marker has a version number that can't be
+    /// raised as `NumberAtEnd`, and any other that is no such requirement as `String`. What is wrong with the
+    /// extras comes before the URL's fault, and that before the marker's.
     ///
-    /// Linear in the text; takes memory for what is read and for an error.
+    /// Linear in the text, but for combining the marker's trees; takes memory for what is read and for an
+    /// error. The nodes of the interner stay, refused or not.
     pub fn parse<R: Reporter>(
         alloc: Global,
         interner: &mut Interner,
@@ -43,11 +49,30 @@ impl<Url: UnnamedRequirementUrl> UnnamedRequirement<Url> {
             (ReadsGiven
             (ReadsUnnamed (λ path. Url.reads_path path (option_copied working_dir.entry)) Url.reads_url)
             Url.is_given vars.now)
-            Url.lacks_memory text.now result }
-        ensures nodes { interner.new ≡ interner.old }
-        ensures warnings { reporter.new ≡ reporter.old }
+            Url.lacks_memory interner.new.nodes text.now result }
+        ensures warnings { OnOk result (TakesUnnamedWarnings R.takes reporter.old reporter.new text.now) }
+        ensures again { R.can_report reporter.new }
+        ensures keeps { Extends interner.old.nodes interner.new.nodes }
+        ensures counts { interner.new.conjunctions ≡ interner.old.conjunctions }
     {
-        read_unnamed_requirement(alloc, vars, text, working_dir)
+        let (front, rest) = match read_unnamed(alloc, Cursor::new(text)) {
+            Ok(found) => found,
+            Err(refusal) => return Err(Pep508Error::of(alloc, refusal)),
+        };
+        let Unnamed { whole, url, extras } = front;
+        let url = match read_given(alloc, whole, url.text, vars, working_dir) {
+            Ok(url) => url,
+            Err(error) => return Err(error),
+        };
+        match read_behind(alloc, interner, &url, rest, reporter) {
+            Ok(marker) => Ok(UnnamedRequirement {
+                url,
+                extras,
+                marker,
+                origin: None,
+            }),
+            Err(refusal) => Err(Pep508Error::of(alloc, refusal)),
+        }
     }
 
     /// Reads a requirement as `parse` does, with no directory, so that a relative path is refused, and
@@ -60,44 +85,12 @@ impl<Url: UnnamedRequirementUrl> UnnamedRequirement<Url> {
     ) -> Result<Self, Pep508Error<Url>>
         ensures answered { ReadsUnnamedRequirement
             (ReadsGiven (ReadsUnnamed (λ path. Url.reads_path path None) Url.reads_url) Url.is_given vars.now)
-            Url.lacks_memory text.now result }
-        ensures nodes { interner.new ≡ interner.old }
+            Url.lacks_memory interner.new.nodes text.now result }
+        ensures keeps { Extends interner.old.nodes interner.new.nodes }
+        ensures counts { interner.new.conjunctions ≡ interner.old.conjunctions }
     {
         UnnamedRequirement::parse(alloc, interner, vars, text, None, &mut Silent)
     }
-}
-
-/// The requirement without a name that a text is.
-fn read_unnamed_requirement<U: UnnamedRequirementUrl>(
-    alloc: Global,
-    vars: &Vars,
-    text: &str,
-    working_dir: Option<&str>,
-) -> Result<UnnamedRequirement<U>, Pep508Error<U>>
-    requires { IfSome working_dir (λ directory. IsAbsolute directory.now) }
-    ensures { ReadsUnnamedRequirement
-        (ReadsGiven (ReadsUnnamed (λ path. U.reads_path path (option_copied working_dir.entry)) U.reads_url)
-        U.is_given vars.now)
-        U.lacks_memory text.now result }
-{
-    let (front, rest) = match read_unnamed(alloc, Cursor::new(text)) {
-        Ok(found) => found,
-        Err(refusal) => return Err(Pep508Error::of(alloc, refusal)),
-    };
-    let Unnamed { whole, url, extras } = front;
-    let url = match read_given(alloc, whole, url.text, vars, working_dir) {
-        Ok(url) => url,
-        Err(error) => return Err(error),
-    };
-    if let Some(refusal) = refuse_left(alloc, &url, rest) {
-        return Err(Pep508Error::of(alloc, refusal));
-    }
-    Ok(UnnamedRequirement {
-        url,
-        extras,
-        marker: MarkerTree::TRUE,
-        origin: None,
-    })
 }
 
 /// The URL of a text, given as the text; a fault is shown at the whole piece.
@@ -129,21 +122,30 @@ fn read_given<U: UnnamedRequirementUrl>(
     }
 }
 
-/// The refusal of what is left behind white space, where something is.
-fn refuse_left<'a, U: UnnamedRequirementUrl>(
+/// The marker behind a URL and its extras, which always holds where nothing is left; or why what is left is
+/// none.
+fn read_behind<'a, U: UnnamedRequirementUrl, R: Reporter>(
     alloc: Global,
+    interner: &mut Interner,
     url: &U,
     rest: Cursor<'a>,
-) -> Option<Refusal<'a>>
-    ensures left { MatchOption result (skip_leading_whitespace (chars (rest_of rest.entry)) ≡ [])
-        (λ refusal. LeftRefusedBy (skip_leading_whitespace (chars (rest_of rest.entry))) refusal.kind) }
-    ensures of { IfSome result (IsOf rest.entry) }
+    reporter: &mut R,
+) -> Result<MarkerTree, Refusal<'a>>
+    requires { R.can_report reporter.old }
+    ensures read { ReadsMarker R.takes reporter.old reporter.new interner.new.nodes result
+        (marker_behind (skip_leading_whitespace (chars (rest_of rest.entry)))) }
+    ensures again { R.can_report reporter.new }
+    ensures keeps { Extends interner.old.nodes interner.new.nodes }
+    ensures counts { interner.new.conjunctions ≡ interner.old.conjunctions }
+    ensures of { IfErr result (IsOf rest.entry) }
 {
     let left = rest.after_whitespace();
-    let first = left.peek()?;
+    let Some((first, inside)) = left.split_first() else {
+        return Ok(MarkerTree::TRUE);
+    };
     if first == ';' {
-        return Some(refuse_marker(alloc, left));
+        return read_marker(alloc, interner, inside, reporter);
     }
     let mark = url.given().and_then(|given| last_mark(given));
-    Some(refuse_first(alloc, mark, rest, left, first))
+    Err(refuse_first(alloc, mark, rest, left, first))
 }

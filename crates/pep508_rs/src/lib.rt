@@ -10,11 +10,15 @@ pub use pep508_environment::{
     MarkerEnvironmentBuilder, StringVersion,
 };
 pub use pep508_error::{Pep508Error, Pep508ErrorSource};
+pub use pep508_evaluation::MarkerTreeEvaluation;
+pub use pep508_expression::MarkerTreeExpression;
 pub use pep508_marker::{
     ClosureReporter, ExtraOperator, MarkerExpression, MarkerOperator, MarkerTextError, MarkerValue,
     MarkerValueExtra, MarkerValueString, MarkerValueVersion, MarkerWarningKind, Reporter, Silent,
     TracingReporter,
 };
+pub use pep508_marker_comparison::{parse_expression, parse_expression_reporter};
+pub use pep508_marker_read::MarkerTreeReading;
 pub use pep508_name::{ExtraName, InvalidNameError, PackageName, RequirementOrigin};
 pub use pep508_requirement::{
     Extras, Requirement, UnnamedRequirement, VersionOrUrl, VersionOrUrlRef,
@@ -23,4 +27,8 @@ pub use pep508_tree::{Interner, MarkerTree};
 pub use pep508_url::{
     Pep508Url, Scheme, UnnamedRequirementUrl, Vars, VerbatimUrl, VerbatimUrlError, expand_env_vars,
     normalize_absolute_path, normalize_url_path, split_extras, split_scheme, strip_host,
+};
+pub use pep508_view::{
+    ContainsMarkerTree, Edge, Edges, ExtraMarkerTree, InMarkerTree, MarkerExtra, MarkerTreeKind,
+    MarkerTreeView, StringMarkerTree, TextEdges, VersionMarkerTree,
 };

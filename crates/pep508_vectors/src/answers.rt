@@ -1,6 +1,8 @@
 //! The answers.
 
 use crate::requirement::{picture, requirement, unnamed};
+use crate::warnings::warnings;
+use crate::{calls, names};
 use pep508_name::{InvalidNameError, PackageName, RequirementOrigin};
 use pep508_url::{
     Pep508Url, Scheme, Vars, VerbatimUrl, VerbatimUrlError, expand_env_vars, split_extras,
@@ -20,8 +22,9 @@ pub fn answer(alloc: Global, vars: &Vars, question: &str) -> Result<String, Allo
         Err(error) if error.is_memory() => return Err(AllocError),
         Err(_) => return String::from_str(alloc, "no question"),
     };
+    let kind = text_at(&question, 0);
     let text = text_at(&question, 1);
-    match text_at(&question, 0) {
+    match kind {
         "name" => name(alloc, text),
         "dist-info" => dist_info(alloc, text),
         "origin" => origin(alloc, text),
@@ -43,7 +46,14 @@ pub fn answer(alloc: Global, vars: &Vars, question: &str) -> Result<String, Allo
         "requirement" => requirement(alloc, vars, text, DIRECTORY),
         "picture" => picture(alloc, vars, text, DIRECTORY),
         "unnamed" => unnamed(alloc, vars, text, DIRECTORY),
-        _ => String::from_str(alloc, "no question"),
+        "warnings" => warnings(alloc, vars, text),
+        "packages" => names::packages(alloc, text, text_at(&question, 2)),
+        "extra-names" => names::extras(alloc, text, text_at(&question, 2)),
+        "origins" => names::origins(alloc, text, text_at(&question, 2)),
+        "copy" | "nowhere" | "value" | "plain" | "extras" | "unnamed-copy" => {
+            calls::answer(alloc, vars, kind, text, DIRECTORY)
+        }
+        _ => names::answer(alloc, kind, text),
     }
 }
 
@@ -52,7 +62,16 @@ fn text_at(question: &Value, place: usize) -> &str {
     question.get(place).and_then(Value::as_str).unwrap_or("")
 }
 
-fn refused_name(alloc: Global, error: InvalidNameError) -> Result<String, AllocError> {
+/// A JSON value, none where the text is none.
+pub fn json(alloc: Global, text: &str) -> Result<Option<Value>, AllocError> {
+    match Value::from_str(alloc, text) {
+        Ok(value) => Ok(Some(value)),
+        Err(error) if error.is_memory() => Err(AllocError),
+        Err(_) => Ok(None),
+    }
+}
+
+pub fn refused_name(alloc: Global, error: InvalidNameError) -> Result<String, AllocError> {
     match error {
         InvalidNameError::Memory => Err(AllocError),
         InvalidNameError::InvalidName(_) => format!(in alloc; "refused: {error}"),
@@ -74,10 +93,8 @@ fn dist_info(alloc: Global, text: &str) -> Result<String, AllocError> {
 }
 
 fn origin(alloc: Global, text: &str) -> Result<String, AllocError> {
-    let value = match Value::from_str(alloc, text) {
-        Ok(value) => value,
-        Err(error) if error.is_memory() => return Err(AllocError),
-        Err(_) => return String::from_str(alloc, "refused"),
+    let Some(value) = json(alloc, text)? else {
+        return String::from_str(alloc, "refused");
     };
     match RequirementOrigin::from_value(alloc, &value) {
         Ok(origin) => {

@@ -5,7 +5,10 @@
 #![tactic(auto)]
 
 mod answers;
+mod calls;
+mod names;
 mod requirement;
+mod warnings;
 
 use answers::answer;
 use pep508_url::Vars;

@@ -4,8 +4,8 @@ ghost use Rattle.pep508_url.specs.Vars.{IsAbsolute};
 
 use pep508_rs::pep440_rs::VersionSpecifiers;
 use pep508_rs::{
-    ExtraName, Interner, Pep508Error, Pep508ErrorSource, Requirement, Silent, UnnamedRequirement,
-    Vars, VerbatimUrl, VersionOrUrl,
+    ExtraName, Interner, MarkerTree, Pep508Error, Pep508ErrorSource, Requirement, Silent,
+    UnnamedRequirement, Vars, VerbatimUrl, VersionOrUrl,
 };
 use std::alloc::{AllocError, Global};
 
@@ -65,7 +65,19 @@ fn unnamed_parts(
     let mut text = requirement.url.to_string(alloc)?;
     push_extras(&mut text, &requirement.extras)?;
     let given = requirement.url.given().unwrap_or("");
-    format!(in alloc; "{text} given {given}")
+    let when = meant(requirement.marker);
+    format!(in alloc; "{text} given {given}{when}")
+}
+
+/// When a requirement is meant, where that isn't always.
+fn meant(marker: MarkerTree) -> &'static str {
+    if marker.is_true() {
+        ""
+    } else if marker.is_false() {
+        " ; never"
+    } else {
+        " ; sometimes"
+    }
 }
 
 /// The print of a refusal, with the part of the text that is at fault.
@@ -108,6 +120,12 @@ fn refused(alloc: Global, error: &Pep508Error<VerbatimUrl>) -> Result<String, Al
 }
 
 fn parts(alloc: Global, requirement: &Requirement<VerbatimUrl>) -> Result<String, AllocError> {
+    let mut text = asked(alloc, requirement)?;
+    text.push_str(meant(requirement.marker))?;
+    Ok(text)
+}
+
+fn asked(alloc: Global, requirement: &Requirement<VerbatimUrl>) -> Result<String, AllocError> {
     let mut text = requirement.name.to_string(alloc)?;
     push_extras(&mut text, &requirement.extras)?;
     match &requirement.version_or_url {

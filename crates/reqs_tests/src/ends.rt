@@ -1,10 +1,9 @@
 //! Readers and writers that are interrupted, fail or never end, and the limits up to which they are
 //! borne with.
 
-use crate::checks::{ENVIRONMENT, told};
 use reqs::{RunFault, Status, Vars, check};
 use reqs_io::{ASK_LIMIT, ReadFault, WriteFault, read_whole, write_whole};
-use std::alloc::Global;
+use std::alloc::{AllocError, Global};
 use std::io::{self, ErrorKind, Read, Write};
 use std::test::Fail;
 
@@ -134,11 +133,38 @@ impl Read for Interrupted {
     }
 }
 
+const ENVIRONMENT: &str = r##"{
+    "implementation_name": "cpython", "implementation_version": "3.11.4", "os_name": "posix",
+    "platform_machine": "x86_64", "platform_python_implementation": "CPython",
+    "platform_release": "5.4", "platform_system": "Linux", "platform_version": "#1",
+    "python_full_version": "3.11.4", "python_version": "3.11", "sys_platform": "linux"
+}"##;
+
 const REQUIREMENTS: &[u8] = b"foo>=1\nbar==2";
 
 const CANDIDATES: &[u8] = b"foo 1.5\nbar 3";
 
 const ANSWER: &str = "bar none\nfoo 1.5\n";
+
+/// What was written, and then how the command ended.
+fn told(
+    alloc: Global,
+    output: &[u8],
+    ended: Result<Status, RunFault>,
+) -> Result<String, AllocError> {
+    let output = str::from_utf8(output).unwrap_or("no text");
+    match ended {
+        Ok(status) => {
+            let code = status.code();
+            format!(in alloc; "{output}status {code}")
+        }
+        Err(fault) => {
+            let status = fault.status();
+            let text = fault.text(alloc, &["REQS", "ENV", "CANDIDATES"])?;
+            format!(in alloc; "{output}status {status}, {text}")
+        }
+    }
+}
 
 /// Runs `check` on the texts above with this writer.
 fn write_to<W: Write>(alloc: Global, output: &mut W) -> Result<Status, RunFault> {
@@ -156,123 +182,125 @@ fn write_to<W: Write>(alloc: Global, output: &mut W) -> Result<Status, RunFault>
     )
 }
 
-/// Runs `check` with a reader in the place of each input that fails at its end.
-fn read_from(alloc: Global, failing: usize) -> Result<String, Fail> {
+/// Runs `check` with this reader of requirements.
+fn read_from<R: Read>(alloc: Global, requirements: &mut R) -> Result<String, AllocError> {
     let mut output = Vec::new(alloc);
-    let inputs = [REQUIREMENTS, ENVIRONMENT.as_bytes(), CANDIDATES];
-    let [requirements, environment, candidates] = inputs;
-    let result = check(
-        alloc,
-        &mut Hesitant {
-            rest: requirements,
-            ready: false,
-            fails: failing == 1,
-        },
-        &mut Hesitant {
-            rest: environment,
-            ready: false,
-            fails: failing == 2,
-        },
-        &mut Hesitant {
-            rest: candidates,
-            ready: false,
-            fails: failing == 3,
-        },
-        &[],
-        &Vars,
-        &mut output,
-    );
-    Ok(told(alloc, &output, result)?)
-}
-
-#[test]
-fn asks_an_interrupted_reader_again(rt: HostRuntime) -> Result<(), Fail> {
-    let told = read_from(rt.alloc(), 0)?;
-    assert_eq!(rt; told.as_str(), "bar none\nfoo 1.5\nstatus 0");
-    Ok(())
-}
-
-#[test]
-fn names_the_reader_that_failed(rt: HostRuntime) -> Result<(), Fail> {
-    let told = read_from(rt.alloc(), 1)?;
-    assert_eq!(rt; told.as_str(), "status 3, REQS: read fault");
-    let told = read_from(rt.alloc(), 2)?;
-    assert_eq!(rt; told.as_str(), "status 3, ENV: read fault");
-    let told = read_from(rt.alloc(), 3)?;
-    assert_eq!(rt; told.as_str(), "status 3, CANDIDATES: read fault");
-    Ok(())
-}
-
-#[test]
-fn refuses_an_input_that_never_ends(rt: HostRuntime) -> Result<(), Fail> {
-    let mut output = Vec::new(rt.alloc());
     let mut environment = ENVIRONMENT.as_bytes();
     let mut candidates = CANDIDATES;
     let result = check(
-        rt.alloc(),
-        &mut Endless,
+        alloc,
+        requirements,
         &mut environment,
         &mut candidates,
         &[],
         &Vars,
         &mut output,
     );
-    let told = told(rt.alloc(), &output, result)?;
-    assert_eq!(rt; told.as_str(), "status 2, REQS: longer than 16777216 bytes");
+    told(alloc, &output, result)
+}
+
+fn hesitantly(rest: &[u8], fails: bool) -> Hesitant<'_> {
+    Hesitant {
+        rest,
+        ready: false,
+        fails,
+    }
+}
+
+/// Runs `check` with a reader in the place of each input, of which the one of this number fails at its end.
+fn with_failing(alloc: Global, failing: usize) -> Result<String, AllocError> {
+    let mut output = Vec::new(alloc);
+    let mut requirements = hesitantly(REQUIREMENTS, failing == 1);
+    let mut environment = hesitantly(ENVIRONMENT.as_bytes(), failing == 2);
+    let mut candidates = hesitantly(CANDIDATES, failing == 3);
+    let result = check(
+        alloc,
+        &mut requirements,
+        &mut environment,
+        &mut candidates,
+        &[],
+        &Vars,
+        &mut output,
+    );
+    told(alloc, &output, result)
+}
+
+// A reader that is interrupted is asked again, and the one that failed is named.
+#[test]
+fn names_the_reader_that_failed(rt: HostRuntime) -> Result<(), Fail> {
+    for (failing, wanted) in [
+        (0, "bar none\nfoo 1.5\nstatus 0"),
+        (1, "status 3, REQS: read fault"),
+        (2, "status 3, ENV: read fault"),
+        (3, "status 3, CANDIDATES: read fault"),
+    ] {
+        assert_eq!(rt; with_failing(rt.alloc(), failing)?.as_str(), wanted);
+    }
     Ok(())
 }
 
 #[test]
-fn writes_all_to_a_narrow_writer(rt: HostRuntime) -> Result<(), Fail> {
-    let mut output = Narrow {
-        taken: Vec::new(rt.alloc()),
-        room: ANSWER.len(),
-        ready: false,
-    };
-    let result = write_to(rt.alloc(), &mut output);
-    let told = told(rt.alloc(), &output.taken, result)?;
-    assert_eq!(rt; told.as_str(), "bar none\nfoo 1.5\nstatus 0");
+fn refuses_an_input_that_never_ends(rt: HostRuntime) -> Result<(), Fail> {
+    assert_eq!(rt;
+        read_from(rt.alloc(), &mut Endless)?.as_str(),
+        "status 2, REQS: longer than 16777216 bytes"
+    );
     Ok(())
 }
 
-#[test]
-fn leaves_a_front_where_a_writer_fails(rt: HostRuntime) -> Result<(), Fail> {
+/// What a narrow writer with room for so many bytes took, and how `check` ended.
+fn to_narrow(alloc: Global, room: usize) -> Result<String, AllocError> {
     let mut output = Narrow {
-        taken: Vec::new(rt.alloc()),
-        room: 3,
+        taken: Vec::new(alloc),
+        room,
         ready: false,
     };
-    let result = write_to(rt.alloc(), &mut output);
-    let told = told(rt.alloc(), &output.taken, result)?;
-    assert_eq!(rt; told.as_str(), "barstatus 3, write fault");
+    let result = write_to(alloc, &mut output);
+    told(alloc, &output.taken, result)
+}
+
+// All of the answer, or a front of it where the writer fails.
+#[test]
+fn writes_to_a_narrow_writer(rt: HostRuntime) -> Result<(), Fail> {
+    for (room, wanted) in [
+        (ANSWER.len(), "bar none\nfoo 1.5\nstatus 0"),
+        (3, "barstatus 3, write fault"),
+    ] {
+        assert_eq!(rt; to_narrow(rt.alloc(), room)?.as_str(), wanted);
+    }
+    Ok(())
+}
+
+/// What a writer took that is interrupted so often, how `check` ended, and how many interruptions were left.
+fn to_busy(alloc: Global, interruptions: u32) -> Result<String, AllocError> {
+    let mut output = Busy {
+        interruptions,
+        taken: Vec::new(alloc),
+    };
+    let result = write_to(alloc, &mut output);
+    let text = told(alloc, &output.taken, result)?;
+    let left = output.interruptions;
+    format!(in alloc; "{text}, {left} left")
+}
+
+#[test]
+fn bears_with_1024_interruptions_in_a_row(rt: HostRuntime) -> Result<(), Fail> {
+    for (interruptions, wanted) in [
+        (1024, "bar none\nfoo 1.5\nstatus 0, 0 left"),
+        (1025, "status 3, write fault, 0 left"),
+    ] {
+        assert_eq!(rt; to_busy(rt.alloc(), interruptions)?.as_str(), wanted);
+    }
     Ok(())
 }
 
 #[test]
 fn gives_up_on_a_writer_that_takes_nothing(rt: HostRuntime) -> Result<(), Fail> {
-    let closed = write_to(rt.alloc(), &mut Closed);
-    let closed = told(rt.alloc(), b"", closed)?;
-    assert_eq!(rt; closed.as_str(), "status 3, write fault");
-    Ok(())
-}
-
-#[test]
-fn bears_with_1024_interruptions_in_a_row(rt: HostRuntime) -> Result<(), Fail> {
-    let mut output = Busy {
-        interruptions: 1024,
-        taken: Vec::new(rt.alloc()),
-    };
-    let result = write_to(rt.alloc(), &mut output);
-    let told_bytes = told(rt.alloc(), &output.taken, result)?;
-    assert_eq!(rt; told_bytes.as_str(), "bar none\nfoo 1.5\nstatus 0");
-    let mut output = Busy {
-        interruptions: 1025,
-        taken: Vec::new(rt.alloc()),
-    };
-    let result = write_to(rt.alloc(), &mut output);
-    let told_bytes = told(rt.alloc(), &output.taken, result)?;
-    assert_eq!(rt; told_bytes.as_str(), "status 3, write fault");
-    assert_eq!(rt; output.interruptions, 0);
+    let ended = write_to(rt.alloc(), &mut Closed);
+    assert_eq!(rt;
+        told(rt.alloc(), b"", ended)?.as_str(),
+        "status 3, write fault"
+    );
     Ok(())
 }
 
@@ -293,25 +321,12 @@ fn writes_each_piece_behind_interruptions(rt: HostRuntime) -> Result<(), Fail> {
 #[test]
 fn asks_a_reader_up_to_its_limit(rt: HostRuntime) -> Result<(), Fail> {
     assert_eq!(rt; ASK_LIMIT, 33_554_432);
-    let mut output = Vec::new(rt.alloc());
-    let mut requirements = Interrupted {
+    let mut reader = Interrupted {
         asked: 0,
         last: 100_000,
     };
-    let mut environment = ENVIRONMENT.as_bytes();
-    let mut candidates = CANDIDATES;
-    let result = check(
-        rt.alloc(),
-        &mut requirements,
-        &mut environment,
-        &mut candidates,
-        &[],
-        &Vars,
-        &mut output,
-    );
-    let told = told(rt.alloc(), &output, result)?;
-    assert_eq!(rt; told.as_str(), "status 0");
-    assert_eq!(rt; requirements.asked, 100_000);
+    assert_eq!(rt; read_from(rt.alloc(), &mut reader)?.as_str(), "status 0");
+    assert_eq!(rt; reader.asked, 100_000);
     Ok(())
 }
 

@@ -46,48 +46,6 @@ fn reads_requirement_lines(rt: HostRuntime) -> Result<(), Fail> {
 }
 
 #[test]
-fn names_the_first_line_that_is_not_read(rt: HostRuntime) {
-    for line in [
-        "foo[a]==1",
-        "foo<2.0",
-        "foo===1.0",
-        "==1",
-        "foo",
-        "foo==1,<2",
-        "foo==1 2",
-        "foo==v1",
-        "foo==1.0rc1",
-        "foo>=1.0.post1",
-        "foo==1.0+local",
-        "foo==1!1.0",
-        "foo==1.0.*",
-        "foo ==\t1",
-        "\tfoo==1",
-        "foo==1\r\r",
-        "foo#c==1",
-        "-foo==1",
-        "foo==1;",
-        "foo==1 ; python_version >= '3.8'",
-        "foo==1 ; python_full_version >= ' 3.8'",
-        "foo>=1 ; python_full_version >= ' 3.8 '",
-        "foo==1 ; python_full_version >= 'v3.8'",
-        "foo==1 ; python_full_version >= '3.8rc1'",
-        "foo==1 ; python_full_version >= '3.8\"",
-        "foo==1 ; python_full_version >= '3.8' x",
-        "foo==1 ; python_full_version < '3.8'",
-        "foo @ https://example.org/foo.whl",
-        "-r other.txt",
-    ] {
-        let text = format!(in rt.alloc(); "foo==1\n\n{line}\nbar\n").expect(&rt, "memory");
-        assert_eq!(rt;
-            Requirements::parse(rt.alloc(), text.as_bytes()).err(),
-            Some(RequirementsError::NotYet { number: 3 }),
-            "at {line}"
-        );
-    }
-}
-
-#[test]
 fn reads_candidates(rt: HostRuntime) -> Result<(), Fail> {
     let alloc = rt.alloc();
     let text = "Foo.Bar\u{3000} 1.2.0 # best\n#foo 1\n\t foo \t 2\t\r\nfoo 1\r";
@@ -112,40 +70,6 @@ fn reads_candidates_by_the_whole_grammar(rt: HostRuntime) -> Result<(), Fail> {
         assert_eq!(rt; candidate.version.to_string(alloc)?.as_str(), want);
     }
     Ok(())
-}
-
-#[test]
-fn names_the_first_fault_of_a_candidate_list(rt: HostRuntime) {
-    for (line, cause) in [
-        ("foo", CandidateFault::Shape),
-        ("foo==1", CandidateFault::Shape),
-        ("foo# 1", CandidateFault::Name),
-        ("foo! v", CandidateFault::Name),
-        ("foo v", CandidateFault::Version),
-        ("foo 1.0 x", CandidateFault::Version),
-        ("foo 1.0#c", CandidateFault::Version),
-        ("foo 1 2", CandidateFault::Version),
-    ] {
-        let text = format!(in rt.alloc(); "\nfoo 1\n{line}\nbar\n").expect(&rt, "memory");
-        assert_eq!(rt;
-            Candidates::parse(rt.alloc(), text.as_bytes()).err(),
-            Some(CandidatesError::Line { number: 3, cause }),
-            "at {line}"
-        );
-    }
-}
-
-#[test]
-fn names_where_text_ends(rt: HostRuntime) {
-    let bytes = b"bad line\nfoo 1\n\xff";
-    assert_eq!(rt;
-        Requirements::parse(rt.alloc(), bytes).err(),
-        Some(RequirementsError::NotText { offset: 15 })
-    );
-    assert_eq!(rt;
-        Candidates::parse(rt.alloc(), bytes).err(),
-        Some(CandidatesError::NotText { offset: 15 })
-    );
 }
 
 // Passes whichever allocation fails: none may turn into another answer.

@@ -1,4 +1,4 @@
-use Rattle.std.proofs.Common.{◌≡◌, ◌∙◌, [], ◌∷◌, ap, sym, subst}
+use Rattle.std.proofs.Common.{◌∙◌, [], ◌∷◌, ap, sym, subst}
 use Rattle.version_ranges.specs.Boundaries.{boundary_cmp}
 use Rattle.version_ranges.specs.declared.boundary.Boundary.TheVariants as boundary
 use Rattle.version_ranges.specs.Turns.{Rising}
@@ -20,10 +20,10 @@ returns-clause-made c =
       made,
       λ v. truth v
           ∙ ap
-              (λ text. branch_at text_cmp c.args.negated
-              (by_turns c.args.negated (boundary.At c.args.text ∷ boundary.JustAbove text ∷ []))
-              (v.text c.args.key))
-              c.in_ok-copy.ensures
+          (λ text. branch_at text_cmp c.args.negated
+          (by_turns c.args.negated (boundary.At c.args.text ∷ boundary.JustAbove text ∷ []))
+          (v.text c.args.key))
+          c.in_ok-copy.ensures
           ∙ equal_texts c.args.negated c.args.text (v.text c.args.key),
     ))
     c.texts_tree.ensures.made c.texts_tree.ensures.truth

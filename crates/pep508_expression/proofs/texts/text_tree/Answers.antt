@@ -1,4 +1,4 @@
-use Rattle.std.proofs.Common.{◌≡◌, ◌∙◌, not, ap, sym}
+use Rattle.std.proofs.Common.{◌∙◌, not, ap, sym}
 use Rattle.std.proofs.lemmas.Result.{IfOk-weaker}
 use Rattle.version_ranges.specs.Point.{At, JustAbove, point_cmp}
 use Rattle.version_ranges.specs.Turns.{reaches}
@@ -26,7 +26,7 @@ returns-in-LessEqual-clause-made c =
       is.0,
       λ v. is.1 v
           ∙ ap (λ text. not (reaches (point_cmp text_cmp) (JustAbove text) (v.text c.args.key)))
-              c.in_ok-text.ensures
+          c.in_ok-text.ensures
           ∙ up_to_text c.args.value.now (v.text c.args.key)
           ∙ ap (λ operator. text_holds c.args.key operator c.args.value.now v) (sym c.in-LessEqual.is),
     ))

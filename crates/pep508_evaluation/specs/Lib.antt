@@ -1,0 +1,4 @@
+pub mod Valuations
+pub mod Steps
+pub mod Warned
+pub mod Edges

@@ -1,0 +1,166 @@
+//! What trees answer, as calls on them.
+
+ghost use Rattle.std.specs.Prelude.{◌≡◌, ◌↔◌, IsTrue, IfOk, OnOk, map, option_copied};
+ghost use Rattle.std.specs.List.{FoldsTo};
+ghost use Rattle.pep508_tree.specs.Tree.{Tree};
+ghost use Rattle.pep508_tree.specs.Meaning.{IsTree, holds, diagram_of};
+ghost use Rattle.pep508_evaluation.specs.Valuations.{valuation_of, CanHold, AnswersIn};
+ghost use Rattle.pep508_evaluation.specs.Warned.{warned, TakesKind};
+
+use crate::chosen::evaluate;
+use crate::holding::can_hold;
+use crate::warned::{evaluate_collect_warnings, evaluate_reporter};
+use pep440_version::Version;
+use pep508_environment::MarkerEnvironment;
+use pep508_marker::{MarkerWarningKind, Reporter};
+use pep508_name::ExtraName;
+use pep508_tree::{Interner, MarkerTree};
+use std::alloc::{AllocError, Global};
+
+/// What a marker tree answers for environments and extras (PEP 508, "Environment Markers").
+pub trait MarkerTreeEvaluation {
+    ghost use Rattle.pep508_tree.specs.Tree.{Tree};
+
+    /// The tree.
+    ghost tree: { Self → Tree };
+
+    /// Whether the tree holds in an environment with extras. Takes no memory. Of each node on the way from
+    /// the root it compares as many boundaries as the logarithm of their number, or looks through one text,
+    /// or through the extras.
+    ///
+    /// What is asked of `python_version` is asked of `python_full_version`: the environment's
+    /// `python_version` is not looked at.
+    fn evaluate(
+        self,
+        interner: &Interner,
+        environment: &MarkerEnvironment,
+        extras: &[ExtraName],
+    ) -> bool
+        requires { IsTree interner.now.nodes (tree self) }
+        ensures { result ≡ holds interner.now.nodes (tree self) (valuation_of environment.now extras.now) };
+
+    /// `evaluate` where there is an environment, and else `evaluate_extras`.
+    fn evaluate_optional_environment(
+        self,
+        interner: &Interner,
+        environment: Option<&MarkerEnvironment>,
+        extras: &[ExtraName],
+    ) -> bool
+        requires { IsTree interner.now.nodes (tree self) }
+        ensures { AnswersIn interner.now.nodes (tree self) (option_copied environment.entry) extras.now
+            result };
+
+    /// Whether versions and texts can be such that the tree holds with just these extras, whether or not an
+    /// environment has them all. Takes no memory. Goes at most once over each path from the root through nodes
+    /// of versions, texts and substrings, of which there can be many more than nodes; it ends at the first
+    /// that holds, and recurses as deep as a path is long.
+    fn evaluate_extras(self, interner: &Interner, extras: &[ExtraName]) -> bool
+        requires { IsTree interner.now.nodes (tree self) }
+        ensures { IsTrue result ↔ CanHold interner.now.nodes (tree self) extras.now };
+
+    /// The same; the versions are not looked at.
+    fn evaluate_extras_and_python_version(
+        self,
+        interner: &Interner,
+        extras: &[ExtraName],
+        python_versions: &[Version],
+    ) -> bool
+        requires { IsTree interner.now.nodes (tree self) }
+        ensures { IsTrue result ↔ CanHold interner.now.nodes (tree self) extras.now };
+
+    /// `evaluate`, which tells a reporter first of each old name of PEP 345 in the tree, one warning for each
+    /// path to a node of it, and then of each bound that a text is compared with on the way to the answer. The
+    /// only refusal is want of memory, for a warning's text or the reporter's own. No text is made for a
+    /// reporter that wants none.
+    ///
+    /// Goes over each path from the root, of which there can be many more than nodes, and recurses as deep as
+    /// a path is long.
+    fn evaluate_reporter<R: Reporter>(
+        self,
+        alloc: Global,
+        interner: &Interner,
+        environment: &MarkerEnvironment,
+        extras: &[ExtraName],
+        reporter: &mut R,
+    ) -> Result<bool, AllocError>
+        requires made { IsTree interner.now.nodes (tree self) }
+        requires can { R.can_report reporter.old }
+        ensures answer { IfOk result (λ yes.
+            yes ≡ holds interner.now.nodes (tree self) (valuation_of environment.now extras.now)) }
+        ensures taken { OnOk result (FoldsTo (TakesKind R.takes) reporter.old
+            (warned (valuation_of environment.now extras.now) (diagram_of interner.now.nodes (tree self)))
+            reporter.new) };
+
+    /// `evaluate` with the warnings of `evaluate_reporter`, in order. Takes memory for them.
+    fn evaluate_collect_warnings(
+        self,
+        alloc: Global,
+        interner: &Interner,
+        environment: &MarkerEnvironment,
+        extras: &[ExtraName],
+    ) -> Result<(bool, Vec<(MarkerWarningKind, String)>), AllocError>
+        requires { IsTree interner.now.nodes (tree self) }
+        ensures answer { IfOk result (λ told.
+            told.0 ≡ holds interner.now.nodes (tree self) (valuation_of environment.now extras.now)) }
+        ensures kinds { IfOk result (λ told. map (λ warning. warning.0) told.1.items
+            ≡ warned (valuation_of environment.now extras.now) (diagram_of interner.now.nodes (tree self))) };
+}
+
+impl MarkerTreeEvaluation for MarkerTree {
+    ghost tree = { λ tree. tree };
+
+    fn evaluate(
+        self,
+        interner: &Interner,
+        environment: &MarkerEnvironment,
+        extras: &[ExtraName],
+    ) -> bool {
+        evaluate(self, interner, environment, extras)
+    }
+
+    fn evaluate_optional_environment(
+        self,
+        interner: &Interner,
+        environment: Option<&MarkerEnvironment>,
+        extras: &[ExtraName],
+    ) -> bool {
+        match environment {
+            Some(environment) => evaluate(self, interner, environment, extras),
+            None => can_hold(self, interner, extras),
+        }
+    }
+
+    fn evaluate_extras(self, interner: &Interner, extras: &[ExtraName]) -> bool {
+        can_hold(self, interner, extras)
+    }
+
+    fn evaluate_extras_and_python_version(
+        self,
+        interner: &Interner,
+        extras: &[ExtraName],
+        _python_versions: &[Version],
+    ) -> bool {
+        can_hold(self, interner, extras)
+    }
+
+    fn evaluate_reporter<R: Reporter>(
+        self,
+        alloc: Global,
+        interner: &Interner,
+        environment: &MarkerEnvironment,
+        extras: &[ExtraName],
+        reporter: &mut R,
+    ) -> Result<bool, AllocError> {
+        evaluate_reporter(alloc, self, interner, environment, extras, reporter)
+    }
+
+    fn evaluate_collect_warnings(
+        self,
+        alloc: Global,
+        interner: &Interner,
+        environment: &MarkerEnvironment,
+        extras: &[ExtraName],
+    ) -> Result<(bool, Vec<(MarkerWarningKind, String)>), AllocError> {
+        evaluate_collect_warnings(alloc, self, interner, environment, extras)
+    }
+}

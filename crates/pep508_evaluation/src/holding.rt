@@ -1,0 +1,138 @@
+//! Whether some valuation with just the listed extras makes a tree hold.
+
+ghost use Rattle.std.specs.Prelude.{◌≡◌, ◌≤◌, ◌<◌, ◌↔◌, IsTrue, IfSome, MatchOption, length, map, ◌∷◌, option_map};
+ghost use Rattle.std.specs.List.{slice_get};
+ghost use Rattle.pep508_diagram.specs.Question.{Valuation};
+ghost use Rattle.pep508_tree.specs.Meaning.{Flagged, IsTree, holds};
+ghost use Rattle.pep508_tree.specs.Nodes.{chosen, turned};
+ghost use Rattle.pep508_tree.specs.Roots.{root_of};
+ghost use Rattle.pep508_evaluation.specs.Steps.{AsksNoExtra, GoesPast, children_of};
+ghost use Rattle.pep508_evaluation.specs.Valuations.{HasJust, CanHold};
+
+use crate::chosen::turned;
+use pep508_diagram::Flag;
+use pep508_name::ExtraName;
+use pep508_tree::{Children, Interner, MarkerTree, TreeNode};
+
+/// What stands for the extras under a flag that asks for one.
+fn extra_side(
+    flag: &Flag,
+    set: MarkerTree,
+    unset: MarkerTree,
+    extras: &[ExtraName],
+) -> Option<MarkerTree>
+    ensures { MatchOption result (AsksNoExtra (Flagged flag.now set unset))
+        (λ child. (v : Valuation) → HasJust extras.now v → chosen (Flagged flag.now set unset) v ≡ child) }
+{
+    match flag {
+        Flag::In(_, _) => None,
+        Flag::Contains(_, _) => None,
+        Flag::Extra(name) => {
+            if extras.contains(name) {
+                Some(set)
+            } else {
+                Some(unset)
+            }
+        }
+        Flag::Arbitrary(_) => Some(unset),
+    }
+}
+
+/// The child that stands for the extras, where the tree asks first for an extra.
+fn extra_child(tree: MarkerTree, interner: &Interner, extras: &[ExtraName]) -> Option<MarkerTree>
+    requires { IsTree interner.now.nodes tree }
+    ensures { MatchOption result (IfSome (root_of interner.now.nodes tree) AsksNoExtra)
+        (GoesPast interner.now.nodes extras.now tree) }
+{
+    match tree.node(interner) {
+        TreeNode::Constant(_) => None,
+        TreeNode::Versions(_, _) => None,
+        TreeNode::Texts(_, _) => None,
+        TreeNode::Flagged(flag, set, unset) => extra_side(flag, set, unset, extras),
+    }
+}
+
+/// What is left of a tree once the extras that it asks for first are known.
+fn past_extras(tree: MarkerTree, interner: &Interner, extras: &[ExtraName]) -> MarkerTree
+    requires { IsTree interner.now.nodes tree }
+    ensures made { IsTree interner.now.nodes result }
+    ensures falls { result.place ≤ tree.place }
+    ensures same { (v : Valuation) → HasJust extras.now v →
+        holds interner.now.nodes tree v ≡ holds interner.now.nodes result v }
+    ensures past { IfSome (root_of interner.now.nodes result) AsksNoExtra }
+{
+    let mut tree = tree;
+    while let Some(child) = extra_child(tree, interner, extras) {
+        tree = child;
+    }
+    tree
+}
+
+/// The child between two boundaries, by its place.
+fn child_between<T>(children: Children<T>, index: usize) -> Option<MarkerTree>
+    ensures { result ≡ option_map (turned children.entry.negated)
+        (slice_get (children.entry.first ∷ map (λ branch. branch.child) children.entry.later.now) index) }
+{
+    if index == 0 {
+        return Some(turned(children.first, children.negated));
+    }
+    match children.later.get(index - 1) {
+        Some(branch) => Some(turned(branch.child, children.negated)),
+        None => None,
+    }
+}
+
+/// A child of the node at a tree's root, by its place.
+#[tactic(auto, using(crate::proofs::Choosing::version_child_at, crate::proofs::Choosing::text_child_at))]
+fn child_at(tree: MarkerTree, interner: &Interner, index: usize) -> Option<MarkerTree>
+    requires { IsTree interner.now.nodes tree }
+    ensures { result ≡ slice_get (children_of (root_of interner.now.nodes tree)) index }
+{
+    match tree.node(interner) {
+        TreeNode::Constant(_) => None,
+        TreeNode::Versions(_, children) => child_between(children, index),
+        TreeNode::Texts(_, children) => child_between(children, index),
+        TreeNode::Flagged(_, set, unset) => [set, unset].get(index).copied(),
+    }
+}
+
+/// The same, which was made before the tree; there is none behind the last.
+pub(crate) fn root_child(tree: MarkerTree, interner: &Interner, index: usize) -> Option<MarkerTree>
+    requires { IsTree interner.now.nodes tree }
+    ensures child { result ≡ slice_get (children_of (root_of interner.now.nodes tree)) index }
+    ensures falls { MatchOption result (length (children_of (root_of interner.now.nodes tree)) ≤ index)
+        (λ child. IsTree interner.now.nodes child × (child.place < tree.place)) }
+{
+    interner.are_sound();
+    child_at(tree, interner, index)
+}
+
+/// How many children the node at a tree's root has.
+pub(crate) fn root_child_count(tree: MarkerTree, interner: &Interner) -> usize
+    requires { IsTree interner.now.nodes tree }
+    ensures { result ≡ length (children_of (root_of interner.now.nodes tree)) }
+{
+    match tree.node(interner) {
+        TreeNode::Constant(_) => 0,
+        TreeNode::Versions(_, children) => children.later.len() + 1,
+        TreeNode::Texts(_, children) => children.later.len() + 1,
+        TreeNode::Flagged(_, _, _) => 2,
+    }
+}
+
+/// Whether some valuation with just the listed extras makes a tree hold.
+pub(crate) fn can_hold(tree: MarkerTree, interner: &Interner, extras: &[ExtraName]) -> bool
+    requires { IsTree interner.now.nodes tree }
+    ensures { IsTrue result ↔ CanHold interner.now.nodes tree extras.now }
+{
+    interner.are_sound();
+    let rest = past_extras(tree, interner, extras);
+    for index in 0..root_child_count(rest, interner) {
+        if let Some(child) = root_child(rest, interner, index) {
+            if can_hold(child, interner, extras) {
+                return true;
+            }
+        }
+    }
+    rest.is_true()
+}

@@ -1,0 +1,11 @@
+pub mod Groups
+pub mod Saying
+pub mod Terms
+pub mod SameDiagrams
+pub mod Clauses
+pub mod Simplified
+pub mod SameTerms
+pub mod ReleaseBounds
+pub mod Truth
+pub mod Raisable
+pub mod MarkerText

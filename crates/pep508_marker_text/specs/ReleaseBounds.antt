@@ -1,0 +1,28 @@
+-- Diagrams whose versions are releases of epoch 0 (PEP 440, "Final releases"), as are those of markers that
+-- list no exact versions.
+use Rattle.std.specs.Prelude.{◌<◌, ◌^◌}
+use Rattle.std.specs.List.{AllByRecursion}
+use Rattle.version_ranges.specs.declared.boundary.Boundary.{Boundary}
+use Rattle.version_ranges.specs.declared.boundary.Boundary.TheVariants.{At, JustAbove}
+use Rattle.pep440_rs.specs.Record.{VersionRecord}
+use Rattle.pep440_rs.specs.Bounds.{IsReleaseVersion}
+use Rattle.pep508_diagram.specs.Diagram.{Diagram, Leaf, Test}
+use Rattle.pep508_diagram.specs.Question.{Question, VersionBelow, TextBelow, IsSet}
+
+-- a version of epoch 0 and release numbers alone, each of 64 bits
+abbrev pub IsPlainRelease : VersionRecord → Type 0
+IsPlainRelease version = IsReleaseVersion version × AllByRecursion (λ number. number < 2 ^ 64) version.release
+
+abbrev pub StandsAtRelease : Boundary VersionRecord → Type 0
+StandsAtRelease (At version) = IsPlainRelease version
+StandsAtRelease (JustAbove version) = IsPlainRelease version
+
+abbrev pub AsksOfReleases : Question → Type 0
+AsksOfReleases (VersionBelow key boundary) = StandsAtRelease boundary
+AsksOfReleases (TextBelow key boundary) = Unit {0}
+AsksOfReleases (IsSet flag) = Unit {0}
+
+-- no other version stands in a question of the diagram
+abbrev pub HasReleasesAlone : Diagram Question → Type 0
+HasReleasesAlone (Leaf b) = Unit {0}
+HasReleasesAlone (Test q low high) = AsksOfReleases q × HasReleasesAlone low × HasReleasesAlone high

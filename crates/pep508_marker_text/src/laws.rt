@@ -1,0 +1,60 @@
+//! Laws over the definitions. The functions do nothing: each one's contract is its law.
+ghost use Rattle.std.specs.Prelude.{◌≡◌, ◌≢◌, ◌↔◌, Bool, true, IsTrue, List, ◌∷◌, ◌++◌};
+ghost use Rattle.pep508_marker.specs.Expression.{ExpressionRecord};
+ghost use Rattle.pep508_diagram.specs.Diagram.{Diagram, Leaf};
+ghost use Rattle.pep508_diagram.specs.Question.{Question, Valuation, truth, AreOne, IsCanonical};
+ghost use Rattle.pep508_expression.specs.Expressions.{expression_holds};
+ghost use Rattle.pep508_marker_text.specs.MarkerText.{disjunction};
+ghost use Rattle.pep508_marker_text.specs.Raisable.{AllHavePoints};
+ghost use Rattle.pep508_marker_text.specs.ReleaseBounds.{HasReleasesAlone};
+ghost use Rattle.pep508_marker_text.specs.SameDiagrams.{same_diagram};
+ghost use Rattle.pep508_marker_text.specs.Saying.{Clause};
+ghost use Rattle.pep508_marker_text.specs.SameTerms.{same_term, opposite_term};
+ghost use Rattle.pep508_marker_text.specs.Simplified.{is_needless, is_covered, simplified};
+ghost use Rattle.pep508_marker_text.specs.Truth.{one_holds, IsTruth};
+
+/// A needless term can be left out of its clause: one of the clauses holds where one did before.
+pub fn a_needless_term_can_go()
+    ensures { (truth : ExpressionRecord → Bool) (done later : List Clause) (front behind : Clause)
+        (term : ExpressionRecord) → IsTruth same_term opposite_term truth →
+        is_needless same_term opposite_term (done ++ later) term (front ++ behind) ≡ true →
+        one_holds truth (done ++ (front ++ term ∷ behind) ∷ later)
+        ≡ one_holds truth (done ++ (front ++ behind) ∷ later) }
+{}
+
+/// A clause that another one covers can be left out.
+pub fn a_covered_clause_can_go()
+    ensures { (truth : ExpressionRecord → Bool) (front behind : List Clause) (clause : Clause) →
+        IsTruth same_term opposite_term truth →
+        is_covered same_term opposite_term clause (front ++ behind) ≡ true →
+        one_holds truth (front ++ clause ∷ behind) ≡ one_holds truth (front ++ behind) }
+{}
+
+/// Clauses mean what they mean before they are simplified.
+pub fn simplified_clauses_mean_the_same()
+    ensures { (truth : ExpressionRecord → Bool) (clauses : List Clause) →
+        IsTruth same_term opposite_term truth →
+        one_holds truth (simplified same_term opposite_term clauses) ≡ one_holds truth clauses }
+{}
+
+/// So comparisons, whose truth is one where their numbers can be raised: under each valuation one of the
+/// simplified clauses holds exactly where one of the clauses does.
+pub fn simplified_comparisons_mean_the_same()
+    ensures { (clauses : List Clause) → AllHavePoints clauses → (v : Valuation) →
+        one_holds (λ term. expression_holds term v) (simplified same_term opposite_term clauses)
+        ≡ one_holds (λ term. expression_holds term v) clauses }
+{}
+
+/// Two diagrams are tested as the same exactly where they are one.
+pub fn same_diagrams_are_one()
+    ensures { (a b : Diagram Question) → IsTrue (same_diagram a b) ↔ AreOne a b }
+{}
+
+/// The clauses that are written for a diagram mean it: under each valuation all comparisons of some clause
+/// hold exactly where the diagram does. So for a diagram whose versions are releases of epoch 0; but for what
+/// holds always, for which no clause is written.
+pub fn a_disjunction_means_its_diagram()
+    ensures { (diagram : Diagram Question) → IsCanonical diagram → HasReleasesAlone diagram →
+        diagram ≢ Leaf true → (v : Valuation) →
+        one_holds (λ term. expression_holds term v) (disjunction diagram) ≡ truth diagram v }
+{}

@@ -1,0 +1,98 @@
+//! The answers.
+
+use crate::environment::environment;
+use crate::pairs::pair;
+use crate::reading::{expression, marker, read, refused};
+use crate::told::Told;
+use crate::views::view;
+use pep508_evaluation::MarkerTreeEvaluation;
+use pep508_name::ExtraName;
+use pep508_tree::Interner;
+use serde_json::Value;
+use std::alloc::{AllocError, Global};
+
+/// The answer to a question, `no question` for another form.
+pub fn answer(alloc: Global, environments: &str, question: &str) -> Result<String, AllocError> {
+    let question = match Value::from_str(alloc, question) {
+        Ok(question) => question,
+        Err(error) if error.is_memory() => return Err(AllocError),
+        Err(_) => return String::from_str(alloc, "no question"),
+    };
+    let asked = text_at(&question, 0);
+    let text = text_at(&question, 1);
+    match asked {
+        "marker" => marker(alloc, text),
+        "expression" => expression(alloc, text),
+        "view" => view(alloc, text),
+        "same" | "disjoint" | "negation" => pair(alloc, asked, text, text_at(&question, 2)),
+        "evaluate" => {
+            let extras = extras_from(alloc, &question, 3)?;
+            evaluate(alloc, environments, text, text_at(&question, 2), &extras)
+        }
+        "extras" => {
+            let extras = extras_from(alloc, &question, 2)?;
+            evaluate_extras(alloc, text, &extras)
+        }
+        _ => String::from_str(alloc, "no question"),
+    }
+}
+
+/// The text at a place of a list, empty where there is none.
+fn text_at(question: &Value, place: usize) -> &str {
+    question.get(place).and_then(Value::as_str).unwrap_or("")
+}
+
+/// The extras whose names stand from a place on.
+fn extras_from(
+    alloc: Global,
+    question: &Value,
+    first: usize,
+) -> Result<Vec<ExtraName>, AllocError> {
+    let mut extras = Vec::new(alloc);
+    let Some(texts) = question.as_array() else {
+        return Ok(extras);
+    };
+    for text in texts.iter().skip(first) {
+        if let Ok(extra) = ExtraName::from_str(alloc, text.as_str().unwrap_or("")) {
+            extras.push(extra)?;
+        }
+    }
+    Ok(extras)
+}
+
+/// Whether a marker holds in an environment, with the warnings of its evaluation.
+fn evaluate(
+    alloc: Global,
+    environments: &str,
+    text: &str,
+    name: &str,
+    extras: &[ExtraName],
+) -> Result<String, AllocError> {
+    let Some(environment) = environment(alloc, environments, name)? else {
+        return String::from_str(alloc, "no environment");
+    };
+    let mut interner = Interner::new(alloc);
+    let tree = match read(alloc, &mut interner, text) {
+        Ok(tree) => tree,
+        Err(error) => return refused(alloc, &error),
+    };
+    let mut told = Told::behind(alloc, String::new(alloc));
+    let holds = tree.evaluate_reporter(alloc, &interner, &environment, extras, &mut told)?;
+    if holds != tree.evaluate(&interner, &environment, extras) {
+        return String::from_str(alloc, "two answers");
+    }
+    let warnings = told.into_text();
+    format!(in alloc; "{holds}{warnings}")
+}
+
+/// Whether some environment with just these extras makes a marker hold.
+fn evaluate_extras(alloc: Global, text: &str, extras: &[ExtraName]) -> Result<String, AllocError> {
+    let mut interner = Interner::new(alloc);
+    match read(alloc, &mut interner, text) {
+        Ok(tree) => {
+            let holds = tree.evaluate_extras(&interner, extras);
+            format!(in alloc; "{holds}")
+        }
+        Err(error) => refused(alloc, &error),
+    }
+}

@@ -1,0 +1,25 @@
+//! Answers questions on markers, one a line, whose answers are known from elsewhere.
+//!
+//! A question is a JSON list: what is asked, and the texts that it is asked of. See docs/VECTORS.md.
+#![tactic(auto)]
+
+mod answers;
+mod environment;
+mod pairs;
+mod reading;
+mod told;
+mod views;
+
+use answers::answer;
+use std::{fs, io};
+
+fn main(rt: HostRuntime) -> io::Result<()> {
+    let alloc = rt.alloc();
+    let environments = fs::read_to_string(&rt, "environments.txt")?;
+    let questions = fs::read_to_string(&rt, "vectors.jsonl")?;
+    for question in questions.lines() {
+        let answer = answer(alloc, environments.as_str(), question)?;
+        println!(rt; "{question} {answer}")?;
+    }
+    Ok(())
+}

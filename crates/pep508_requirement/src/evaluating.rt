@@ -1,0 +1,101 @@
+//! What requirements answer for environments and extras.
+
+ghost use Rattle.std.specs.Prelude.{◌≡◌, ◌↔◌, IsTrue, IfOk, map, option_copied};
+ghost use Rattle.pep508_tree.specs.Meaning.{IsTree, holds, diagram_of};
+ghost use Rattle.pep508_evaluation.specs.Valuations.{valuation_of, CanHold, AnswersIn};
+ghost use Rattle.pep508_evaluation.specs.Warned.{warned};
+
+use crate::{Requirement, UnnamedRequirement};
+use pep440_rs::Version;
+use pep508_environment::MarkerEnvironment;
+use pep508_evaluation::MarkerTreeEvaluation;
+use pep508_marker::MarkerWarningKind;
+use pep508_name::ExtraName;
+use pep508_tree::Interner;
+use pep508_url::{Pep508Url, UnnamedRequirementUrl};
+use std::alloc::{AllocError, Global};
+
+impl<T: Pep508Url> Requirement<T> {
+    /// Whether the requirement is meant for an environment with extras, by its marker. Takes no memory, and
+    /// costs what `MarkerTree::evaluate` does.
+    pub fn evaluate_markers(
+        &self,
+        interner: &Interner,
+        environment: &MarkerEnvironment,
+        extras: &[ExtraName],
+    ) -> bool
+        requires { IsTree interner.now.nodes self.now.marker }
+        ensures { result ≡ holds interner.now.nodes self.now.marker
+            (valuation_of environment.now extras.now) }
+    {
+        self.marker.evaluate(interner, environment, extras)
+    }
+
+    /// Whether some environment has the requirement meant with just these extras; the versions are not looked
+    /// at. Takes no memory, and costs what `MarkerTree::evaluate_extras` does.
+    pub fn evaluate_extras_and_python_version(
+        &self,
+        interner: &Interner,
+        extras: &[ExtraName],
+        python_versions: &[Version],
+    ) -> bool
+        requires { IsTree interner.now.nodes self.now.marker }
+        ensures { IsTrue result ↔ CanHold interner.now.nodes self.now.marker extras.now }
+    {
+        self.marker
+            .evaluate_extras_and_python_version(interner, extras, python_versions)
+    }
+
+    /// `evaluate_markers`, and the warnings of the evaluation in their order. Takes memory for them, and costs
+    /// what `MarkerTree::evaluate_collect_warnings` does.
+    pub fn evaluate_markers_and_report(
+        &self,
+        alloc: Global,
+        interner: &Interner,
+        environment: &MarkerEnvironment,
+        extras: &[ExtraName],
+    ) -> Result<(bool, Vec<(MarkerWarningKind, String)>), AllocError>
+        requires { IsTree interner.now.nodes self.now.marker }
+        ensures answer { IfOk result (λ told.
+            told.0 ≡ holds interner.now.nodes self.now.marker (valuation_of environment.now extras.now)) }
+        ensures kinds { IfOk result (λ told. map (λ warning. warning.0) told.1.items
+            ≡ warned (valuation_of environment.now extras.now)
+            (diagram_of interner.now.nodes self.now.marker)) }
+    {
+        self.marker
+            .evaluate_collect_warnings(alloc, interner, environment, extras)
+    }
+}
+
+impl<Url: UnnamedRequirementUrl> UnnamedRequirement<Url> {
+    /// Whether the requirement is meant for an environment with extras, by its marker. Takes no memory, and
+    /// costs what `MarkerTree::evaluate` does.
+    pub fn evaluate_markers(
+        &self,
+        interner: &Interner,
+        environment: &MarkerEnvironment,
+        extras: &[ExtraName],
+    ) -> bool
+        requires { IsTree interner.now.nodes self.now.marker }
+        ensures { result ≡ holds interner.now.nodes self.now.marker
+            (valuation_of environment.now extras.now) }
+    {
+        self.marker.evaluate(interner, environment, extras)
+    }
+
+    /// The same where there is an environment, and else whether some environment has the requirement meant with
+    /// just these extras. Takes no memory.
+    pub fn evaluate_optional_environment(
+        &self,
+        interner: &Interner,
+        environment: Option<&MarkerEnvironment>,
+        extras: &[ExtraName],
+    ) -> bool
+        requires { IsTree interner.now.nodes self.now.marker }
+        ensures { AnswersIn interner.now.nodes self.now.marker (option_copied environment.entry) extras.now
+            result }
+    {
+        self.marker
+            .evaluate_optional_environment(interner, environment, extras)
+    }
+}

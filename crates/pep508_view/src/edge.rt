@@ -1,0 +1,12 @@
+//! What stands between two neighbouring boundaries of a node.
+
+use pep508_tree::MarkerTree;
+use std::ops::Bound;
+
+/// The subtree that stands between two bounds of a variable, which are borrowed values: `&Version` or `&str`.
+#[derive(Clone, Copy)]
+pub struct Edge<B> {
+    pub lower: Bound<B>,
+    pub upper: Bound<B>,
+    pub tree: MarkerTree,
+}

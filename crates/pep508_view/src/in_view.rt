@@ -1,0 +1,84 @@
+//! Views of trees that first ask whether a key's text stands in another text.
+
+ghost use Rattle.std.specs.Prelude.{◌≡◌, [], ◌∷◌, true, false, cond};
+ghost use Rattle.std.specs.Ordering.{on};
+ghost use Rattle.std.specs.Cmp.{on_equiv, partial_equiv_from_equiv};
+ghost use Rattle.pep508_view.specs.Sameness.{tree_eq};
+ghost use Rattle.pep508_view.specs.SamenessLaws.{tree_eq_equiv};
+
+use pep508_diagram::MarkerText;
+use pep508_marker::MarkerValueString;
+use pep508_tree::MarkerTree;
+
+/// A view of a tree in which is asked first whether a key's text stands in another text, as in
+/// `os_name in 'posix'`. It borrows the interner, takes no memory, and equals the views of the same tree.
+#[derive(Clone, Copy)]
+pub struct InMarkerTree<'a> {
+    tree: MarkerTree,
+    key: MarkerValueString,
+    text: &'a MarkerText,
+    set: MarkerTree,
+    unset: MarkerTree,
+}
+
+impl PartialEq for InMarkerTree<'_> {
+    ghost eq = { on (λ view. view.tree) tree_eq };
+
+    ghost laws = { partial_equiv_from_equiv (on_equiv (λ view. view.tree) tree_eq_equiv) };
+
+    fn eq(&self, other: &Self) -> bool {
+        self.tree == other.tree
+    }
+}
+
+impl Eq for InMarkerTree<'_> {
+    ghost laws = { on_equiv (λ view. view.tree) tree_eq_equiv };
+}
+
+impl<'a> InMarkerTree<'a> {
+    pub(crate) fn new(
+        tree: MarkerTree,
+        key: MarkerValueString,
+        text: &'a MarkerText,
+        set: MarkerTree,
+        unset: MarkerTree,
+    ) -> InMarkerTree<'a>
+        ensures { result ≡ record { tree = tree; key = key; text = text.entry; set = set; unset = unset } }
+    {
+        InMarkerTree {
+            tree,
+            key,
+            text,
+            set,
+            unset,
+        }
+    }
+
+    /// The key.
+    pub fn key(&self) -> MarkerValueString
+        ensures { result ≡ self.now.key }
+    {
+        self.key
+    }
+
+    /// The text in which the key's text is to stand.
+    pub fn value(&self) -> &'a str
+        ensures { result.now ≡ self.now.text.now }
+    {
+        self.text.as_str()
+    }
+
+    /// The subtree where that is so, and where it is not, in this order.
+    pub fn children(&self) -> [(bool, MarkerTree); 2]
+        ensures { result ≡ (true, self.now.set) ∷ (false, self.now.unset) ∷ [] }
+    {
+        [(true, self.set), (false, self.unset)]
+    }
+
+    /// The subtree where that is so, or where it is not.
+    pub fn edge(&self, value: bool) -> MarkerTree
+        ensures { result ≡ cond value self.now.set self.now.unset }
+    {
+        if value { self.set } else { self.unset }
+    }
+}

@@ -1,0 +1,26 @@
+//! Views of marker trees (PEP 508, "Environment Markers"): what a tree asks first, and which subtree stands
+//! for each answer, without a copy of the tree.
+//!
+//! A tree is read one variable at a time: `MarkerTreeView::kind` tells the variable, and a view leads from each
+//! of its edges, an interval of versions or texts or one of two truths, to a subtree that asks for later
+//! variables only. Contracts see a view as the node at the tree's root, with the tree's sign on its children.
+#![tactic(auto)]
+
+mod contains_view;
+mod edge;
+mod edges;
+mod extra_view;
+mod in_view;
+mod kind;
+pub mod laws;
+mod text_view;
+mod version_view;
+
+pub use contains_view::ContainsMarkerTree;
+pub use edge::Edge;
+pub use edges::{Edges, TextEdges};
+pub use extra_view::{ExtraMarkerTree, MarkerExtra};
+pub use in_view::InMarkerTree;
+pub use kind::{MarkerTreeKind, MarkerTreeView};
+pub use text_view::StringMarkerTree;
+pub use version_view::VersionMarkerTree;
