@@ -61,7 +61,7 @@ next_words word other behind cs h =
 pub before_or : (cs behind : List ℕ) → IsJoint Or cs behind → is_next And cs ≡ false
 before_or cs behind h = next_words Or And behind cs h
 
-joint_found : (word : Connective) (middle r : List ℕ) → IsSpaced middle r → is_next word r ≡ true
+pub joint_found : (word : Connective) (middle r : List ℕ) → IsSpaced middle r → is_next word r ≡ true
     → IsJoint word middle (behind_run r)
 joint_found word middle r s h =
     let k = cut_found is_whitespace (skip_leading_whitespace r) in
@@ -77,7 +77,7 @@ joint_found word middle r s h =
       ends = ends_before is_whitespace k.rest k.ends;
     })
 
-joint_length : (word : Connective) (middle behind : List ℕ) → IsJoint word middle behind → length behind < length middle
+pub joint_length : (word : Connective) (middle behind : List ℕ) → IsJoint word middle behind → length behind < length middle
 joint_length word middle behind h =
     let a = spaced_length middle (word_of word ++ behind) h.spaced in
     let b = word_length word behind in

@@ -7,3 +7,8 @@ pub mod Joined
 pub mod Formulas
 pub mod Markers
 pub mod LeftOut
+pub mod Kept
+pub mod ChainTrees
+pub mod Chains
+pub mod ComparedTrees
+pub mod MarkerTrees

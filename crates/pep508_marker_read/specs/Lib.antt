@@ -5,3 +5,5 @@ pub mod Formula
 pub mod MarkerReading
 pub mod MarkerText
 pub mod MarkerOutcome
+pub mod TreeReading
+pub mod TextOutcome

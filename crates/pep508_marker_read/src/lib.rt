@@ -1,4 +1,13 @@
 //! Reading environment markers (PEP 508, "Environment Markers").
 #![tactic(auto)]
 
+mod chain;
+mod compared;
+mod join;
 pub mod laws;
+mod marker;
+mod parse;
+mod word;
+
+pub use marker::read_marker;
+pub use parse::MarkerTreeReading;

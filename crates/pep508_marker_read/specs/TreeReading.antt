@@ -1,0 +1,94 @@
+-- What the readers of a marker's pieces return, by what there is to read: trees of what is not left out.
+use Rattle.std.specs.Prelude.{◌≡◌, ℕ, suc, zero, Bool, ◌&&◌, ◌||◌, List, [], ◌∷◌, ◌++◌, map, option_map, Option, Some, None, IfSome, Result, Ok, Err}
+use Rattle.std.specs.List.{AllByRecursion}
+use Rattle.pep508_marker.specs.Warnings.{Warning}
+use Rattle.pep508_marker.specs.Expression.{ExpressionRecord}
+use Rattle.pep508_diagram.specs.Question.{Valuation}
+use Rattle.pep508_tree.specs.Tree.{Tree}
+use Rattle.pep508_tree.specs.Meaning.{NodeRecord, IsTree, holds}
+use Rattle.pep508_expression.specs.Expressions.{expression_holds}
+use Rattle.pep508_error.specs.Cursors.{IsBehind}
+use Rattle.pep508_error.specs.declared.cursor.Cursor.{Cursor}
+use Rattle.pep508_error.specs.declared.refusal.Refusal.{Refusal}
+use Rattle.pep508_marker_comparison.specs.SideReading.{Reading, TooDeep, ◌>>=◌}
+use Rattle.pep508_marker_comparison.specs.Outcome.{Tells, IsWarned, IsOf, behind}
+use Rattle.pep508_marker_read.specs.declared.word.Word.{Word}
+use Rattle.pep508_marker_read.specs.declared.word.Word.TheVariants as words
+use Rattle.pep508_marker_read.specs.Formula.{Formula, joined, truth_in}
+use Rattle.pep508_marker_read.specs.MarkerReading.{Marker, Connective, And, Or, closed, part_at, joined_at, formula_at}
+
+-- ---- what there is to read
+
+-- what stands in brackets, where brackets nest at most so deep
+abbrev pub inner_at : ℕ → List ℕ → Reading Marker
+inner_at zero = λ inside. Err TooDeep
+inner_at (suc depth) = formula_at depth
+
+-- what stands in brackets, and the closing one
+abbrev pub enclosed_at : ℕ → List ℕ → Reading Marker
+enclosed_at depth cs = inner_at depth cs >>= closed
+
+-- what a word joins
+abbrev pub piece_at : Connective → ℕ → List ℕ → Reading Marker
+piece_at And depth = part_at (inner_at depth)
+piece_at Or depth = joined_at And (part_at (inner_at depth))
+
+-- pieces with the word between each two
+abbrev pub chain_at : Connective → ℕ → List ℕ → Reading Marker
+chain_at word depth = joined_at word (piece_at word depth)
+
+abbrev pub connective : Word → Connective
+connective words.And = And
+connective words.Or = Or
+
+-- ---- trees
+
+abbrev pub joins : Connective → Bool → Bool → Bool
+joins And = λ a b. a && b
+joins Or = λ a b. a || b
+
+-- the truth of what is said with the word between each two, if anything is
+abbrev pub chain_truth : Connective → List Bool → Option Bool
+chain_truth word [] = None
+chain_truth word (b ∷ bs) = joined (joins word) (Some b) (chain_truth word bs)
+
+-- a tree that holds where the formula does, and none where all of it is left out
+pub record IsPartTree (nodes : List NodeRecord) (tree : Option Tree) (formula : Formula ExpressionRecord)
+    : Type 0 where
+  pub made : IfSome tree (IsTree nodes)
+  pub truth : (v : Valuation)
+      → option_map (λ t. holds nodes t v) tree ≡ truth_in (λ e. expression_holds e v) formula
+
+-- the trees, with the word between each two, hold where the formula does; none where all of it is left out
+pub record AreChainTrees (word : Connective) (nodes : List NodeRecord) (trees : List Tree)
+    (formula : Formula ExpressionRecord) : Type 0 where
+  pub made : AllByRecursion (IsTree nodes) trees
+  pub truth : (v : Valuation)
+      → chain_truth word (map (λ t. holds nodes t v) trees) ≡ truth_in (λ e. expression_holds e v) formula
+
+-- ---- what is returned
+
+-- what was returned is the reading: a tree of what is said, and the place behind it; or a refusal for its reason
+abbrev pub ReadsPart : {R : Type 0} → (R → Warning → R → Type 0) → R → R → List NodeRecord
+    → Result (Option Tree × Cursor) Refusal → Reading Marker → Type 0
+ReadsPart takes old new nodes (Ok found) reading =
+    (marker : Marker) × (reading ≡ Ok (marker, behind found.1)) × IsPartTree nodes found.0 marker.formula
+    × IsWarned takes old new marker.warned
+ReadsPart takes old new nodes (Err refusal) reading = Tells refusal.kind reading
+
+abbrev pub listed : {A : Type 0} → Option A → List A
+listed None = []
+listed (Some a) = a ∷ []
+
+-- the same, where the tree was put behind those of earlier pieces
+abbrev pub ReadsPiece : {R : Type 0} → (R → Warning → R → Type 0) → R → R → List NodeRecord → List Tree → List Tree
+    → Result Cursor Refusal → Reading Marker → Type 0
+ReadsPiece takes old new nodes earlier trees (Ok later) reading =
+    (marker : Marker) × (tree : Option Tree) × (reading ≡ Ok (marker, behind later)) × (trees ≡ earlier ++ listed tree)
+    × IsPartTree nodes tree marker.formula × IsWarned takes old new marker.warned
+ReadsPiece takes old new nodes earlier trees (Err refusal) reading = Tells refusal.kind reading
+
+-- a place that was returned is behind this one in the same text, and what a refusal shows is of that text
+abbrev pub StaysAt : Cursor → Result Cursor Refusal → Type 0
+StaysAt cursor (Ok later) = IsBehind cursor later
+StaysAt cursor (Err refusal) = IsOf cursor refusal

@@ -1,0 +1,52 @@
+//! Reading markers.
+
+ghost use Rattle.std.specs.Prelude.{◌≡◌, chars, IfErr};
+ghost use Rattle.pep508_error.specs.Cursors.{rest_of};
+ghost use Rattle.pep508_tree.specs.Meaning.{Extends};
+ghost use Rattle.pep508_marker_comparison.specs.Outcome.{IsOf};
+ghost use Rattle.pep508_marker_read.specs.MarkerReading.{marker_at};
+ghost use Rattle.pep508_marker_read.specs.MarkerOutcome.{ReadsMarker};
+
+use crate::chain::read_chain;
+use crate::word::Word;
+use pep508_error::{Cursor, Refusal};
+use pep508_marker::Reporter;
+use pep508_marker_comparison::{malformed, refuse_rest};
+use pep508_tree::{Interner, MarkerTree};
+use std::alloc::Global;
+
+/// How deep brackets may nest.
+const DEEPEST: usize = 256;
+
+/// The tree of the marker that stands at a place, up to the text's end (PEP 508, "Environment Markers"). A
+/// comparison without a meaning is passed over; where all are, the marker holds. The warnings are reported in
+/// their order, those of a text that is refused behind them too.
+///
+/// Brackets nest at most 256 deep. Linear in the text but for joining the trees of comparisons: those of a
+/// chain of `and` or `or` are joined by halves. None of that counts as one of the interner's conjunctions.
+/// Takes memory for the trees, for the texts of the warnings that are wanted, and for a refusal, which shows
+/// the part at fault.
+#[tactic(auto, unfolding(crate::specs::MarkerReading::marker_at))]
+pub fn read_marker<'a, R: Reporter>(
+    alloc: Global,
+    interner: &mut Interner,
+    start: Cursor<'a>,
+    reporter: &mut R,
+) -> Result<MarkerTree, Refusal<'a>>
+    requires { R.can_report reporter.old }
+    ensures read { ReadsMarker R.takes reporter.old reporter.new interner.new.nodes result
+        (marker_at (chars (rest_of start.entry))) }
+    ensures of { IfErr result (IsOf start.entry) }
+    ensures again { R.can_report reporter.new }
+    ensures keeps { Extends interner.old.nodes interner.new.nodes }
+    ensures counts { interner.new.conjunctions ≡ interner.old.conjunctions }
+{
+    let (tree, later) = read_chain(alloc, interner, Word::Or, DEEPEST, start, reporter)?;
+    let end = later.after_whitespace();
+    match end.peek() {
+        None => Ok(tree.unwrap_or(MarkerTree::TRUE)),
+        Some(c) => Err(refuse_rest(end, malformed(format!(in alloc;
+            "Unexpected character '{c}', expected 'and', 'or' or end of input"
+        )))),
+    }
+}
