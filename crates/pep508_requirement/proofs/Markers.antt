@@ -1,6 +1,6 @@
 -- What the steps of reading the marker behind a front answer.
-use Rattle.std.proofs.Common.{◌≡◌, ◌≢◌, ℕ, ◌==◌, Bool, true, false, cond, if◌then◌else◌, List, [], ◌∷◌, ◌++◌, Result, Ok, Err}
-use Rattle.std.proofs.Common.{refl, ap, sym, subst, ◌∙◌, arith}
+use Rattle.std.proofs.Common.{◌≡◌, ℕ, ◌==◌, Bool, true, false, if◌then◌else◌, List, [], ◌∷◌, Result, Ok, Err}
+use Rattle.std.proofs.Common.{refl, ap, sym, subst, arith}
 use Rattle.std.proofs.lemmas.List.{append-nil}
 use Rattle.pep508_marker.specs.Warnings.{Warning}
 use Rattle.pep508_diagram.specs.Question.{truth}
@@ -10,8 +10,8 @@ use Rattle.pep508_tree.proofs.Diagrams.{diagram_top}
 use Rattle.pep508_error.specs.declared.refusal.Refusal.{Refusal}
 use Rattle.pep508_error.specs.declared.refusal.RefusalKind.{RefusalKind}
 use Rattle.pep508_error.specs.declared.refusal.RefusalKind.TheVariants as kinds
-use Rattle.pep508_marker_read.specs.SideReading.{Refused, Malformed}
-use Rattle.pep508_marker_read.specs.MarkerReading.{Marker, marker_at}
+use Rattle.pep508_marker_read.specs.SideReading.{Malformed}
+use Rattle.pep508_marker_read.specs.MarkerReading.{marker_at}
 use Rattle.pep508_marker_read.specs.Outcome.{Fits, Tells}
 use Rattle.pep508_marker_read.specs.MarkerOutcome.{IsTreeOf, ReadsMarker}
 use Rattle.pep508_requirement_text.specs.FrontOutcome.{IsPlain}

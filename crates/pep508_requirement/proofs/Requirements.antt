@@ -1,6 +1,6 @@
 -- A requirement is read where one is written, and only there.
-use Rattle.std.proofs.Common.{◌≡◌, ◌⊎◌, ℕ, Bool, List, ◌++◌, Option, Result, Ok, Err, inl, inr}
-use Rattle.std.proofs.Common.{refl, ap, sym, subst, ◌∙◌}
+use Rattle.std.proofs.Common.{◌≡◌, ℕ, Bool, List, Result, Ok, Err, inl, inr}
+use Rattle.std.proofs.Common.{ap, sym, ◌∙◌}
 use Rattle.std.specs.Str.{skip_leading_whitespace}
 use Rattle.pep508_url.specs.Vars.{Variables}
 use Rattle.pep508_tree.specs.Meaning.{NodeRecord}
@@ -14,7 +14,7 @@ use Rattle.pep508_requirement_text.specs.FrontReading.{Front, Refused, Reading, 
 use Rattle.pep508_requirement_text.specs.FrontText.{IsFrontText}
 use Rattle.pep508_requirement.specs.MarkerBehind.{marker_behind}
 use Rattle.pep508_requirement.specs.RequirementText.{IsMarkedText, IsOfText}
-use Rattle.pep508_requirement.specs.RequirementReading.{AsksFor, IsReadUpTo, IsRead, IsFrontRefused, IsMarkerRefused}
+use Rattle.pep508_requirement.specs.RequirementReading.{AsksFor, IsRead, IsFrontRefused, IsMarkerRefused}
 use Rattle.pep508_requirement.specs.RequirementReading.{RefusedBy}
 use Rattle.pep508_requirement.specs.declared.requirement.Requirement.{Requirement}
 use Rattle.pep508_requirement.proofs.Behind.{FoundLaw, AgainLaw, marker_same, behind_found, behind_again}

@@ -1,6 +1,6 @@
 -- A requirement without a name is read where one is written, and only there.
-use Rattle.std.proofs.Common.{◌≡◌, ◌⊎◌, ℕ, Bool, List, ◌++◌, Result, Ok, Err, inl, inr}
-use Rattle.std.proofs.Common.{refl, ap, sym, subst, ◌∙◌}
+use Rattle.std.proofs.Common.{◌≡◌, ℕ, Bool, List, Result, Ok, Err, inl, inr}
+use Rattle.std.proofs.Common.{ap, sym, ◌∙◌}
 use Rattle.std.specs.Str.{skip_leading_whitespace}
 use Rattle.pep508_tree.specs.Meaning.{NodeRecord}
 use Rattle.pep508_error.specs.declared.refusal.RefusalKind.{RefusalKind}

@@ -1,6 +1,5 @@
 //! What is left of a text behind a requirement and is no marker.
 
-ghost use Rattle.std.specs.Prelude.{◌≡◌};
 ghost use Rattle.pep508_error.specs.Cursors.{IsBehind};
 ghost use Rattle.pep508_requirement_text.specs.FrontOutcome.{IsOf, IsPlain};
 

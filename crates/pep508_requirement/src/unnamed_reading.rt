@@ -1,7 +1,7 @@
 //! Reading requirements without a name.
 
 ghost use Rattle.std.specs.Prelude.{◌≡◌, chars, IfSome, IfErr, None, OnOk, option_copied};
-ghost use Rattle.std.specs.Str.{skip_leading_whitespace, IsCharBoundary};
+ghost use Rattle.std.specs.Str.{skip_leading_whitespace};
 ghost use Rattle.pep508_url.specs.Vars.{IsAbsolute};
 ghost use Rattle.pep508_error.specs.Cursors.{rest_of};
 ghost use Rattle.pep508_tree.specs.Meaning.{Extends};
