@@ -6,7 +6,7 @@ use crate::reading::{expression, marker, read, refused};
 use crate::told::Told;
 use crate::views::view;
 use pep508_evaluation::MarkerTreeEvaluation;
-use pep508_name::ExtraName;
+use pep508_name::{ExtraName, InvalidNameError};
 use pep508_tree::Interner;
 use serde_json::Value;
 use std::alloc::{AllocError, Global};
@@ -53,8 +53,10 @@ fn extras_from(
         return Ok(extras);
     };
     for text in texts.iter().skip(first) {
-        if let Ok(extra) = ExtraName::from_str(alloc, text.as_str().unwrap_or("")) {
-            extras.push(extra)?;
+        match ExtraName::from_str(alloc, text.as_str().unwrap_or("")) {
+            Ok(extra) => extras.push(extra)?,
+            Err(InvalidNameError::Memory) => return Err(AllocError),
+            Err(InvalidNameError::InvalidName(_)) => (),
         }
     }
     Ok(extras)
