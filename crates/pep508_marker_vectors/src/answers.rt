@@ -42,6 +42,15 @@ fn text_at(question: &Value, place: usize) -> &str {
     question.get(place).and_then(Value::as_str).unwrap_or("")
 }
 
+/// The extra of a name, none of a text that is no name.
+fn extra_of(alloc: Global, text: &str) -> Result<Option<ExtraName>, AllocError> {
+    match ExtraName::from_str(alloc, text) {
+        Ok(extra) => Ok(Some(extra)),
+        Err(InvalidNameError::Memory) => Err(AllocError),
+        Err(InvalidNameError::InvalidName(_)) => Ok(None),
+    }
+}
+
 /// The extras whose names stand from a place on.
 fn extras_from(
     alloc: Global,
@@ -53,10 +62,8 @@ fn extras_from(
         return Ok(extras);
     };
     for text in texts.iter().skip(first) {
-        match ExtraName::from_str(alloc, text.as_str().unwrap_or("")) {
-            Ok(extra) => extras.push(extra)?,
-            Err(InvalidNameError::Memory) => return Err(AllocError),
-            Err(InvalidNameError::InvalidName(_)) => (),
+        if let Some(extra) = extra_of(alloc, text.as_str().unwrap_or(""))? {
+            extras.push(extra)?;
         }
     }
     Ok(extras)
