@@ -1,9 +1,6 @@
-//! Views of marker trees (PEP 508, "Environment Markers"): what a tree asks first, and which subtree stands
-//! for each answer, without a copy of the tree.
-//!
-//! A tree is read one variable at a time: `MarkerTreeView::kind` tells the variable, and a view leads from each
-//! of its edges, an interval of versions or texts or one of two truths, to a subtree that asks for later
-//! variables only. Contracts see a view as the node at the tree's root, with the tree's sign on its children.
+//! Views of marker trees (PEP 508, "Environment Markers"), which are read one variable at a time:
+//! `MarkerTreeView::kind` tells the variable, and a view leads from each of its edges, an interval of versions or
+//! texts or one of two truths, to a subtree. Contracts see a view as the node at the tree's root.
 #![tactic(auto)]
 
 mod contains_view;
