@@ -79,7 +79,7 @@ module _ (d : Diagram Question) (c : IsCanonical d) (r : HasReleasesAlone d) (so
       one_holds (λ term. expression_holds term v) (disjunction d) ≡ truth d v
   disjunction_means v =
       let kept : filter has_some (clauses_of d) ≡ clauses_of d = none_empty (clauses_of d) has_no_empty in
-      let fits : AllFit HasPoints (clauses_of d) = (walk_fits d r).0 in
+      let fits : AllFit HasPoints (clauses_of d) = walk_fits d r in
       ap (λ cs. one_holds (λ term. expression_holds term v) (simplified same_term opposite_term cs)) kept
       ∙ comparisons_keep (clauses_of d) fits v ∙ sym (same_meaning v (clauses_of d) fits)
       ∙ clauses_mean (total_holds v) v (terms_speak v) d c r

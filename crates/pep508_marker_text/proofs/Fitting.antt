@@ -2,6 +2,7 @@
 use Rattle.std.proofs.Common.{◌≡◌, ◌&&◌, ◌||◌, ℕ, ◌==◌, Bool, true, false, if◌then◌else◌, cond, List, [], ◌∷◌, ◌++◌, map, Option, Some, None, refl, sym, ap, subst, ◌∙◌}
 use Rattle.std.specs.List.{AllByRecursion, flat_map, list_all, list_any}
 use Rattle.std.specs.Option.{option_or, option_map, is_some}
+use Rattle.std.specs.Cmp.{unsigned_Decides}
 use Rattle.std.specs.Ordering.{eq_by_cmp}
 use Rattle.std.specs.declared.ops.Bound.{Bound}
 use Rattle.std.specs.declared.ops.Bound.TheVariants.{Included, Excluded, Unbounded}
@@ -25,10 +26,11 @@ use Rattle.pep508_diagram.specs.declared.variable.Flag.TheVariants as flag
 use Rattle.pep508_diagram.specs.Branches.{AllBranches}
 use Rattle.pep508_diagram.specs.Diagram.{Diagram, Leaf, Test}
 use Rattle.pep508_diagram.specs.Question.{Question, VersionBelow, TextBelow, IsSet, version_rank}
+use Rattle.pep508_diagram.proofs.Places.{text_keys_same}
 use Rattle.pep508_expression.specs.Expressions.{has_points}
-use Rattle.pep508_marker_text.specs.Clauses.{Part, Edges, NoEdges, Versions, Texts, Flagged, Walk, versions_from, texts_from, followed_by, same_part, group_clauses, grouped_clauses, walk_of}
+use Rattle.pep508_marker_text.specs.Clauses.{Part, Edges, NoEdges, Versions, Texts, Flagged, Walk, versions_from, texts_from, followed_by, same_part, group_clauses, grouped_clauses, walk_of, clauses_of}
 use Rattle.pep508_marker_text.specs.Groups.{firsts, standing, points_where}
-use Rattle.pep508_marker_text.specs.ReleaseBounds.{IsPlainRelease, StandsAtRelease, HasReleasesAlone}
+use Rattle.pep508_marker_text.specs.ReleaseBounds.{IsPlainRelease, AsksOfReleases, HasReleasesAlone}
 use Rattle.pep508_marker_text.specs.Saying.{Clause, Saying, left_out, star_out, exclusion, lower_terms, upper_terms, single_or_bounds, interval_clause, one_or_intervals, set_clauses}
 use Rattle.pep508_marker_text.specs.Simplified.{sifted, is_needless, shortened_behind, is_covered, simplified}
 use Rattle.pep508_marker_text.specs.Terms.{minor_between, version_term, version_saying, text_saying, set_term, unset_term}
@@ -44,8 +46,9 @@ pub record Fits {T : Type 0} (good : T → Type 0) (P : ExpressionRecord → Typ
   pub above_fits : (v : T) → good v → P (say.above v)
   pub at_most_fits : (v : T) → good v → P (say.at_most v)
   pub below_fits : (v : T) → good v → P (say.below v)
-  pub star_fits : (v w : T) → good w → (term : ExpressionRecord) → say.star v w ≡ Some term → P term
-  pub no_star_fits : (v w : T) → good w → (term : ExpressionRecord) → say.no_star v w ≡ Some term → P term
+  pub star_fits : (v w : T) → good v → good w → (term : ExpressionRecord) → say.star v w ≡ Some term → P term
+  pub no_star_fits : (v w : T) → good v → good w → (term : ExpressionRecord) → say.no_star v w ≡ Some term →
+      P term
 
 abbrev pub AllFit : (ExpressionRecord → Type 0) → List Clause → Type 0
 AllFit P = AllByRecursion (AllByRecursion P)
@@ -78,7 +81,7 @@ module _ {T : Type 0} {good : T → Type 0} {P : ExpressionRecord → Type 0} {s
 
   one_fits : (v w : T) (term : Option ExpressionRecord) → good v → good w → say.star v w ≡ term →
       AllByRecursion P (single_or_bounds say term (Included v) (Excluded w))
-  one_fits v w (Some term) h k same = (f.star_fits v w k term same, tt)
+  one_fits v w (Some term) h k same = (f.star_fits v w h k term same, tt)
   one_fits v w None h k same = bounds_fit (Included v, Excluded w) (h, k)
 
   interval_fits : (lower upper : Bound T) → GoodBound good lower → GoodBound good upper →
@@ -99,16 +102,16 @@ module _ {T : Type 0} {good : T → Type 0} {P : ExpressionRecord → Type 0} {s
   differ_fit [] h = tt
   differ_fit (v ∷ vs) h = (f.differs_fits v h.0, differ_fit vs h.1)
 
-  star_out_fits : (v w : T) (clause : Clause) (term : Option ExpressionRecord) → good w →
+  star_out_fits : (v w : T) (clause : Clause) (term : Option ExpressionRecord) → good v → good w →
       say.no_star v w ≡ term → option_map (λ t. t ∷ []) term ≡ Some clause → AllByRecursion P clause
-  star_out_fits v w clause None h same e = absurd (cc)
-  star_out_fits v w clause (Some term) h same e =
+  star_out_fits v w clause None h k same e = absurd (cc)
+  star_out_fits v w clause (Some term) h k same e =
       let is : term ∷ [] ≡ clause = cc in
-      subst (AllByRecursion P) is (f.no_star_fits v w h term same, tt)
+      subst (AllByRecursion P) is (f.no_star_fits v w h k term same, tt)
 
   two_out_fit : (turns : List (Point T)) (clause : Clause) → AllByRecursion (GoodPoint good) turns →
       star_out say turns ≡ Some clause → AllByRecursion P clause
-  two_out_fit (At v ∷ At w ∷ []) clause h e = star_out_fits v w clause (say.no_star v w) h.1.0 refl e
+  two_out_fit (At v ∷ At w ∷ []) clause h e = star_out_fits v w clause (say.no_star v w) h.0 h.1.0 refl e
   two_out_fit [] clause h e = absurd (cc)
   two_out_fit (BelowAll ∷ later) clause h e = absurd (cc)
   two_out_fit (JustAbove v ∷ later) clause h e = absurd (cc)
@@ -227,6 +230,103 @@ module _ (holds other : ExpressionRecord → Bool) where
 
 -- ---- diagrams
 
+-- the values in a question are good
+abbrev pub GoodQuestion : (VersionRecord → Type 0) → (MarkerValueString → List ℕ → Type 0) → (Flag → Type 0)
+    → Question → Type 0
+GoodQuestion versions texts flags (VersionBelow key b) = GoodBoundary versions b
+GoodQuestion versions texts flags (TextBelow key b) = GoodBoundary (texts key) b
+GoodQuestion versions texts flags (IsSet flag) = flags flag
+
+abbrev pub AllGood : (Question → Type 0) → Diagram Question → Type 0
+AllGood good (Leaf b) = Unit {0}
+AllGood good (Test q low high) = good q × AllGood good low × AllGood good high
+
+-- the terms that are made of good values meet a condition
+pub record AllSayingsFit (versions : VersionRecord → Type 0) (texts : MarkerValueString → List ℕ → Type 0)
+    (flags : Flag → Type 0) (P : ExpressionRecord → Type 0) : Type 0 where
+  pub versions_fit : (key : VersionVariable) → Fits versions P (version_saying key)
+  pub texts_fit : (key : MarkerValueString) → Fits (texts key) P (text_saying key)
+  pub set_fits : (flag : Flag) → flags flag → P (set_term flag)
+  pub unset_fits : (flag : Flag) → flags flag → P (unset_term flag)
+
+module _ {versions : VersionRecord → Type 0} {texts : MarkerValueString → List ℕ → Type 0}
+    {flags : Flag → Type 0} {P : ExpressionRecord → Type 0} (f : AllSayingsFit versions texts flags P) where
+  abbrev Fit : Part → Type 0
+  Fit = PartFits P
+
+  abbrev EdgesFit : {T : Type 0} → (T → Type 0) → Part → List (Branch T Part) → Type 0
+  EdgesFit good first later = GoodBranches good later × AllBranches Fit first later
+
+  abbrev AllEdgesFit : Edges → Type 0
+  AllEdgesFit NoEdges = Unit {0}
+  AllEdgesFit (Versions key first later) = EdgesFit versions first later
+  AllEdgesFit (Texts key first later) = EdgesFit (texts key) first later
+  AllEdgesFit (Flagged flag set unset) = Unit {0}
+
+  either_fits : {T : Type 0} (good : T → Type 0) (low : Part) (b : Boundary T) (from part : Part)
+      (later : List (Branch T Part)) (same : Bool) → GoodBoundary good b → Fit low → Fit part →
+      (same ≡ true → EdgesFit good from later) →
+      EdgesFit good low (cond same (record { boundary = b; child = from } ∷ later)
+      (record { boundary = b; child = part } ∷ []))
+  either_fits good low b from part later true fits h k edges =
+      ((fits, (edges refl).0), (h, (edges refl).1))
+  either_fits good low b from part later false fits h k edges = ((fits, tt), (h, k))
+
+  versions_edges : (key : VersionVariable) (b : Boundary VersionRecord) (low : Part) (walk : Walk)
+      (edges : Edges) → GoodBoundary versions b → Fit low → Fit walk.part → AllEdgesFit edges →
+      EdgesFit versions low (versions_from key b walk edges)
+  versions_edges key b low walk (Versions other first later) fits h k e =
+      either_fits versions low b first walk.part later (version_rank key == version_rank other) fits h k
+      (λ same. e)
+  versions_edges key b low walk NoEdges fits h k e = ((fits, tt), (h, k))
+  versions_edges key b low walk (Texts other first later) fits h k e = ((fits, tt), (h, k))
+  versions_edges key b low walk (Flagged flag set unset) fits h k e = ((fits, tt), (h, k))
+
+  texts_edges : (key : MarkerValueString) (b : Boundary (List ℕ)) (low : Part) (walk : Walk)
+      (edges : Edges) → GoodBoundary (texts key) b → Fit low → Fit walk.part → AllEdgesFit edges →
+      EdgesFit (texts key) low (texts_from key b walk edges)
+  texts_edges key b low walk (Texts other first later) fits h k e =
+      either_fits (texts key) low b first walk.part later (text_key_rank key == text_key_rank other) fits h k
+      (λ same. subst (λ found. EdgesFit (texts found) first later)
+      (sym (text_keys_same key other ((unsigned_Decides (text_key_rank key) (text_key_rank other)).0 same))) e)
+  texts_edges key b low walk NoEdges fits h k e = ((fits, tt), (h, k))
+  texts_edges key b low walk (Versions other first later) fits h k e = ((fits, tt), (h, k))
+  texts_edges key b low walk (Flagged flag set unset) fits h k e = ((fits, tt), (h, k))
+
+  -- all terms in a walk meet the condition
+  pub walk_meets : (d : Diagram Question) → AllGood (GoodQuestion versions texts flags) d →
+      Fit (walk_of d).part × AllEdgesFit (walk_of d).edges
+  walk_meets (Leaf true) r = ((tt, tt), tt)
+  walk_meets (Leaf false) r = (tt, tt)
+  walk_meets (Test (VersionBelow key b) low high) r =
+      let l = walk_meets low r.1 in
+      let h = walk_meets high r.2 in
+      let e = versions_edges key b (walk_of low).part (walk_of high) (walk_of high).edges r.0 l.0 h.0 h.1 in (
+        grouped_fit P (f.versions_fit key) (walk_of low).part
+            (versions_from key b (walk_of high) (walk_of high).edges) e.0 e.1,
+        e,
+      )
+  walk_meets (Test (TextBelow key b) low high) r =
+      let l = walk_meets low r.1 in
+      let h = walk_meets high r.2 in
+      let e = texts_edges key b (walk_of low).part (walk_of high) (walk_of high).edges r.0 l.0 h.0 h.1 in (
+        grouped_fit P (f.texts_fit key) (walk_of low).part
+            (texts_from key b (walk_of high) (walk_of high).edges) e.0 e.1,
+        e,
+      )
+  walk_meets (Test (IsSet flag) low high) r =
+      let l = walk_meets low r.1 in
+      let h = walk_meets high r.2 in (
+        all_append (AllByRecursion P)
+            (map (λ clause. set_term flag ∷ clause) (walk_of low).part.clauses)
+            (map (λ clause. unset_term flag ∷ clause) (walk_of high).part.clauses)
+            (headed_fits P (set_term flag) (walk_of low).part.clauses (f.set_fits flag r.0) l.0)
+            (headed_fits P (unset_term flag) (walk_of high).part.clauses (f.unset_fits flag r.0) h.0),
+        tt,
+      )
+
+-- ---- numbers that can be raised
+
 -- the numbers of a comparison can be raised
 abbrev pub HasPoints : ExpressionRecord → Type 0
 HasPoints term = has_points term ≡ true
@@ -267,9 +367,9 @@ versions_fit key = record {
   above_fits = λ w fits. said_points key versions.GreaterThan w;
   at_most_fits = λ w fits. said_points key versions.LessThanEqual w;
   below_fits = λ w fits. said_points key versions.LessThan w;
-  star_fits = λ lower upper fits term e. star_points key lower upper term (minor_between lower upper) fits refl
+  star_fits = λ lower upper low fits term e. star_points key lower upper term (minor_between lower upper) fits refl
       e;
-  no_star_fits = λ lower upper fits term e. no_star_points key lower upper term (minor_between lower upper) fits
+  no_star_fits = λ lower upper low fits term e. no_star_points key lower upper term (minor_between lower upper) fits
       refl e;
 }
 
@@ -282,8 +382,8 @@ texts_fit key = record {
   above_fits = λ text fits. refl;
   at_most_fits = λ text fits. refl;
   below_fits = λ text fits. refl;
-  star_fits = λ lower upper fits term e. absurd (cc);
-  no_star_fits = λ lower upper fits term e. absurd (cc);
+  star_fits = λ lower upper low fits term e. absurd (cc);
+  no_star_fits = λ lower upper low fits term e. absurd (cc);
 }
 
 set_fits_too : (flag : Flag) → HasPoints (set_term flag)
@@ -300,81 +400,28 @@ unset_fits (flag.Contains key text) = refl
 unset_fits (flag.Extra name) = refl
 unset_fits (flag.Arbitrary text) = refl
 
-abbrev Fit : Part → Type 0
-Fit = PartFits HasPoints
+points_fit : AllSayingsFit IsPlainRelease (λ key text. Unit {0}) (λ flag. Unit {0}) HasPoints
+points_fit = record {
+  versions_fit = versions_fit;
+  texts_fit = texts_fit;
+  set_fits = λ flag good. set_fits_too flag;
+  unset_fits = λ flag good. unset_fits flag;
+}
 
-abbrev EdgesFit : {T : Type 0} → (T → Type 0) → Part → List (Branch T Part) → Type 0
-EdgesFit good first later = GoodBranches good later × AllBranches Fit first later
+abbrev AsksWell : Question → Type 0
+AsksWell = GoodQuestion IsPlainRelease (λ key text. Unit {0}) (λ flag. Unit {0})
 
-abbrev AllEdgesFit : Edges → Type 0
-AllEdgesFit NoEdges = Unit {0}
-AllEdgesFit (Versions key first later) = EdgesFit IsPlainRelease first later
-AllEdgesFit (Texts key first later) = EdgesFit (λ text. Unit {0}) first later
-AllEdgesFit (Flagged flag set unset) = Unit {0}
+asks_well : (q : Question) → AsksOfReleases q → AsksWell q
+asks_well (VersionBelow key (boundary.At version)) h = h
+asks_well (VersionBelow key (boundary.JustAbove version)) h = h
+asks_well (TextBelow key (boundary.At text)) h = tt
+asks_well (TextBelow key (boundary.JustAbove text)) h = tt
+asks_well (IsSet flag) h = tt
 
-either_fits : {T : Type 0} (good : T → Type 0) (low : Part) (b : Boundary T) (from part : Part)
-    (later : List (Branch T Part)) (same : Bool) → GoodBoundary good b → Fit low → Fit part →
-    EdgesFit good from later →
-    EdgesFit good low (cond same (record { boundary = b; child = from } ∷ later)
-    (record { boundary = b; child = part } ∷ []))
-either_fits good low b from part later true fits h k edges = ((fits, edges.0), (h, edges.1))
-either_fits good low b from part later false fits h k edges = ((fits, tt), (h, k))
-
-versions_edges : (key : VersionVariable) (b : Boundary VersionRecord) (low : Part) (walk : Walk)
-    (edges : Edges) → GoodBoundary IsPlainRelease b → Fit low → Fit walk.part → AllEdgesFit edges →
-    EdgesFit IsPlainRelease low (versions_from key b walk edges)
-versions_edges key b low walk (Versions other first later) fits h k e =
-    either_fits IsPlainRelease low b first walk.part later (version_rank key == version_rank other) fits h k e
-versions_edges key b low walk NoEdges fits h k e = ((fits, tt), (h, k))
-versions_edges key b low walk (Texts other first later) fits h k e = ((fits, tt), (h, k))
-versions_edges key b low walk (Flagged flag set unset) fits h k e = ((fits, tt), (h, k))
-
-texts_edges : (key : MarkerValueString) (b : Boundary (List ℕ)) (low : Part) (walk : Walk)
-    (edges : Edges) → GoodBoundary (λ text. Unit {0}) b → Fit low → Fit walk.part → AllEdgesFit edges →
-    EdgesFit (λ text. Unit {0}) low (texts_from key b walk edges)
-texts_edges key b low walk (Texts other first later) fits h k e =
-    either_fits (λ text. Unit {0}) low b first walk.part later (text_key_rank key == text_key_rank other) fits
-    h k e
-texts_edges key b low walk NoEdges fits h k e = ((fits, tt), (h, k))
-texts_edges key b low walk (Versions other first later) fits h k e = ((fits, tt), (h, k))
-texts_edges key b low walk (Flagged flag set unset) fits h k e = ((fits, tt), (h, k))
-
-good_release : (b : Boundary VersionRecord) → StandsAtRelease b → GoodBoundary IsPlainRelease b
-good_release (boundary.At version) h = h
-good_release (boundary.JustAbove version) h = h
-
-good_text : (b : Boundary (List ℕ)) → GoodBoundary (λ text. Unit {0}) b
-good_text (boundary.At text) = tt
-good_text (boundary.JustAbove text) = tt
+all_well : (d : Diagram Question) → HasReleasesAlone d → AllGood AsksWell d
+all_well (Leaf b) r = tt
+all_well (Test q low high) r = (asks_well q r.0, all_well low r.1, all_well high r.2)
 
 -- the numbers of all comparisons in a walk can be raised
-pub walk_fits : (d : Diagram Question) → HasReleasesAlone d → Fit (walk_of d).part × AllEdgesFit (walk_of d).edges
-walk_fits (Leaf true) r = ((tt, tt), tt)
-walk_fits (Leaf false) r = (tt, tt)
-walk_fits (Test (VersionBelow key b) low high) r =
-    let l = walk_fits low r.1 in
-    let h = walk_fits high r.2 in
-    let e = versions_edges key b (walk_of low).part (walk_of high) (walk_of high).edges (good_release b r.0) l.0
-    h.0 h.1 in (
-      grouped_fit HasPoints (versions_fit key) (walk_of low).part
-          (versions_from key b (walk_of high) (walk_of high).edges) e.0 e.1,
-      e,
-    )
-walk_fits (Test (TextBelow key b) low high) r =
-    let l = walk_fits low r.1 in
-    let h = walk_fits high r.2 in
-    let e = texts_edges key b (walk_of low).part (walk_of high) (walk_of high).edges (good_text b) l.0 h.0 h.1 in (
-      grouped_fit HasPoints (texts_fit key) (walk_of low).part
-          (texts_from key b (walk_of high) (walk_of high).edges) e.0 e.1,
-      e,
-    )
-walk_fits (Test (IsSet flag) low high) r =
-    let l = walk_fits low r.1 in
-    let h = walk_fits high r.2 in (
-      all_append (AllByRecursion HasPoints)
-          (map (λ clause. set_term flag ∷ clause) (walk_of low).part.clauses)
-          (map (λ clause. unset_term flag ∷ clause) (walk_of high).part.clauses)
-          (headed_fits HasPoints (set_term flag) (walk_of low).part.clauses (set_fits_too flag) l.0)
-          (headed_fits HasPoints (unset_term flag) (walk_of high).part.clauses (unset_fits flag) h.0),
-      tt,
-    )
+pub walk_fits : (d : Diagram Question) → HasReleasesAlone d → AllFit HasPoints (clauses_of d)
+walk_fits d r = (walk_meets points_fit d (all_well d r)).0
