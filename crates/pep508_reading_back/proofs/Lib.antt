@@ -1,0 +1,5 @@
+pub mod Plain
+pub mod Patterns
+pub mod Comparisons
+pub mod Joining
+pub mod Clauses

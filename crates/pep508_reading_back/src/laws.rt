@@ -1,0 +1,23 @@
+//! Laws over the definitions. The functions do nothing: each one's contract is its law.
+ghost use Rattle.std.specs.Prelude.{List};
+ghost use Rattle.std.specs.Str.{chars};
+ghost use Rattle.pep508_marker.specs.Expression.{ExpressionRecord, expression_text};
+ghost use Rattle.pep508_marker_read.specs.MarkerText.{IsMarkerText};
+ghost use Rattle.pep508_marker_text.specs.MarkerText.{clauses_text};
+ghost use Rattle.pep508_marker_text.specs.Saying.{Clause};
+ghost use Rattle.pep508_reading_back.specs.Clauses.{AreReadable, ReadsClauses};
+ghost use Rattle.pep508_reading_back.specs.Readable.{IsReadable, marker_of};
+
+/// A printed comparison is read as that very comparison; a warning tells of an extra whose text is no name, and
+/// of nothing else.
+pub fn a_printed_comparison_is_read()
+    ensures { (term : ExpressionRecord) → IsReadable term
+        → IsMarkerText (chars (expression_text term)) (marker_of term) }
+{}
+
+/// Printed clauses, those of several comparisons in brackets, are read as a marker that holds where one of the
+/// clauses does.
+pub fn printed_clauses_are_read()
+    ensures { (clauses : List Clause) → AreReadable clauses
+        → ReadsClauses (chars (clauses_text clauses)) clauses }
+{}

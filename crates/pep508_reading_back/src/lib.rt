@@ -1,0 +1,4 @@
+//! What printed markers and requirements are read as: laws.
+#![tactic(auto)]
+
+pub mod laws;
