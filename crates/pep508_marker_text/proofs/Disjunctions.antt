@@ -23,11 +23,11 @@ use Rattle.pep508_marker_text.proofs.Walks.{clauses_mean}
 
 -- ---- clauses without terms
 
-abbrev is_empty : Clause → Bool
+abbrev pub is_empty : Clause → Bool
 is_empty clause = not (has_some clause)
 
 module _ (holds : ExpressionRecord → Bool) where
-  empty_holds : (clauses : List Clause) → list_any is_empty clauses ≡ true → one_holds holds clauses ≡ true
+  pub empty_holds : (clauses : List Clause) → list_any is_empty clauses ≡ true → one_holds holds clauses ≡ true
   empty_holds [] e = e
   empty_holds ([] ∷ clauses) e = refl
   empty_holds ((term ∷ terms) ∷ clauses) e =
@@ -38,7 +38,7 @@ none_empty [] e = refl
 none_empty ([] ∷ clauses) e = absurd (true≢false e)
 none_empty ((term ∷ terms) ∷ clauses) e = ap (λ cs. (term ∷ terms) ∷ cs) (none_empty clauses e)
 
-always_leaf : (d : Diagram Question) → IsCanonical d → ((v : Valuation) → truth d v ≡ true) → d ≡ Leaf true
+pub always_leaf : (d : Diagram Question) → IsCanonical d → ((v : Valuation) → truth d v ≡ true) → d ≡ Leaf true
 always_leaf (Leaf b) c always = ap Leaf (one_marker_diagram (Leaf b) (Leaf true) c tt always)
 always_leaf (Test q low high) c always =
     absurd (one_marker_diagram (Test q low high) (Leaf true) c tt always)

@@ -400,7 +400,7 @@ unset_fits (flag.Contains key text) = refl
 unset_fits (flag.Extra name) = refl
 unset_fits (flag.Arbitrary text) = refl
 
-points_fit : AllSayingsFit IsPlainRelease (λ key text. Unit {0}) (λ flag. Unit {0}) HasPoints
+pub points_fit : AllSayingsFit IsPlainRelease (λ key text. Unit {0}) (λ flag. Unit {0}) HasPoints
 points_fit = record {
   versions_fit = versions_fit;
   texts_fit = texts_fit;

@@ -168,7 +168,7 @@ pub standing_all : {T C : Type 0} (P : C → Type 0) (first : C) (later : List (
 standing_all P first [] h = (h, tt)
 standing_all P first (branch ∷ later) h = (h.0, standing_all P branch.child later h.1)
 
-filter_all : {C : Type 0} (P : C → Type 0) (test : C → Bool) (xs : List C) → AllByRecursion P xs →
+pub filter_all : {C : Type 0} (P : C → Type 0) (test : C → Bool) (xs : List C) → AllByRecursion P xs →
     AllByRecursion P (filter test xs)
 filter_all P test [] h = tt
 filter_all P test (x ∷ xs) h = filter_one (test x) (filter_all P test xs h.1)

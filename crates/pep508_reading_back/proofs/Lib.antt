@@ -3,3 +3,4 @@ pub mod Patterns
 pub mod Comparisons
 pub mod Joining
 pub mod Clauses
+pub mod Diagrams

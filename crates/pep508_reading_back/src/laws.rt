@@ -1,11 +1,14 @@
 //! Laws over the definitions. The functions do nothing: each one's contract is its law.
-ghost use Rattle.std.specs.Prelude.{List};
+ghost use Rattle.std.specs.Prelude.{◌≡◌, ◌≢◌, ℕ, false, List, Some};
 ghost use Rattle.std.specs.Str.{chars};
 ghost use Rattle.pep508_marker.specs.Expression.{ExpressionRecord, expression_text};
+ghost use Rattle.pep508_diagram.specs.Diagram.{Diagram, Leaf};
+ghost use Rattle.pep508_diagram.specs.Question.{Question, IsCanonical};
 ghost use Rattle.pep508_marker_read.specs.MarkerText.{IsMarkerText};
-ghost use Rattle.pep508_marker_text.specs.MarkerText.{clauses_text};
+ghost use Rattle.pep508_marker_text.specs.MarkerText.{clauses_text, marker_text};
 ghost use Rattle.pep508_marker_text.specs.Saying.{Clause};
 ghost use Rattle.pep508_reading_back.specs.Clauses.{AreReadable, ReadsClauses};
+ghost use Rattle.pep508_reading_back.specs.Diagrams.{IsReadableDiagram, ReadsDiagram};
 ghost use Rattle.pep508_reading_back.specs.Readable.{IsReadable, marker_of};
 
 /// A printed comparison is read as that very comparison; a warning tells of an extra whose text is no name, and
@@ -20,4 +23,12 @@ pub fn a_printed_comparison_is_read()
 pub fn printed_clauses_are_read()
     ensures { (clauses : List Clause) → AreReadable clauses
         → ReadsClauses (chars (clauses_text clauses)) clauses }
+{}
+
+/// The text of a diagram is read as a marker that holds exactly where the diagram does: of one whose versions are
+/// releases of epoch 0, whose texts have no single quote and whose keys are no old names. Nothing is written for
+/// what holds always, and what never holds is left out here: `python_version < '0'` stands for it.
+pub fn a_printed_marker_means_its_diagram()
+    ensures { (diagram : Diagram Question) (text : List ℕ) → IsCanonical diagram → IsReadableDiagram diagram
+        → diagram ≢ Leaf false → marker_text diagram ≡ Some text → ReadsDiagram (chars text) diagram }
 {}
