@@ -1,15 +1,15 @@
 -- Printed clauses are the text of a marker that holds where one of them does.
-use Rattle.std.proofs.Common.{◌≡◌, ◌⊎◌, ℕ, zero, suc, ◌<◌, ◌&&◌, ◌||◌, Bool, true, false, length, List, [], ◌∷◌, ◌++◌, map, Some, inl, inr, refl, ap, sym, subst, ◌∙◌, arith, append_assoc}
+use Rattle.std.proofs.Common.{◌≡◌, ◌⊎◌, ℕ, zero, suc, ◌&&◌, ◌||◌, Bool, true, false, List, [], ◌∷◌, ◌++◌, map, Some, inl, inr, refl, ap, sym, subst, ◌∙◌, arith, append_assoc}
 use Rattle.std.proofs.lemmas.List.{append-nil}
 use Rattle.std.proofs.lemmas.Str.{chars-append, IsUtf8-append, IsUtf8-from_ascii}
-use Rattle.std.specs.List.{AllByRecursion, join_by, list_all, list_any}
-use Rattle.std.specs.Prelude.{Option, unwrap_or, codes}
+use Rattle.std.specs.List.{AllByRecursion, list_all}
+use Rattle.std.specs.Prelude.{unwrap_or, codes}
 use Rattle.std.specs.Str.{chars, IsUtf8}
 use Rattle.pep508_marker.specs.Expression.{ExpressionRecord, expression_text}
 use Rattle.pep508_marker_comparison.specs.SideReading.{ends_key}
-use Rattle.pep508_marker_read.specs.Formula.{LeftOut, joined, truth_in, formula_holds}
+use Rattle.pep508_marker_read.specs.Formula.{LeftOut, joined, truth_in}
 use Rattle.pep508_marker_read.specs.MarkerReading.{Marker, And, Or, join_with}
-use Rattle.pep508_marker_read.specs.MarkerText.{IsBefore, IsComparisonText, IsEnclosed, AreJoined, join_all, IsJoined, IsEither, IsFormulaText, IsMarkerText}
+use Rattle.pep508_marker_read.specs.MarkerText.{IsBefore, IsComparisonText, IsEnclosed, join_all, IsJoined, IsEither, IsFormulaText, IsMarkerText}
 use Rattle.pep508_marker_text.specs.Saying.{Clause}
 use Rattle.pep508_marker_text.specs.MarkerText.{clause_text, bracketed_text, clauses_text}
 use Rattle.pep508_marker_text.specs.Truth.{one_holds}
@@ -104,7 +104,7 @@ clause_utf8 (term ∷ terms) h =
     joined_utf8 (terms_read IsComparisonText comparison_leads (λ cs marker rest k. k)) And term terms h.1.0 h.1.1
 
 -- what stands beside others, where brackets nest at most so deep
-abbrev Part : ℕ → Piece
+abbrev pub Part : ℕ → Piece
 Part depth = λ cs marker rest. IsComparisonText cs marker rest ⊎ IsEnclosed (IsFormulaText depth) cs marker rest
 
 part_leads : (depth : ℕ) → Leads (Part depth)
@@ -161,7 +161,7 @@ bracketed_utf8 (term ∷ other ∷ terms) h =
     (IsUtf8-append text (codes ")") (clause_utf8 (term ∷ other ∷ terms) h)
     (IsUtf8-from_ascii (codes ")") (ascii_by (codes ")") refl)))
 
-either_leads : (depth : ℕ) → Leads (IsJoined And (Part depth))
+pub either_leads : (depth : ℕ) → Leads (IsJoined And (Part depth))
 either_leads depth cs marker rest h = record {
   first = h.first;
   others = h.others;

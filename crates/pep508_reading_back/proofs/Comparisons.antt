@@ -1,17 +1,16 @@
 -- A printed comparison is the text of that comparison.
-use Rattle.std.proofs.Common.{◌≡◌, ◌≢◌, ◌⊎◌, ℕ, ◌<◌, ◌≤◌, ◌==◌, ◌&&◌, Bool, true, false, not, nat_lt, length, if◌then◌else◌, List, [], ◌∷◌, ◌++◌, All, Option, Some, None, Result, Ok, Err, inl, inr, refl, ap, sym, subst, ◌∙◌, ◌-◌, arith, append_assoc}
-use Rattle.std.proofs.lemmas.Bool.{cases_Bool}
+use Rattle.std.proofs.Common.{◌≡◌, ◌≢◌, ℕ, ◌≤◌, ◌==◌, ◌&&◌, Bool, true, false, not, nat_lt, length, if◌then◌else◌, List, [], ◌∷◌, ◌++◌, All, Some, None, Ok, Err, inl, inr, refl, ap, sym, subst, ◌∙◌, ◌-◌, arith, append_assoc}
 use Rattle.std.proofs.lemmas.Bool.Decides.{nat_tests}
 use Rattle.std.proofs.lemmas.List.{append-nil}
 use Rattle.std.proofs.lemmas.Str.{chars-append, encodes-chars, IsUtf8-append, IsUtf8-from_ascii}
-use Rattle.std.specs.Char.{is_ascii_alphabetic, is_whitespace}
+use Rattle.std.specs.Char.{is_ascii_alphabetic}
 use Rattle.std.specs.List.{AllByRecursion, list_all}
 use Rattle.std.specs.Option.{option_and_then}
-use Rattle.std.specs.Prelude.{codes, encode_utf8_all}
+use Rattle.std.specs.Prelude.{codes}
 use Rattle.std.specs.Result.{result_ok}
 use Rattle.std.specs.Str.{chars, IsAscii, IsUtf8}
 use Rattle.version_ranges.proofs.Membership.{all_weaker}
-use Rattle.pep440_text.specs.Record.{Segment, VersionRecord, PatternRecord}
+use Rattle.pep440_text.specs.Record.{Segment, VersionRecord}
 use Rattle.pep440_text.specs.Print.{version_text}
 use Rattle.pep440_text.specs.Printable.{IsPrintable}
 use Rattle.pep440_text.specs.Reading.{pattern_of}
@@ -19,7 +18,7 @@ use Rattle.pep440_operator.specs.declared.operator.Operator.{Operator}
 use Rattle.pep440_operator.specs.declared.operator.Operator.TheVariants as versions
 use Rattle.pep440_operator.specs.Operators.{is_star, is_tilde, takes_local}
 use Rattle.pep440_operator.specs.OperatorPrint.{operator_text, star_text}
-use Rattle.pep440_version.specs.Changes.{has_local, has_segments}
+use Rattle.pep440_version.specs.Changes.{has_segments}
 use Rattle.pep440_specifier.specs.Building.{IsBuilt, built, built_of_pattern}
 use Rattle.pep440_specifier.specs.Matching.{SpecifierRecord}
 use Rattle.pep440_specifier.specs.declared.build_error.VersionSpecifierBuildError.TheVariants.{OperatorLocalCombo, CompatibleRelease}
@@ -32,7 +31,6 @@ use Rattle.pep508_marker.specs.declared.operators.ExtraOperator.TheVariants as e
 use Rattle.pep508_marker.specs.declared.operators.MarkerOperator.{MarkerOperator}
 use Rattle.pep508_marker.specs.declared.operators.MarkerOperator.TheVariants.{Equal, NotEqual, GreaterThan, GreaterEqual, LessThan, LessEqual, TildeEqual, In, NotIn, Contains, NotContains}
 use Rattle.pep508_marker.specs.declared.warnings.MarkerWarningKind.{MarkerWarningKind}
-use Rattle.pep508_marker.specs.declared.warnings.MarkerWarningKind.TheVariants.{ExtraInvalidComparison}
 use Rattle.pep508_marker.specs.Expression.{ExpressionRecord, Version, VersionIn, String, Extra, term_text, turned_text, string_text, expression_text}
 use Rattle.pep508_marker.specs.Keys.{version_key_name, text_key_name, is_deprecated}
 use Rattle.pep508_marker.specs.Operators.{marker_operator_text, marker_operator_of, is_not_in, behind_not, extra_operator_text, extra_operator, specifier_operator}
@@ -43,11 +41,11 @@ use Rattle.pep508_marker_comparison.specs.Compared.{Compared, compared, specifie
 use Rattle.pep508_marker_comparison.specs.SideReading.{ends_key, ends_word, ends_signs, begins_by, AtEnd}
 use Rattle.pep508_marker_read.specs.Formula.{Says}
 use Rattle.pep508_marker_read.specs.MarkerReading.{Marker, of_compared}
-use Rattle.pep508_marker_read.specs.MarkerText.{IsBefore, IsSpaced, IsQuotedText, IsKeyText, IsSideText, IsRunOperator, IsNotIn, IsOperatorText, IsComparisonText}
-use Rattle.pep508_marker_read.proofs.Cuts.{at_places, some_same}
+use Rattle.pep508_marker_read.specs.MarkerText.{IsBefore, IsSpaced, IsSideText, IsOperatorText, IsComparisonText}
+use Rattle.pep508_marker_read.proofs.Cuts.{at_places}
 use Rattle.pep508_marker_read.proofs.Tests.{and_parts}
-use Rattle.pep508_reading_back.specs.Readable.{IsQuotable, IsReadableSpecifier, IsReadableExtra, IsReadable, warned_extra, marker_of}
-use Rattle.pep508_reading_back.proofs.Plain.{is_plain, Plain, all_from, plain_from, none_from, plain_ascii, ascii_by, plain_unquoted, ascii_encoded, ascii_chars, front_chars}
+use Rattle.pep508_reading_back.specs.Readable.{IsQuotable, IsReadableExtra, IsReadable, warned_extra, marker_of}
+use Rattle.pep508_reading_back.proofs.Plain.{is_plain, Plain, all_from, none_from, plain_ascii, ascii_by, plain_unquoted, ascii_encoded, ascii_chars, front_chars}
 use Rattle.pep508_reading_back.proofs.Patterns.{plain_append, plain_version, version_pattern, star_pattern}
 
 -- ---- characters of comparisons
@@ -324,7 +322,7 @@ enough : (tilde : Bool) (count : ℕ) → (tilde ≡ true → 2 ≤ count) → (
 enough false count h = refl
 enough true count h = let k : 2 ≤ count = h refl in grind (arith, nat_tests)
 
-built_is : (operator : Operator) (version : VersionRecord) → IsBuilt (record { operator = operator; version = version }) →
+pub built_is : (operator : Operator) (version : VersionRecord) → IsBuilt (record { operator = operator; version = version }) →
     built operator version ≡ Ok (record { operator = operator; version = version })
 built_is operator version b =
     let made : SpecifierRecord = record { operator = operator; version = version } in
@@ -347,7 +345,7 @@ sign_of versions.LessThanEqual = LessEqual
 sign_of versions.GreaterThan = GreaterThan
 sign_of versions.GreaterThanEqual = GreaterEqual
 
-abbrev pattern_says : Operator → VersionRecord → List ℕ
+abbrev pub pattern_says : Operator → VersionRecord → List ℕ
 pattern_says operator version = version_text version ++ star_text operator
 
 starless : (version : VersionRecord) → IsPrintable version →
@@ -420,7 +418,7 @@ signs_are versions.LessThanEqual n = refl
 signs_are versions.GreaterThan n = refl
 signs_are versions.GreaterThanEqual n = refl
 
-plain_star : (operator : Operator) → Plain (star_text operator)
+pub plain_star : (operator : Operator) → Plain (star_text operator)
 plain_star versions.Equal = tt
 plain_star versions.EqualStar = (refl, (refl, tt))
 plain_star versions.ExactEqual = tt

@@ -2,10 +2,9 @@
 use Rattle.std.proofs.Common.{◌≡◌, ◌≢◌, ℕ, ◌<◌, ◌^◌, Bool, true, false, length, List, [], ◌∷◌, Option, Some, None, option_map, inl, inr, refl, ap, sym, subst, ◌∙◌, arith, true≢false}
 use Rattle.std.proofs.lemmas.Bool.{cases_Bool, false≢true}
 use Rattle.std.proofs.lemmas.List.Elements.{All-from_recursion}
-use Rattle.std.specs.List.{AllByRecursion, list_all, list_any, filter}
+use Rattle.std.specs.List.{AllByRecursion, list_any, filter}
 use Rattle.std.specs.Prelude.{cond}
 use Rattle.std.specs.Str.{chars}
-use Rattle.version_ranges.specs.declared.boundary.Boundary.{Boundary}
 use Rattle.version_ranges.specs.declared.boundary.Boundary.TheVariants as boundary
 use Rattle.pep440_rs.specs.Record.{VersionRecord, release_record, without_local}
 use Rattle.pep440_rs.specs.Printable.{IsPrintable}
@@ -23,11 +22,11 @@ use Rattle.pep508_diagram.proofs.Questions.{one_marker_diagram}
 use Rattle.pep508_expression.specs.Expressions.{has_points, expression_holds}
 use Rattle.pep508_marker_text.specs.Clauses.{clauses_of}
 use Rattle.pep508_marker_text.specs.MarkerText.{disjunction, clauses_text, marker_text}
-use Rattle.pep508_marker_text.specs.ReleaseBounds.{IsPlainRelease, HasReleasesAlone}
+use Rattle.pep508_marker_text.specs.ReleaseBounds.{HasReleasesAlone}
 use Rattle.pep508_marker_text.specs.SameTerms.{same_term, opposite_term}
 use Rattle.pep508_marker_text.specs.Saying.{Clause}
 use Rattle.pep508_marker_text.specs.Simplified.{has_some}
-use Rattle.pep508_marker_text.specs.Terms.{two_numbers, is_minor_of, kept_where, minor_between, version_term, star_term, version_saying, text_saying, set_term, unset_term}
+use Rattle.pep508_marker_text.specs.Terms.{two_numbers, is_minor_of, kept_where, minor_between, version_term, version_saying, text_saying, set_term, unset_term}
 use Rattle.pep508_marker_text.specs.Truth.{one_holds}
 use Rattle.pep508_marker_text.proofs.Disjunctions.{is_empty, empty_holds, always_leaf, disjunction_means}
 use Rattle.pep508_marker_text.proofs.Fitting.{Fits, AllFit, simplified_fit, GoodQuestion, AllGood, AllSayingsFit, walk_meets, points_fit}

@@ -1,14 +1,13 @@
 -- Printed pieces with a word between each two are read as joined pieces.
-use Rattle.std.proofs.Common.{◌≡◌, ℕ, true, List, [], ◌∷◌, ◌++◌, map, inl, inr, refl, ap, sym, subst, ◌∙◌, append_assoc}
+use Rattle.std.proofs.Common.{◌≡◌, ℕ, List, [], ◌∷◌, ◌++◌, map, inr, refl, ap, sym, subst, ◌∙◌, append_assoc}
 use Rattle.std.proofs.lemmas.List.{append-nil}
 use Rattle.std.proofs.lemmas.Str.{chars-append, IsUtf8-append, IsUtf8-from_ascii}
 use Rattle.std.proofs.lemmas.Str.Ascii.{IsAscii-nil}
-use Rattle.std.specs.Char.{is_whitespace}
 use Rattle.std.specs.List.{AllByRecursion, join_by, flat_map}
 use Rattle.std.specs.Str.{chars, IsAscii, IsUtf8}
 use Rattle.pep508_marker_comparison.specs.SideReading.{ends_key}
 use Rattle.pep508_marker_read.specs.MarkerReading.{Marker, Connective, And, Or, word_of}
-use Rattle.pep508_marker_read.specs.MarkerText.{IsBefore, IsSpaced, IsComparisonText, IsEnclosed, IsJoint, AreJoined}
+use Rattle.pep508_marker_read.specs.MarkerText.{IsBefore, IsSpaced, IsComparisonText, IsEnclosed, AreJoined}
 use Rattle.pep508_reading_back.proofs.Plain.{ascii_by, front_chars}
 
 abbrev pub Piece : Type 1

@@ -4,3 +4,5 @@ pub mod Comparisons
 pub mod Joining
 pub mod Clauses
 pub mod Diagrams
+pub mod Specifiers
+pub mod Requirements

@@ -1,8 +1,7 @@
 -- A printed version, with a star behind it or none, is read as it, and has letters, digits and signs alone.
-use Rattle.std.proofs.Common.{◌≡◌, ◌≢◌, ℕ, ◌<◌, ◌^◌, ◌==◌, Bool, true, false, not, nat_lt, length, map, if◌then◌else◌, List, [], ◌∷◌, ◌++◌, All, Option, Some, None, Result, Ok, refl, ap, sym, subst, ◌∙◌, arith, append_assoc}
+use Rattle.std.proofs.Common.{◌≡◌, ℕ, ◌<◌, ◌^◌, ◌==◌, Bool, true, false, length, map, if◌then◌else◌, List, [], ◌∷◌, ◌++◌, Option, Some, None, Ok, refl, ap, sym, ◌∙◌, arith, append_assoc}
 use Rattle.std.proofs.lemmas.Bool.Decides.{nat_tests}
 use Rattle.std.proofs.lemmas.Fmt.{decimal_is_IsNumeral}
-use Rattle.std.proofs.lemmas.List.{append-nil}
 use Rattle.std.specs.Char.{is_ascii_alphanumeric, digit_value}
 use Rattle.std.specs.Fmt.{decimal}
 use Rattle.std.specs.List.{AllByRecursion, join_with_byte}
@@ -13,11 +12,10 @@ use Rattle.version_ranges.proofs.Membership.{all_append, all_weaker}
 use Rattle.pep440_text.specs.declared.Prerelease.{Prerelease}
 use Rattle.pep440_text.specs.declared.PrereleaseKind.{PrereleaseKind}
 use Rattle.pep440_text.specs.declared.PrereleaseKind.TheVariants.{Alpha, Beta, Rc}
-use Rattle.pep440_text.specs.Record.{Segment, Text, Number, VersionRecord, PatternRecord, epoch_record}
-use Rattle.pep440_text.specs.Print.{kind_text, prerelease_text, segment_text, epoch_text, release_text, pre_text, numbered_text, local_text, version_text}
+use Rattle.pep440_text.specs.Record.{Segment, Text, Number, VersionRecord, epoch_record}
+use Rattle.pep440_text.specs.Print.{kind_text, segment_text, epoch_text, release_text, pre_text, numbered_text, local_text, version_text}
 use Rattle.pep440_text.specs.Printable.{IsPrintable, IsPrintableSegment}
 use Rattle.pep440_text.specs.Reading.{read_pattern, pattern_of, marked_number_at, number_at, pattern_behind, ◌>>=◌}
-use Rattle.pep440_text.specs.Text.{Fits}
 use Rattle.pep440_text.proofs.PrintedHeads.{head_printed}
 use Rattle.pep440_text.proofs.Prints.{printable_read}
 use Rattle.pep440_text.proofs.Releases.{AllSmall, by_recursion}

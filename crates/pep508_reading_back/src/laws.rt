@@ -1,15 +1,20 @@
 //! Laws over the definitions. The functions do nothing: each one's contract is its law.
-ghost use Rattle.std.specs.Prelude.{◌≡◌, ◌≢◌, ℕ, false, List, Some};
+ghost use Rattle.std.specs.Prelude.{◌≡◌, ◌≢◌, ℕ, false, List, Some, None};
 ghost use Rattle.std.specs.Str.{chars};
 ghost use Rattle.pep508_marker.specs.Expression.{ExpressionRecord, expression_text};
 ghost use Rattle.pep508_diagram.specs.Diagram.{Diagram, Leaf};
 ghost use Rattle.pep508_diagram.specs.Question.{Question, IsCanonical};
+ghost use Rattle.pep508_marker_read.specs.MarkerReading.{Marker};
 ghost use Rattle.pep508_marker_read.specs.MarkerText.{IsMarkerText};
 ghost use Rattle.pep508_marker_text.specs.MarkerText.{clauses_text, marker_text};
 ghost use Rattle.pep508_marker_text.specs.Saying.{Clause};
 ghost use Rattle.pep508_reading_back.specs.Clauses.{AreReadable, ReadsClauses};
 ghost use Rattle.pep508_reading_back.specs.Diagrams.{IsReadableDiagram, ReadsDiagram};
+ghost use Rattle.pep508_requirement_text.specs.FrontReading.{Front};
+ghost use Rattle.pep508_requirement.specs.MarkerBehind.{no_marker};
+ghost use Rattle.pep508_requirement.specs.RequirementText.{IsMarkedText};
 ghost use Rattle.pep508_reading_back.specs.Readable.{IsReadable, marker_of};
+ghost use Rattle.pep508_reading_back.specs.RequirementPrint.{requirement_text, IsReadableFront, ReadsRequirement};
 
 /// A printed comparison is read as that very comparison; a warning tells of an extra whose text is no name, and
 /// of nothing else.
@@ -31,4 +36,21 @@ pub fn printed_clauses_are_read()
 pub fn a_printed_marker_means_its_diagram()
     ensures { (diagram : Diagram Question) (text : List ℕ) → IsCanonical diagram → IsReadableDiagram diagram
         → diagram ≢ Leaf false → marker_text diagram ≡ Some text → ReadsDiagram (chars text) diagram }
+{}
+
+/// A printed requirement without a URL is read with its name, its extras and its specifiers: without a marker, and
+/// with whatever marker is read of the text behind the `;`.
+pub fn a_printed_requirement_is_read()
+    ensures plain { (front : Front) → IsReadableFront front
+        → IsMarkedText (requirement_text front None) front no_marker }
+    ensures marked { (front : Front) (text : List ℕ) (marker : Marker) → IsReadableFront front
+        → IsMarkerText (chars text) marker → IsMarkedText (requirement_text front (Some text)) front marker }
+{}
+
+/// So a requirement that is printed with the text of a diagram is read with a marker that holds exactly where the
+/// diagram does; where that is always, no marker is written.
+pub fn a_printed_requirement_means_its_diagram()
+    ensures { (front : Front) (diagram : Diagram Question) → IsReadableFront front → IsCanonical diagram
+        → IsReadableDiagram diagram → diagram ≢ Leaf false
+        → ReadsRequirement (requirement_text front (marker_text diagram)) front diagram }
 {}
