@@ -6,3 +6,4 @@ pub mod Clauses
 pub mod Diagrams
 pub mod Specifiers
 pub mod Requirements
+pub mod ReadRequirements

@@ -1,10 +1,10 @@
 -- What requirements without a URL print (PEP 508, "Grammar"), and which of them are read as what they say.
 use Rattle.std.specs.Prelude.{◌≡◌, ℕ, ◌<◌, false, List, [], ◌∷◌, ◌++◌, length, codes, Option, Some, None}
 use Rattle.std.specs.List.{AllByRecursion, join_with_byte}
-use Rattle.pep440_rs.specs.Building.{IsBuilt}
-use Rattle.pep440_rs.specs.ListText.{list_value_text}
-use Rattle.pep440_rs.specs.Matching.{SpecifierRecord}
-use Rattle.pep440_rs.specs.Printable.{IsPrintable}
+use Rattle.pep440_specifier.specs.Building.{IsBuilt}
+use Rattle.pep440_specifier_list.specs.ListText.{list_value_text}
+use Rattle.pep440_specifier.specs.Matching.{SpecifierRecord}
+use Rattle.pep440_text.specs.Printable.{IsPrintable}
 use Rattle.pep508_name.specs.Name.{name_of}
 use Rattle.pep508_diagram.specs.Diagram.{Diagram}
 use Rattle.pep508_diagram.specs.Question.{Question}
