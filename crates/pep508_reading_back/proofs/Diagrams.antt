@@ -6,8 +6,8 @@ use Rattle.std.specs.List.{AllByRecursion, list_any, filter}
 use Rattle.std.specs.Prelude.{cond}
 use Rattle.std.specs.Str.{chars}
 use Rattle.version_ranges.specs.declared.boundary.Boundary.TheVariants as boundary
-use Rattle.pep440_rs.specs.Record.{VersionRecord, release_record, without_local}
-use Rattle.pep440_rs.specs.Printable.{IsPrintable}
+use Rattle.pep440_text.specs.Record.{VersionRecord, release_record, without_local}
+use Rattle.pep440_text.specs.Printable.{IsPrintable}
 use Rattle.pep440_operator.specs.declared.operator.Operator.{Operator}
 use Rattle.pep440_operator.specs.declared.operator.Operator.TheVariants as versions
 use Rattle.pep440_operator.specs.Operators.{is_tilde}

@@ -5,4 +5,6 @@ pub mod Joining
 pub mod Clauses
 pub mod Diagrams
 pub mod Specifiers
+pub mod Dotless
 pub mod Requirements
+pub mod ReadRequirements

@@ -20,7 +20,6 @@ use Rattle.pep508_marker_read.specs.MarkerReading.{Marker, And, Or}
 use Rattle.pep508_marker_read.specs.MarkerText.{IsJoined, IsFormulaText, IsMarkerText}
 use Rattle.pep508_marker_read.proofs.Cuts.{at_places}
 use Rattle.pep508_marker_text.specs.MarkerText.{clauses_text, disjunction, marker_text}
-use Rattle.pep508_requirement_text.specs.Archives.{is_archive}
 use Rattle.pep508_requirement_text.specs.FrontReading.{Front, begins_operator}
 use Rattle.pep508_requirement_text.specs.FrontReading as front
 use Rattle.pep508_requirement_text.specs.FrontReading.Source.{Any, Specifiers, Url}
@@ -32,6 +31,7 @@ use Rattle.pep508_reading_back.specs.Diagrams.{IsReadableDiagram}
 use Rattle.pep508_reading_back.specs.RequirementPrint.{extras_text, front_text, requirement_text, IsPrintableSpecifier, IsReadableFront, ReadsRequirement}
 use Rattle.pep508_reading_back.proofs.Plain.{plain_ascii, ascii_by, ascii_encoded, front_chars}
 use Rattle.pep508_reading_back.proofs.Comparisons.{plain_name}
+use Rattle.pep508_reading_back.proofs.Dotless.{no_archive}
 use Rattle.pep508_reading_back.proofs.Joining.{Leads, joined_leads}
 use Rattle.pep508_reading_back.proofs.Clauses.{Part, either_leads}
 use Rattle.pep508_reading_back.proofs.Diagrams.{text_read}
@@ -164,10 +164,9 @@ module _ (blanks behind rest : List ℕ) (b : AreBlanks blanks) (is : chars behi
       IsAscii-append name (extras_text extras) (plain_ascii name (plain_name name name n)) (extras_ascii extras e)
 
   any_read : (name : List ℕ) (extras : List (List ℕ)) → name_of name ≡ Some name → AreNormal extras →
-      is_archive name ≡ false →
       IsFrontText (front_text (record { name = name; extras = extras; source = Any }) ++ (blanks ++ behind))
       (record { name = name; extras = extras; source = Any }) rest
-  any_read name extras n e archive =
+  any_read name extras n e =
       let text = name ++ extras_text extras ++ [] in
       let ascii : IsAscii text = IsAscii-append (name ++ extras_text extras) [] (named_ascii name extras n e) IsAscii-nil in
       record {
@@ -183,7 +182,7 @@ module _ (blanks behind rest : List ℕ) (b : AreBlanks blanks) (is : chars behi
         spaces_behind_name = tt;
         are_extras = extras_are extras e;
         spaces_behind_extras = b.spaces;
-        is_source = (refl, before, archive);
+        is_source = (refl, before, no_archive name name n);
       }
 
   list_read : (name : List ℕ) (extras : List (List ℕ)) (given : List SpecifierRecord) → name_of name ≡ Some name →
@@ -217,7 +216,7 @@ module _ (blanks behind rest : List ℕ) (b : AreBlanks blanks) (is : chars behi
       IsReadableFront (record { name = name; extras = extras; source = source }) →
       IsFrontText (front_text (record { name = name; extras = extras; source = source }) ++ (blanks ++ behind))
       (record { name = name; extras = extras; source = source }) rest
-  source_read name extras Any h = any_read name extras h.is_name h.are_names h.is_source
+  source_read name extras Any h = any_read name extras h.is_name h.are_names
   source_read name extras (Specifiers given) h =
       list_read name extras given h.is_name h.are_names h.is_source.0 h.is_source.1
   source_read name extras (Url url) h = absurd h.is_source

@@ -2,9 +2,9 @@
 use Rattle.std.specs.Prelude.{◌≡◌, ◌≢◌, ℕ, ◌==◌, true, false, List, [], ◌∷◌, All, Some, None}
 use Rattle.std.specs.Str.{chars, IsUtf8}
 use Rattle.pep440_operator.specs.declared.operator.Operator.TheVariants.{ExactEqual}
-use Rattle.pep440_rs.specs.Building.{IsBuilt}
-use Rattle.pep440_rs.specs.Matching.{SpecifierRecord}
-use Rattle.pep440_rs.specs.Printable.{IsPrintable}
+use Rattle.pep440_specifier.specs.Building.{IsBuilt}
+use Rattle.pep440_specifier.specs.Matching.{SpecifierRecord}
+use Rattle.pep440_text.specs.Printable.{IsPrintable}
 use Rattle.pep508_name.specs.Name.{name_of}
 use Rattle.pep508_marker.specs.declared.operators.MarkerOperator.TheVariants.{TildeEqual}
 use Rattle.pep508_marker.specs.declared.warnings.MarkerWarningKind.{MarkerWarningKind}

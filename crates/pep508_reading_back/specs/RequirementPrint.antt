@@ -1,15 +1,14 @@
 -- What requirements without a URL print (PEP 508, "Grammar"), and which of them are read as what they say.
-use Rattle.std.specs.Prelude.{◌≡◌, ℕ, ◌<◌, false, List, [], ◌∷◌, ◌++◌, length, codes, Option, Some, None}
+use Rattle.std.specs.Prelude.{◌≡◌, ℕ, ◌<◌, List, [], ◌∷◌, ◌++◌, length, codes, Option, Some, None}
 use Rattle.std.specs.List.{AllByRecursion, join_with_byte}
-use Rattle.pep440_rs.specs.Building.{IsBuilt}
-use Rattle.pep440_rs.specs.ListText.{list_value_text}
-use Rattle.pep440_rs.specs.Matching.{SpecifierRecord}
-use Rattle.pep440_rs.specs.Printable.{IsPrintable}
+use Rattle.pep440_specifier.specs.Building.{IsBuilt}
+use Rattle.pep440_specifier_list.specs.ListText.{list_value_text}
+use Rattle.pep440_specifier.specs.Matching.{SpecifierRecord}
+use Rattle.pep440_text.specs.Printable.{IsPrintable}
 use Rattle.pep508_name.specs.Name.{name_of}
 use Rattle.pep508_diagram.specs.Diagram.{Diagram}
 use Rattle.pep508_diagram.specs.Question.{Question}
 use Rattle.pep508_marker_read.specs.MarkerReading.{Marker}
-use Rattle.pep508_requirement_text.specs.Archives.{is_archive}
 use Rattle.pep508_requirement_text.specs.FrontReading.{Front}
 use Rattle.pep508_requirement_text.specs.FrontReading.Source.{Any, Specifiers, Url}
 use Rattle.pep508_requirement_text.specs.FrontReading as front
@@ -48,17 +47,17 @@ pub record IsPrintableSpecifier (specifier : SpecifierRecord) : Type 0 where
   pub printable : IsPrintable specifier.version
   pub built : IsBuilt specifier
 
--- no URL; without specifiers the name is no archive's
-abbrev pub IsReadableSource : List ℕ → front.Source → Type 0
-IsReadableSource name Any = is_archive name ≡ false
-IsReadableSource name (Specifiers given) = (0 < length given) × AllByRecursion IsPrintableSpecifier given
-IsReadableSource name (Url url) = ⊥
+-- nothing, or some specifiers, and no URL
+abbrev pub IsReadableSource : front.Source → Type 0
+IsReadableSource Any = Unit {0}
+IsReadableSource (Specifiers given) = (0 < length given) × AllByRecursion IsPrintableSpecifier given
+IsReadableSource (Url url) = ⊥
 
 -- names in normal form
 pub record IsReadableFront (front : Front) : Type 0 where
   pub is_name : name_of front.name ≡ Some front.name
   pub are_names : AllByRecursion (λ name. name_of name ≡ Some name) front.extras
-  pub is_source : IsReadableSource front.name front.source
+  pub is_source : IsReadableSource front.source
 
 -- the text is that of a requirement with this front and a marker that holds where the diagram does
 abbrev pub ReadsRequirement : List ℕ → Front → Diagram Question → Type 0

@@ -1,9 +1,9 @@
 //! Laws over the definitions. The functions do nothing: each one's contract is its law.
-ghost use Rattle.std.specs.Prelude.{◌≡◌, ◌≢◌, ℕ, false, List, Some, None};
+ghost use Rattle.std.specs.Prelude.{◌≡◌, ◌≢◌, ℕ, false, List, Option, Some, None};
 ghost use Rattle.std.specs.Str.{chars};
 ghost use Rattle.pep508_marker.specs.Expression.{ExpressionRecord, expression_text};
 ghost use Rattle.pep508_diagram.specs.Diagram.{Diagram, Leaf};
-ghost use Rattle.pep508_diagram.specs.Question.{Question, IsCanonical};
+ghost use Rattle.pep508_diagram.specs.Question.{Question, Valuation, truth, IsCanonical};
 ghost use Rattle.pep508_marker_read.specs.MarkerReading.{Marker};
 ghost use Rattle.pep508_marker_read.specs.MarkerText.{IsMarkerText};
 ghost use Rattle.pep508_marker_text.specs.MarkerText.{clauses_text, marker_text};
@@ -15,31 +15,37 @@ ghost use Rattle.pep508_requirement.specs.MarkerBehind.{no_marker};
 ghost use Rattle.pep508_requirement.specs.RequirementText.{IsMarkedText};
 ghost use Rattle.pep508_reading_back.specs.Readable.{IsReadable, marker_of};
 ghost use Rattle.pep508_reading_back.specs.RequirementPrint.{requirement_text, IsReadableFront, ReadsRequirement};
+ghost use Rattle.pep508_url.specs.Vars.{Variables};
+ghost use Rattle.pep508_tree.specs.Meaning.{NodeRecord, holds};
+ghost use Rattle.pep508_requirement.specs.RequirementReading.{AsksFor, IsRead};
 
-/// A printed comparison is read as that very comparison; a warning tells of an extra whose text is no name, and
-/// of nothing else.
+use pep508_requirement::laws::a_written_requirement_is_read;
+use pep508_url::Pep508Url;
+
+/// A printed comparison is read as that very comparison; a warning tells of an extra whose text is no name,
+/// and of nothing else.
 pub fn a_printed_comparison_is_read()
     ensures { (term : ExpressionRecord) → IsReadable term
         → IsMarkerText (chars (expression_text term)) (marker_of term) }
 {}
 
-/// Printed clauses, those of several comparisons in brackets, are read as a marker that holds where one of the
-/// clauses does.
+/// Printed clauses, those of several comparisons in brackets, are read as a marker that holds where one of
+/// the clauses does.
 pub fn printed_clauses_are_read()
     ensures { (clauses : List Clause) → AreReadable clauses
         → ReadsClauses (chars (clauses_text clauses)) clauses }
 {}
 
-/// The text of a diagram is read as a marker that holds exactly where the diagram does: of one whose versions are
-/// releases of epoch 0, whose texts have no single quote and whose keys are no old names. Nothing is written for
-/// what holds always, and what never holds is left out here: `python_version < '0'` stands for it.
+/// The text of a diagram is read as a marker that holds exactly where the diagram does: of one whose versions
+/// are releases of epoch 0, whose texts have no single quote and whose keys are no old names. Nothing is
+/// written for what holds always; what never holds is left out here, as `python_version < '0'` is written.
 pub fn a_printed_marker_means_its_diagram()
     ensures { (diagram : Diagram Question) (text : List ℕ) → IsCanonical diagram → IsReadableDiagram diagram
         → diagram ≢ Leaf false → marker_text diagram ≡ Some text → ReadsDiagram (chars text) diagram }
 {}
 
-/// A printed requirement without a URL is read with its name, its extras and its specifiers: without a marker, and
-/// with whatever marker is read of the text behind the `;`.
+/// A printed requirement without a URL is read with its name, its extras and its specifiers: without a marker,
+/// and with whatever marker is read of the text behind the `;`.
 pub fn a_printed_requirement_is_read()
     ensures plain { (front : Front) → IsReadableFront front
         → IsMarkedText (requirement_text front None) front no_marker }
@@ -47,10 +53,24 @@ pub fn a_printed_requirement_is_read()
         → IsMarkerText (chars text) marker → IsMarkedText (requirement_text front (Some text)) front marker }
 {}
 
-/// So a requirement that is printed with the text of a diagram is read with a marker that holds exactly where the
-/// diagram does; where that is always, no marker is written.
+/// So a requirement that is printed with the text of a diagram is read with a marker that holds exactly where
+/// the diagram does; where that is always, no marker is written.
 pub fn a_printed_requirement_means_its_diagram()
     ensures { (front : Front) (diagram : Diagram Question) → IsReadableFront front → IsCanonical diagram
         → IsReadableDiagram diagram → diagram ≢ Leaf false
         → ReadsRequirement (requirement_text front (marker_text diagram)) front diagram }
 {}
+
+/// Whatever requirement is read of that text has the name, the extras and the specifiers that were printed,
+/// and a tree that holds exactly where the diagram does.
+pub fn a_printed_requirement_reads_back<T: Pep508Url>()
+    ensures { (vars : Variables) (directory : Option (List ℕ)) (nodes : List NodeRecord) (front : Front)
+        (diagram : Diagram Question) (r : _) → IsReadableFront front → IsCanonical diagram
+        → IsReadableDiagram diagram → diagram ≢ Leaf false
+        → IsRead (λ url. T.reads vars url directory) nodes (requirement_text front (marker_text diagram)) r
+        → (r.name ≡ front.name) × (r.extras.items ≡ front.extras)
+        × AsksFor (λ url. T.reads vars url directory) front.source r.version_or_url
+        × ((v : Valuation) → holds nodes r.marker v ≡ truth diagram v) }
+{
+    a_written_requirement_is_read();
+}
