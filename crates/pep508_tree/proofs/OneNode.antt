@@ -103,7 +103,8 @@ module _ (at : Tree → Diagram Question) (P : Tree → Type 0)
       let parts = one_branches version_cmp first later other_first other_later p q branches in
       let child = tied_trees first other_first parts.0 in
       let place = tied_places (version_rank key ∷ []) in
-      λ i. ordering_then (place i) (ordering_then (parts.1 i) (ordering_then (child i) (child i))))
+      λ i. ordering_then (child i) (ordering_then (child i) (ordering_then (place i)
+      (ordering_then (parts.1 i) Equal))))
       other_behind
 
   one_texts : (key other : MarkerValueString) (first : Tree) (later : List (Branch (List ℕ) Tree))
@@ -122,7 +123,7 @@ module _ (at : Tree → Diagram Question) (P : Tree → Type 0)
       let parts = one_branches text_cmp first later other_first other_later p q branches in
       let child = tied_trees first other_first parts.0 in
       let place = tied_places (text_rank key ∷ []) in
-      λ i. ordering_then (place i) (ordering_then (parts.1 i) (ordering_then (child i) (child i))))
+      λ i. ordering_then (child i) (ordering_then (child i) (ordering_then (place i) (parts.1 i))))
       other_behind
 
   -- nodes with one diagram are equal in the order
@@ -142,7 +143,7 @@ module _ (at : Tree → Diagram Question) (P : Tree → Type 0)
       ap (λ f. text_cmp (flag_place flag) (flag_place f)) (sym same) ∙ tied_places (flag_place flag) in
       let first = tied_trees set s (one set s p.0 q.0 a.1) in
       let second = tied_trees unset u (one unset u p.1 q.1 a.2) in
-      λ i. ordering_then (place i) (ordering_then (first i) (second i))
+      λ i. ordering_then (first i) (ordering_then (second i) (ordering_then (place i) Equal))
   one_node (Versions key first later) (Texts other f l) wide other_wide behind other_behind p q a =
       absurd (versions_not_texts at key other first later f l wide other_wide a)
   one_node (Versions key first later) (Flagged other s u) wide other_wide behind other_behind p q a =

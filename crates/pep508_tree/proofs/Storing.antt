@@ -145,17 +145,17 @@ alike_parts n m e =
     let texts = slice_cmp (branch_cmp text_cmp) (text_branches n) (text_branches m) in
     let versions = slice_cmp (branch_cmp version_cmp) (version_branches n) (version_branches m) in
     let place = text_cmp (node_place n) (node_place m) in
-    let one = both_equal place
-    (ordering_then versions (ordering_then texts (ordering_then first second))) e in
-    let two = both_equal versions (ordering_then texts (ordering_then first second)) one.1 in
-    let three = both_equal texts (ordering_then first second) two.1 in
-    let four = both_equal first second three.1 in
+    let behind = ordering_then place (ordering_then versions texts) in
+    let one = both_equal first (ordering_then second behind) e in
+    let two = both_equal second behind one.1 in
+    let three = both_equal place (ordering_then versions texts) two.1 in
+    let four = both_equal versions texts three.1 in
     record {
-      place = one.0;
-      versions = two.0;
-      texts = three.0;
-      first = trees_same (first_child n) (first_child m) four.0;
-      second = trees_same (second_child n) (second_child m) four.1;
+      place = three.0;
+      versions = four.0;
+      texts = four.1;
+      first = trees_same (first_child n) (first_child m) one.0;
+      second = trees_same (second_child n) (second_child m) two.0;
     }
 
 pub alike_place : (n m : NodeRecord) → node_cmp n m ≡ Equal → node_place n ≡ node_place m

@@ -18,7 +18,8 @@ branches_total {cmp = cmp} total =
 pub nodes_total : IsTotalOrder node_cmp
 unfolding node_cmp
 nodes_total =
-    then_total (on_total node_place nat_list_cmp_total)
+    then_total (on_total first_child trees_total)
+    (then_total (on_total second_child trees_total)
+    (then_total (on_total node_place nat_list_cmp_total)
     (then_total (on_total version_branches (lists_total (branches_total version_cmp_total)))
-    (then_total (on_total text_branches (lists_total (branches_total nat_list_cmp_total)))
-    (then_total (on_total first_child trees_total) (on_total second_child trees_total))))
+    (on_total text_branches (lists_total (branches_total nat_list_cmp_total))))))

@@ -134,13 +134,14 @@ abbrev pub branch_cmp : {T : Type 0} → (T → T → Ordering) → Branch T Tre
 branch_cmp cmp =
     then_cmp (on (λ branch. branch.boundary) (boundary_cmp cmp)) (on (λ branch. branch.child) tree_cmp)
 
--- by the variable, then by the boundaries and children
+-- by the first and the second child, which tell most nodes apart, then by the variable and the branches
 unfoldable pub node_cmp : NodeRecord → NodeRecord → Ordering
 node_cmp =
-    then_cmp (on node_place text_cmp)
+    then_cmp (on first_child tree_cmp)
+    (then_cmp (on second_child tree_cmp)
+    (then_cmp (on node_place text_cmp)
     (then_cmp (on version_branches (slice_cmp (branch_cmp version_cmp)))
-    (then_cmp (on text_branches (slice_cmp (branch_cmp text_cmp)))
-    (then_cmp (on first_child tree_cmp) (on second_child tree_cmp))))
+    (on text_branches (slice_cmp (branch_cmp text_cmp))))))
 
 -- ---- nodes of an interner
 

@@ -9,6 +9,7 @@ ghost use Rattle.pep508_tree.specs.Meaning.{NodeRecord, IsTree, Extends};
 ghost use Rattle.pep508_tree.specs.Forms.{record_of};
 ghost use Rattle.pep508_tree.specs.Nodes.{AreSound};
 ghost use Rattle.pep508_tree.specs.Nodes.{first_place, node_place, node_at, Above, AllChildren, IsRising, IsJoined, Splits, Made};
+ghost use Rattle.pep508_tree.specs.Joining.{node_joined};
 ghost use Rattle.pep508_tree.specs.Conjunctions.{Conjunction, ArePairs, Meet};
 ghost use Rattle.pep508_tree.specs.Asked.{asked_cmp};
 ghost use Rattle.pep508_tree.specs.AskedLaws.{asked_total};
@@ -139,6 +140,7 @@ impl Conjoiner {
     }
 
     /// The conjunction of two trees, if it was made before.
+    #[inline(never)]
     fn recall(&self, a: MarkerTree, b: MarkerTree) -> Option<MarkerTree>
         ensures { IfSome result (λ tree. Conjunction self.now self.now a b tree) }
     {
@@ -156,6 +158,7 @@ impl Conjoiner {
     }
 
     /// Keeps the conjunction of two trees.
+    #[inline(never)]
     fn keep(&mut self, a: MarkerTree, b: MarkerTree, tree: MarkerTree) -> Result<(), AllocError>
         requires a { IsTree self.old a }
         requires b { IsTree self.old b }
@@ -167,6 +170,7 @@ impl Conjoiner {
     }
 
     /// The two trees, first the one whose first variable does not come after that of the other.
+    #[inline(never)]
     pub fn in_order(&self, a: MarkerTree, b: MarkerTree) -> (MarkerTree, MarkerTree)
         requires a { IsTree self.now a }
         requires b { IsTree self.now b }
@@ -180,16 +184,17 @@ impl Conjoiner {
     }
 
     /// The pairs of what stands in two trees for each answer about their first variable, without the trees'
-    /// signs.
-    pub fn split(&self, a: MarkerTree, b: MarkerTree) -> Result<Form<Pair>, AllocError>
+    /// signs. They stand in memory of their own, so that a recursion over trees keeps little on the stack.
+    #[inline(never)]
+    pub fn split(&self, a: MarkerTree, b: MarkerTree) -> Result<Box<Form<Pair>>, AllocError>
         requires a { IsTree self.now a }
         requires b { IsTree self.now b }
         requires a_node { 0 < a.place }
         requires b_node { 0 < b.place }
         requires ordered { is_gt (text_cmp (first_place self.now a) (first_place self.now b)) ≡ false }
-        ensures { IfOk result (λ pairs. Splits self.now a b (record_of pairs)) }
+        ensures { IfOk result (λ pairs. Splits self.now a b (record_of pairs.value)) }
     {
-        self.table.split(a, b)
+        Ok(Box::new(self.allocator(), self.table.split(a, b)?)?)
     }
 
     /// The tree of a form, of which each child asks for later variables only.
@@ -202,6 +207,26 @@ impl Conjoiner {
         ensures keeps { Extends self.old self.new }
     {
         self.table.store(form)
+    }
+
+    /// The tree of a form with these trees for its pairs, of which each asks for later variables only.
+    #[inline(never)]
+    fn store_joined(
+        &mut self,
+        pairs: Box<Form<Pair>>,
+        trees: &[MarkerTree],
+    ) -> Result<MarkerTree, AllocError>
+        requires made { AllChildren (IsTree self.old) (node_joined (record_of pairs.value) trees.now) }
+        requires above { AllChildren (Above self.old
+            (node_place (node_joined (record_of pairs.value) trees.now)))
+            (node_joined (record_of pairs.value) trees.now) }
+        requires rises { IsRising (record_of pairs.value) }
+        ensures made { IfOk result (λ tree.
+            Made self.old self.new (node_joined (record_of pairs.value) trees.now) tree) }
+        ensures keeps { Extends self.old self.new }
+    {
+        let form = Box::into_inner(pairs).joined(self.allocator(), trees)?;
+        self.store(form)
     }
 
     /// The conjunction of two trees: no more steps than the product of the numbers of their nodes, each as
@@ -228,7 +253,7 @@ impl Conjoiner {
         let pairs = self.split(a, b)?;
         let children = pairs.children(alloc)?;
         let trees = self.conjunctions(alloc, a, b, &children)?;
-        let tree = self.store(pairs.joined(self.allocator(), &trees)?)?;
+        let tree = self.store_joined(pairs, &trees)?;
         self.keep(a, b, tree)?;
         Ok(tree)
     }

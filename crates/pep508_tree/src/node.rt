@@ -92,6 +92,7 @@ fn first_and_others(trees: &[MarkerTree]) -> (MarkerTree, &[MarkerTree])
 
 impl Form<Pair> {
     /// The children, in turn.
+    #[inline(never)]
     pub fn children(&self, alloc: Global) -> Result<Vec<Pair>, AllocError>
         ensures { IfOk result (λ pairs. pairs.items ≡ children (record_of self.now)) }
     {
@@ -400,14 +401,17 @@ impl Ord for Node {
     ghost matches_eq = { λ x y. refl };
 
     fn cmp(&self, other: &Node) -> Ordering {
-        let variables = self.cmp_variable(other);
-        if variables.is_ne() {
-            return variables;
+        let firsts = self.first().cmp_places(other.first());
+        if firsts.is_ne() {
+            return firsts;
         }
+        let seconds = self.second().cmp_places(other.second());
+        if seconds.is_ne() {
+            return seconds;
+        }
+        let variables = self.cmp_variable(other);
         let versions = cmp_branches(self.versions(), other.versions());
         let texts = cmp_branches(self.texts(), other.texts());
-        let firsts = self.first().cmp_places(other.first());
-        let seconds = self.second().cmp_places(other.second());
-        versions.then(texts.then(firsts.then(seconds)))
+        variables.then(versions.then(texts))
     }
 }

@@ -4,6 +4,7 @@ use Rattle.pep508_tree.specs.Tree.{Tree}
 use Rattle.pep508_tree.specs.Meaning.{IsTree}
 use Rattle.pep508_tree.specs.Forms.{record_of}
 use Rattle.pep508_tree.specs.Nodes.{turned}
+use Rattle.pep508_tree.specs.Joining.{children}
 use Rattle.pep508_tree.specs.Disjoint.{AreDisjoint, IsPairApart}
 use Rattle.pep508_tree.proofs.Conjoining.{either_sum, children_list, each_of_list}
 use Rattle.pep508_tree.proofs.Disjoining.{either_apart, apart_by_pairs, apart_more, all_more}
@@ -13,10 +14,11 @@ pub are_disjoint-pairs_are_disjoint-requires : goal.are_disjoint-pairs_are_disjo
 are_disjoint-pairs_are_disjoint-requires t c =
     let a = c.in_order-a.result.0 in
     let b = c.in_order-a.result.1 in
-    let pairs = record_of c.in_ok-split.field-0 in
+    let pairs = record_of c.in_ok-split.field-0.value in
     let sum = either_sum c.args.a c.args.b c.in_order-a.result c.in_order-a.ensures.either in
     let some = c.in_default.ensures.0 in
-    let same = sym (c.deref.ensures.value ∙ c.in_ok-pairs.ensures) in
+    let same = sym (c.deref-2.ensures.value ∙ c.in_ok-pairs.ensures
+    ∙ ap (λ f. children (record_of f)) c.deref.ensures) in
     let are_made = λ (p : Tree × Tree). IsTree c.args.self.now p.0 × IsTree c.args.self.now p.1 in
     let fall = λ (p : Tree × Tree). p.0.place + p.1.place < a.place + b.place in (
       omega (arith, c.decreases),
@@ -34,10 +36,11 @@ pub are_disjoint-returns-then-not-branch-clause-exact :
 are_disjoint-returns-then-not-branch-clause-exact t c =
     let a = c.in_order-a.result.0 in
     let b = c.in_order-a.result.1 in
-    let pairs = record_of c.in_ok-split.field-0 in
+    let pairs = record_of c.in_ok-split.field-0.value in
     let apart = apart_by_pairs c.args.self.now c.are_sound.ensures a b pairs c.in_ok-split.ensures
-    c.deref.result.now
-    (c.deref.ensures.value ∙ c.in_ok-pairs.ensures) c.in_ok-pairs_are_disjoint.field-0
+    c.deref-2.result.now
+    (c.deref-2.ensures.value ∙ c.in_ok-pairs.ensures
+    ∙ ap (λ f. children (record_of f)) c.deref.ensures) c.in_ok-pairs_are_disjoint.field-0
     c.in_ok-pairs_are_disjoint.ensures.exact in
     let either = either_apart c.args.self.now c.args.a c.args.b c.in_order-a.result
     c.in_order-a.ensures.either in
@@ -49,10 +52,11 @@ pub are_disjoint-returns-clause-exact : goal.are_disjoint-returns-clause-exact
 are_disjoint-returns-clause-exact t c =
     let a = c.in_order-a.result.0 in
     let b = c.in_order-a.result.1 in
-    let pairs = record_of c.in_ok-split.field-0 in
+    let pairs = record_of c.in_ok-split.field-0.value in
     let apart = apart_by_pairs c.args.self.now c.are_sound.ensures a b pairs c.in_ok-split.ensures
-    c.deref.result.now
-    (c.deref.ensures.value ∙ c.in_ok-pairs.ensures) c.in_ok-pairs_are_disjoint.field-0
+    c.deref-2.result.now
+    (c.deref-2.ensures.value ∙ c.in_ok-pairs.ensures
+    ∙ ap (λ f. children (record_of f)) c.deref.ensures) c.in_ok-pairs_are_disjoint.field-0
     c.in_ok-pairs_are_disjoint.ensures.exact in
     let either = either_apart c.args.self.now c.args.a c.args.b c.in_order-a.result
     c.in_order-a.ensures.either in
@@ -64,10 +68,11 @@ pub are_disjoint-returns-clause-known : goal.are_disjoint-returns-clause-known
 are_disjoint-returns-clause-known t c =
     let a = c.in_order-a.result.0 in
     let b = c.in_order-a.result.1 in
-    let pairs = record_of c.in_ok-split.field-0 in
+    let pairs = record_of c.in_ok-split.field-0.value in
     let apart = apart_by_pairs c.args.self.now c.are_sound.ensures a b pairs c.in_ok-split.ensures
-    c.deref.result.now
-    (c.deref.ensures.value ∙ c.in_ok-pairs.ensures) c.in_ok-pairs_are_disjoint.field-0
+    c.deref-2.result.now
+    (c.deref-2.ensures.value ∙ c.in_ok-pairs.ensures
+    ∙ ap (λ f. children (record_of f)) c.deref.ensures) c.in_ok-pairs_are_disjoint.field-0
     c.in_ok-pairs_are_disjoint.ensures.exact in
     apart_more c.args.self.now c.new-asked.result c.pairs_are_disjoint.new.apart c.insert.new.self
     c.in_ok-pairs_are_disjoint.ensures.known
