@@ -1,0 +1,9 @@
+//! Marker trees that are simplified by what is known of environments: the range of Python's versions, and extras
+//! that are there (PEP 508, "Environment Markers").
+#![tactic(auto)]
+
+mod bounds;
+mod complexified;
+mod simplification;
+
+pub use simplification::MarkerTreeSimplification;
