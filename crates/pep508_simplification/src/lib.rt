@@ -4,6 +4,8 @@
 
 mod bounds;
 mod complexified;
+mod named;
+mod root;
 mod simplification;
 
 pub use simplification::MarkerTreeSimplification;
