@@ -1,6 +1,6 @@
 //! Trees in which the named extras are taken as present.
 
-ghost use Rattle.std.specs.Prelude.{◌≡◌, ◌<◌, false, ℕ, Bool, List, IfOk};
+ghost use Rattle.std.specs.Prelude.{◌≡◌, ◌<◌, false, ℕ, Bool, List, IfOk, IfSome};
 ghost use Rattle.std.specs.List.{AllByRecursion};
 ghost use Rattle.pep508_tree.specs.Meaning.{IsTree, Extends};
 ghost use Rattle.pep508_tree.specs.Conjunctions.{Meet};
@@ -43,6 +43,19 @@ fn is_root_named<F: Fn(&ExtraName) -> bool>(root: &Root, predicate: &F) -> bool
     }
 }
 
+/// What was found for the plain tree at a place, if it was asked for before.
+fn recalled<F: Fn(&ExtraName) -> bool>(
+    interner: &Interner,
+    known: &BTreeMap<usize, MarkerTree>,
+    predicate: &F,
+    place: usize,
+) -> Option<MarkerTree>
+    requires { AreKnown (F.post predicate.now) interner.now.nodes known.now }
+    ensures { IfSome result (IsKnown (F.post predicate.now) interner.now.nodes place) }
+{
+    known.get(&place).copied()
+}
+
 /// Remembers what was found for the plain tree at a place.
 fn remember<F: Fn(&ExtraName) -> bool>(
     interner: &Interner,
@@ -78,18 +91,22 @@ pub(crate) fn with_named<F: Fn(&ExtraName) -> bool>(
     ensures keeps { Extends interner.old.nodes interner.new.nodes }
     ensures counts { interner.new.conjunctions ≡ interner.old.conjunctions }
 {
-    if let Some(simple) = known.get(&tree.place()).copied() {
-        return Ok(turned(simple, tree.is_negated()));
+    let place = tree.place();
+    let negated = tree.is_negated();
+    if let Some(simple) = recalled(interner, known, predicate, place) {
+        let found = turned(simple, negated);
+        return Ok(found);
     }
-    let plain = turned(tree, tree.is_negated());
+    let plain = turned(tree, negated);
     let root = copy_of_root(alloc, interner, plain)?;
     let is_named = is_root_named(&root, predicate);
     let root = root.with_set(is_named);
     let children = root.children(alloc)?;
-    let trees = all_with_named(alloc, interner, known, predicate, tree, &children)?;
+    let trees = all_with_named(alloc, interner, known, predicate, plain, &children)?;
     let simple = root.rejoined(alloc, interner, plain, &trees)?;
-    remember(interner, known, predicate, tree.place(), simple)?;
-    Ok(turned(simple, tree.is_negated()))
+    remember(interner, known, predicate, place, simple)?;
+    let signed = turned(simple, negated);
+    Ok(signed)
 }
 
 /// The same of the trees that stand in a tree's node.
