@@ -138,3 +138,21 @@ fn all_with_named<F: Fn(&ExtraName) -> bool>(
     }
     Ok(trees)
 }
+
+/// The tree with the named extras taken as present.
+pub(crate) fn with_extras<F: Fn(&ExtraName) -> bool>(
+    alloc: Global,
+    interner: &mut Interner,
+    tree: MarkerTree,
+    predicate: &F,
+) -> Result<MarkerTree, AllocError>
+    requires callable { F.IsAlwaysCallable predicate.now }
+    requires made { IsTree interner.old.nodes tree }
+    ensures named { IfOk result (λ simple.
+        IsNamed (F.post predicate.now) interner.old.nodes interner.new.nodes tree simple) }
+    ensures keeps { Extends interner.old.nodes interner.new.nodes }
+    ensures counts { interner.new.conjunctions ≡ interner.old.conjunctions }
+{
+    let mut known = BTreeMap::new(alloc);
+    with_named(alloc, interner, &mut known, predicate, tree)
+}

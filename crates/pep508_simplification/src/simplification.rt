@@ -1,14 +1,17 @@
 //! Simplifications, as calls on trees.
 
-ghost use Rattle.std.specs.Prelude.{◌≡◌, ◌&&◌, IfOk};
+ghost use Rattle.std.specs.Prelude.{◌≡◌, ◌&&◌, ℕ, Bool, List, IfOk};
 ghost use Rattle.pep440_rs.specs.Bounds.{lent_bound};
 ghost use Rattle.pep508_diagram.specs.Question.{Valuation};
 ghost use Rattle.pep508_diagram.specs.declared.variable.VersionVariable.TheVariants.{PythonFullVersion};
 ghost use Rattle.pep508_tree.specs.Meaning.{IsTree, Extends, holds};
-ghost use Rattle.pep508_simplification.specs.Simplified.{between};
+ghost use Rattle.pep508_simplification.specs.Simplified.{between, with_named};
+ghost use Rattle.pep508_simplification.specs.Named.{AnswersBy};
 
 use crate::complexified::complexified;
+use crate::named::with_extras;
 use pep440_version::Version;
+use pep508_name::ExtraName;
 use pep508_tree::{Interner, MarkerTree};
 use std::alloc::{AllocError, Global};
 use std::ops::Bound;
@@ -38,6 +41,23 @@ pub trait MarkerTreeSimplification: Sized {
             && between (lent_bound lower.entry) (lent_bound upper.entry) (v.version PythonFullVersion))) }
         ensures keeps { Extends interner.old.nodes interner.new.nodes }
         ensures counts { interner.new.conjunctions ≡ interner.old.conjunctions };
+
+    /// The tree with the extras taken as present for which the predicate answers true; extras that are no names
+    /// are never asked for. Copies each node of the tree once; looks up trees that were met.
+    fn simplify_extras_with<F: Fn(&ExtraName) -> bool>(
+        self,
+        alloc: Global,
+        interner: &mut Interner,
+        predicate: F,
+    ) -> Result<Self, AllocError>
+        requires callable { F.IsAlwaysCallable predicate }
+        requires made { IsTree interner.old.nodes (tree self) }
+        ensures made { IfOk result (λ simple. IsTree interner.new.nodes (tree simple)) }
+        ensures truth { IfOk result (λ simple. (says : List ℕ → Bool) → AnswersBy (F.post predicate) says →
+            (v : Valuation) → holds interner.new.nodes (tree simple) v
+            ≡ holds interner.old.nodes (tree self) (with_named says v)) }
+        ensures keeps { Extends interner.old.nodes interner.new.nodes }
+        ensures counts { interner.new.conjunctions ≡ interner.old.conjunctions };
 }
 
 impl MarkerTreeSimplification for MarkerTree {
@@ -51,5 +71,14 @@ impl MarkerTreeSimplification for MarkerTree {
         upper: Bound<&Version>,
     ) -> Result<MarkerTree, AllocError> {
         complexified(alloc, interner, self, lower, upper)
+    }
+
+    fn simplify_extras_with<F: Fn(&ExtraName) -> bool>(
+        self,
+        alloc: Global,
+        interner: &mut Interner,
+        predicate: F,
+    ) -> Result<MarkerTree, AllocError> {
+        with_extras(alloc, interner, self, &predicate)
     }
 }

@@ -1,4 +1,4 @@
-use Rattle.std.proofs.Common.{◌∙◌, ap, sym}
+use Rattle.std.proofs.Common.{◌∙◌, ap, sym, rules}
 use Rattle.pep508_tree.specs.Roots.{root_of, shown}
 use Rattle.pep508_simplification.specs.Parts.{record_of}
 use Rattle.pep508_simplification.proofs.Rooted.{copy_versions, copy_texts}
