@@ -9,11 +9,11 @@ pub returns-clause-truth : goal.returns-clause-truth
 returns-clause-truth c =
     IfOk-weaker c.conjunction.result _ _
     (λ both is v.
-        let p = v.version PythonFullVersion in
-        is v
-        ∙ ap₂ (λ a b. a && b)
-        (holds_kept c.args.interner.now.nodes c.versions_tree.new.self.nodes c.in_ok-range.ensures.keeps
-        c.args.tree c.requires v)
-        (c.in_ok-range.ensures.truth v ∙ c.in_ok-set.ensures p
-        ∙ ap₂ (λ l u. between l u p) c.in_ok-lower.ensures c.in_ok-upper.ensures))
+    let p = v.version PythonFullVersion in
+    is v
+    ∙ ap₂ (λ a b. a && b)
+    (holds_kept c.args.interner.now.nodes c.versions_tree.new.self.nodes c.in_ok-range.ensures.keeps
+    c.args.tree c.requires v)
+    (c.in_ok-range.ensures.truth v ∙ c.in_ok-set.ensures p
+    ∙ ap₂ (λ l u. between l u p) c.in_ok-lower.ensures c.in_ok-upper.ensures))
     c.conjunction.ensures.truth
