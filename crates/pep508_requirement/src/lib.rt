@@ -3,6 +3,7 @@
 #![tactic(auto)]
 
 mod evaluating;
+mod extra_marker;
 mod extras;
 pub mod laws;
 mod left;

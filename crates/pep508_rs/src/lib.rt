@@ -23,6 +23,7 @@ pub use pep508_name::{ExtraName, InvalidNameError, PackageName, RequirementOrigi
 pub use pep508_requirement::{
     Extras, Requirement, UnnamedRequirement, VersionOrUrl, VersionOrUrlRef,
 };
+pub use pep508_simplification::MarkerTreeSimplification;
 pub use pep508_tree::{Interner, MarkerTree};
 pub use pep508_url::{
     Pep508Url, Scheme, UnnamedRequirementUrl, Vars, VerbatimUrl, VerbatimUrlError, expand_env_vars,

@@ -7,6 +7,7 @@ ghost use Rattle.pep508_tree.specs.Disjoint.{AreDisjoint};
 ghost use Rattle.pep508_tree.specs.Interning.{counted};
 ghost use Rattle.pep508_tree.specs.Forms.{record_of};
 ghost use Rattle.pep508_tree.specs.Nodes.{AreSound, IsRising, IsJoined, chosen, node_at};
+ghost use Rattle.pep508_tree.specs.Nodes.{Above, AllChildren, Made, node_place};
 
 use crate::conjoiner::Conjoiner;
 use crate::leaf::with_constants;
@@ -109,6 +110,19 @@ impl Interner {
         ensures counts { self.new.conjunctions ≡ self.old.conjunctions }
     {
         let form = with_constants(alloc, form)?;
+        self.conjoiner.store(form)
+    }
+
+    /// The tree of a form, of which each child asks for later variables only. Counts nothing.
+    pub(crate) fn stored(&mut self, form: Form<MarkerTree>) -> Result<MarkerTree, AllocError>
+        requires made { AllChildren (IsTree self.old.nodes) (record_of form) }
+        requires above { AllChildren (Above self.old.nodes (node_place (record_of form))) (record_of form) }
+        requires rises { IsRising (record_of form) }
+        requires joined { IsJoined (record_of form) }
+        ensures made { IfOk result (λ tree. Made self.old.nodes self.new.nodes (record_of form) tree) }
+        ensures keeps { Extends self.old.nodes self.new.nodes }
+        ensures counts { self.new.conjunctions ≡ self.old.conjunctions }
+    {
         self.conjoiner.store(form)
     }
 

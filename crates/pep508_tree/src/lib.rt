@@ -11,6 +11,7 @@ mod interner;
 pub mod laws;
 mod leaf;
 mod node;
+mod node_making;
 mod root;
 mod table;
 mod tree;

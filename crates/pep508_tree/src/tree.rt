@@ -57,13 +57,15 @@ impl MarkerTree {
         MarkerTree { place, negated }
     }
 
-    pub(crate) fn place(self) -> usize
+    /// The place of the tree's diagram in its interner, which is that of its negation too.
+    pub fn place(self) -> usize
         ensures { result ≡ self.place }
     {
         self.place
     }
 
-    pub(crate) fn is_negated(self) -> bool
+    /// Whether the leaves of that diagram are turned.
+    pub fn is_negated(self) -> bool
         ensures { result ≡ self.negated }
     {
         self.negated

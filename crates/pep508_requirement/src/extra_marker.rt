@@ -1,0 +1,38 @@
+//! Requirements that are meant with an extra alone.
+
+ghost use Rattle.std.specs.Prelude.{◌≡◌, ◌&&◌, IfOk};
+ghost use Rattle.pep508_diagram.specs.Question.{Valuation};
+ghost use Rattle.pep508_diagram.specs.declared.variable.Flag.TheVariants.{Extra};
+ghost use Rattle.pep508_tree.specs.Meaning.{IsTree, Extends, holds};
+
+use crate::Requirement;
+use pep508_diagram::Flag;
+use pep508_name::ExtraName;
+use pep508_tree::Interner;
+use pep508_url::Pep508Url;
+use std::alloc::{AllocError, Global};
+
+impl<T: Pep508Url> Requirement<T> {
+    /// The requirement, meant where it was and the extra is there: its marker and `extra == name`. The only
+    /// refusal is want of memory, and earlier trees mean what they meant, refused or not. No conjunction is
+    /// counted; it costs what one with a tree of one node does.
+    pub fn with_extra_marker(
+        self,
+        alloc: Global,
+        interner: &mut Interner,
+        extra: &ExtraName,
+    ) -> Result<Self, AllocError>
+        requires { IsTree interner.old.nodes self.marker }
+        ensures made { IfOk result (λ asked. IsTree interner.new.nodes asked.marker) }
+        ensures truth { IfOk result (λ asked. (v : Valuation) → holds interner.new.nodes asked.marker v
+            ≡ (holds interner.old.nodes self.marker v && v.flag (Extra extra.now))) }
+        ensures same { IfOk result (λ asked. asked ≡ record self { marker = asked.marker }) }
+        ensures keeps { Extends interner.old.nodes interner.new.nodes }
+        ensures counts { interner.new.conjunctions ≡ interner.old.conjunctions }
+    {
+        let flag = Flag::Extra(extra.try_clone(alloc)?);
+        let asked = interner.flag_tree(alloc, flag)?;
+        let marker = interner.conjunction(alloc, self.marker, asked)?;
+        Ok(Requirement { marker, ..self })
+    }
+}

@@ -1,0 +1,11 @@
+//! Marker trees that are simplified by what is known of environments: the range of Python's versions, and extras
+//! that are there (PEP 508, "Environment Markers").
+#![tactic(auto)]
+
+mod bounds;
+mod complexified;
+mod named;
+mod root;
+mod simplification;
+
+pub use simplification::MarkerTreeSimplification;

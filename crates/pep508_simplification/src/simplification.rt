@@ -1,0 +1,84 @@
+//! Simplifications, as calls on trees.
+
+ghost use Rattle.std.specs.Prelude.{◌≡◌, ◌&&◌, ℕ, Bool, List, IfOk};
+ghost use Rattle.pep440_rs.specs.Bounds.{lent_bound};
+ghost use Rattle.pep508_diagram.specs.Question.{Valuation};
+ghost use Rattle.pep508_diagram.specs.declared.variable.VersionVariable.TheVariants.{PythonFullVersion};
+ghost use Rattle.pep508_tree.specs.Meaning.{IsTree, Extends, holds};
+ghost use Rattle.pep508_simplification.specs.Simplified.{between, with_named};
+ghost use Rattle.pep508_simplification.specs.Named.{AnswersBy};
+
+use crate::complexified::complexified;
+use crate::named::with_extras;
+use pep440_version::Version;
+use pep508_name::ExtraName;
+use pep508_tree::{Interner, MarkerTree};
+use std::alloc::{AllocError, Global};
+use std::ops::Bound;
+
+/// What is made of a marker tree by what is known of environments. Each call's only refusal is want of memory;
+/// earlier trees mean what they meant, refused or not, and no conjunction is counted.
+pub trait MarkerTreeSimplification: Sized {
+    ghost use Rattle.pep508_tree.specs.Tree.{Tree};
+
+    /// The tree.
+    ghost tree: { Self → Tree };
+
+    /// The tree that holds where this one does and `python_full_version` lies between the bounds. Bounds are
+    /// kept without the zeros at the end of their releases. Costs what a conjunction with a tree of two
+    /// boundaries does.
+    fn complexify_python_versions(
+        self,
+        alloc: Global,
+        interner: &mut Interner,
+        lower: Bound<&Version>,
+        upper: Bound<&Version>,
+    ) -> Result<Self, AllocError>
+        requires { IsTree interner.old.nodes (tree self) }
+        ensures made { IfOk result (λ both. IsTree interner.new.nodes (tree both)) }
+        ensures truth { IfOk result (λ both. (v : Valuation) → holds interner.new.nodes (tree both) v
+            ≡ (holds interner.old.nodes (tree self) v
+            && between (lent_bound lower.entry) (lent_bound upper.entry) (v.version PythonFullVersion))) }
+        ensures keeps { Extends interner.old.nodes interner.new.nodes }
+        ensures counts { interner.new.conjunctions ≡ interner.old.conjunctions };
+
+    /// The tree with the extras taken as present for which the predicate answers true; extras that are no names
+    /// are never asked for. Copies each node of the tree once; looks up trees that were met.
+    fn simplify_extras_with<F: Fn(&ExtraName) -> bool>(
+        self,
+        alloc: Global,
+        interner: &mut Interner,
+        predicate: F,
+    ) -> Result<Self, AllocError>
+        requires callable { F.IsAlwaysCallable predicate }
+        requires made { IsTree interner.old.nodes (tree self) }
+        ensures made { IfOk result (λ simple. IsTree interner.new.nodes (tree simple)) }
+        ensures truth { IfOk result (λ simple. (says : List ℕ → Bool) → AnswersBy (F.post predicate) says →
+            (v : Valuation) → holds interner.new.nodes (tree simple) v
+            ≡ holds interner.old.nodes (tree self) (with_named says v)) }
+        ensures keeps { Extends interner.old.nodes interner.new.nodes }
+        ensures counts { interner.new.conjunctions ≡ interner.old.conjunctions };
+}
+
+impl MarkerTreeSimplification for MarkerTree {
+    ghost tree = { λ tree. tree };
+
+    fn complexify_python_versions(
+        self,
+        alloc: Global,
+        interner: &mut Interner,
+        lower: Bound<&Version>,
+        upper: Bound<&Version>,
+    ) -> Result<MarkerTree, AllocError> {
+        complexified(alloc, interner, self, lower, upper)
+    }
+
+    fn simplify_extras_with<F: Fn(&ExtraName) -> bool>(
+        self,
+        alloc: Global,
+        interner: &mut Interner,
+        predicate: F,
+    ) -> Result<MarkerTree, AllocError> {
+        with_extras(alloc, interner, self, &predicate)
+    }
+}
