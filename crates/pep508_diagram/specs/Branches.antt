@@ -35,4 +35,5 @@ AllBranches P first (branch ∷ later) = P first × AllBranches P branch.child l
 -- true and false by turns, from each boundary on the other one
 abbrev pub by_turns : {T : Type 0} → Bool → List (Boundary T) → List (Branch T Bool)
 by_turns first [] = []
-by_turns first (boundary ∷ later) = record { boundary = boundary; child = not first } ∷ by_turns (not first) later
+by_turns first (boundary ∷ later) =
+    record { boundary = boundary; child = not first } ∷ by_turns (not first) later

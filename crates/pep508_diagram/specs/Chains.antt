@@ -1,5 +1,5 @@
--- Branches between rising boundaries as a diagram: whether the variable lies below the first boundary, and else
--- below the next one, and so on.
+-- Branches between rising boundaries as a diagram: whether the variable lies below the first boundary, and
+-- else below the next one, and so on.
 use Rattle.std.specs.Prelude.{◌≡◌, ◌⊎◌, List, [], ◌∷◌}
 use Rattle.version_ranges.specs.declared.boundary.Boundary.{Boundary}
 use Rattle.pep508_diagram.specs.declared.branch.Branch.{Branch}

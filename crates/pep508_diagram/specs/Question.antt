@@ -1,6 +1,6 @@
--- What marker trees ask of environments and extras (PEP 508, "Environment Markers"): whether the version or the
--- text that a key stands for lies below a boundary; and of texts that stand in one another and of extras whether
--- they do, and are there.
+-- What marker trees ask of environments and extras (PEP 508, "Environment Markers"): whether the version or
+-- the text that a key stands for lies below a boundary; and of texts that stand in one another and of extras
+-- whether they do, and are there.
 use Rattle.std.specs.Prelude.{◌≡◌, ℕ, ◌+◌, ◌==◌, Bool, true, false, not, cond, List, [], ◌∷◌}
 use Rattle.std.specs.declared.cmp.Ordering.{Ordering}
 use Rattle.std.specs.Ordering.{is_eq, on, then_cmp}
@@ -14,7 +14,8 @@ use Rattle.pep440_rs.specs.Order.{version_cmp}
 use Rattle.pep508_marker.specs.declared.keys.MarkerValueString.{MarkerValueString}
 use Rattle.pep508_marker.specs.Keys.{text_key_rank}
 use Rattle.pep508_diagram.specs.declared.variable.VersionVariable.{VersionVariable}
-use Rattle.pep508_diagram.specs.declared.variable.VersionVariable.TheVariants.{ImplementationVersion, PythonFullVersion}
+use Rattle.pep508_diagram.specs.declared.variable.VersionVariable.TheVariants.{ImplementationVersion}
+use Rattle.pep508_diagram.specs.declared.variable.VersionVariable.TheVariants.{PythonFullVersion}
 use Rattle.pep508_diagram.specs.declared.variable.Flag.{Flag}
 use Rattle.pep508_diagram.specs.declared.variable.Flag.TheVariants.{In, Contains, Extra, Arbitrary}
 use Rattle.pep508_diagram.specs.Text.{text_cmp}
@@ -26,15 +27,15 @@ pub data Question : Type 0 where
   TextBelow : MarkerValueString → Boundary (List ℕ) → Question
   IsSet : Flag → Question
 
--- a point for each key whose values are versions, one for each key whose values are texts, and a truth for each
--- flag, all independent of one another
+-- a point for each key whose values are versions, one for each key whose values are texts, and a truth for
+-- each flag, all independent of one another
 pub record Valuation : Type 0 where
   pub version : VersionVariable → Point VersionRecord
   pub text : MarkerValueString → Point (List ℕ)
   pub flag : Flag → Bool
 
--- ---- the order of variables: keys of versions, keys of texts, texts that the key's text stands in, texts that
--- stand in it, names of extras, and other texts of extras
+-- ---- the order of variables: keys of versions, keys of texts, texts that the key's text stands in, texts
+-- that stand in it, names of extras, and other texts of extras
 
 abbrev pub version_rank : VersionVariable → ℕ
 version_rank ImplementationVersion = 0

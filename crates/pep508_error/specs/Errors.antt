@@ -1,5 +1,6 @@
 -- What an error tells.
-use Rattle.std.specs.Prelude.{ℕ, ◌==◌, if◌then◌else◌, List, ◌∷◌, ◌++◌, length, take, drop, codes, option_map, Option, Some, None}
+use Rattle.std.specs.Prelude.{ℕ, ◌==◌, if◌then◌else◌, List, ◌∷◌, ◌++◌, length, take, drop, codes, option_map}
+use Rattle.std.specs.Prelude.{Option, Some, None}
 use Rattle.std.specs.String.{string_bytes}
 use Rattle.underline.specs.Underline.{columns, underlined}
 use Rattle.pep508_error.specs.declared.excerpt.Excerpt.{Excerpt}

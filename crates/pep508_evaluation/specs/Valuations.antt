@@ -1,6 +1,7 @@
 -- The valuation of an environment with extras, and when some valuation with just these extras makes a tree
 -- hold (PEP 508, "Environment Markers").
-use Rattle.std.specs.Prelude.{◌≡◌, ◌↔◌, ℕ, ◌||◌, eqb, Bool, IsTrue, true, false, List, [], ◌∷◌, Option, Some, None}
+use Rattle.std.specs.Prelude.{◌≡◌, ◌↔◌, ℕ, ◌||◌, eqb, Bool, IsTrue, true, false, List, [], ◌∷◌, Option, Some}
+use Rattle.std.specs.Prelude.{None}
 use Rattle.std.specs.List.{starts_with, list_any}
 use Rattle.version_ranges.specs.Point.{At}
 use Rattle.pep440_rs.specs.Record.{VersionRecord}
@@ -8,7 +9,8 @@ use Rattle.pep508_name.specs.Name.{name_eq}
 use Rattle.pep508_environment.specs.Environment.{EnvironmentRecord}
 use Rattle.pep508_environment.specs.EnvironmentValues.{text_in}
 use Rattle.pep508_diagram.specs.declared.variable.VersionVariable.{VersionVariable}
-use Rattle.pep508_diagram.specs.declared.variable.VersionVariable.TheVariants.{ImplementationVersion, PythonFullVersion}
+use Rattle.pep508_diagram.specs.declared.variable.VersionVariable.TheVariants.{ImplementationVersion}
+use Rattle.pep508_diagram.specs.declared.variable.VersionVariable.TheVariants.{PythonFullVersion}
 use Rattle.pep508_diagram.specs.declared.variable.Flag.{Flag}
 use Rattle.pep508_diagram.specs.declared.variable.Flag.TheVariants.{In, Contains, Extra, Arbitrary}
 use Rattle.pep508_diagram.specs.Question.{Valuation}

@@ -1,19 +1,21 @@
 -- What is warned of where a tree is evaluated: old names of PEP 345 anywhere in it, and the bounds that texts
--- are compared with on the way to the answer (PEP 508, "Environment Markers"). Tests of one variable in a row,
--- each for where the one before is answered by no, are one node; the texts before its first test, between two
--- of them and from its last one on are its edges.
+-- are compared with on the way to the answer (PEP 508, "Environment Markers"). Tests of one variable in a
+-- row, each for where the one before is answered by no, are one node; the texts before its first test, between
+-- two of them and from its last one on are its edges.
 use Rattle.std.specs.Prelude.{ℕ, Bool, false, cond, List, [], ◌∷◌, ◌++◌, map, Option, Some, None, is_some}
 use Rattle.version_ranges.specs.declared.boundary.Boundary.{Boundary}
 use Rattle.version_ranges.specs.Boundaries.{point_of}
 use Rattle.version_ranges.specs.Bounds.{single_value}
 use Rattle.pep508_marker.specs.declared.keys.MarkerValueString.{MarkerValueString}
 use Rattle.pep508_marker.specs.declared.warnings.MarkerWarningKind.{MarkerWarningKind}
-use Rattle.pep508_marker.specs.declared.warnings.MarkerWarningKind.TheVariants.{DeprecatedMarkerName, LexicographicComparison}
+use Rattle.pep508_marker.specs.declared.warnings.MarkerWarningKind.TheVariants.{DeprecatedMarkerName}
+use Rattle.pep508_marker.specs.declared.warnings.MarkerWarningKind.TheVariants.{LexicographicComparison}
 use Rattle.pep508_marker.specs.Keys.{is_deprecated}
 use Rattle.pep508_marker.specs.Warnings.{Warning}
 use Rattle.pep508_diagram.specs.Text.{text_cmp}
 use Rattle.pep508_diagram.specs.Diagram.{Diagram, Leaf, Test}
-use Rattle.pep508_diagram.specs.Question.{Question, VersionBelow, TextBelow, IsSet, Valuation, text_boundaries, shares_variable, answer}
+use Rattle.pep508_diagram.specs.Question.{Question, VersionBelow, TextBelow, IsSet, Valuation}
+use Rattle.pep508_diagram.specs.Question.{text_boundaries, shares_variable, answer}
 
 -- a test goes on with the node of the test before it
 abbrev pub goes_on : Option Question → Question → Bool

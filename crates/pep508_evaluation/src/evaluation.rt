@@ -89,7 +89,8 @@ pub trait MarkerTreeEvaluation {
             yes ≡ holds interner.now.nodes (tree self) (valuation_of environment.now extras.now)) }
         ensures taken { OnOk result (FoldsTo (TakesKind R.takes) reporter.old
             (warned (valuation_of environment.now extras.now) (diagram_of interner.now.nodes (tree self)))
-            reporter.new) };
+            reporter.new) }
+        ensures again { R.can_report reporter.new };
 
     /// `evaluate` with the warnings of `evaluate_reporter`, in order. Takes memory for them.
     fn evaluate_collect_warnings(

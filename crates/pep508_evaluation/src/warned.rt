@@ -174,6 +174,7 @@ fn report_compared<R: Reporter>(
     requires can { R.can_report reporter.old }
     ensures answer { IfOk result (λ yes.
         yes ≡ holds interner.now.nodes tree (valuation_of environment.now extras.now)) }
+    ensures again { R.can_report reporter.new }
     ensures taken { OnOk result (FoldsTo (TakesKind R.takes) reporter.old
         (compared (valuation_of environment.now extras.now) None (diagram_of interner.now.nodes tree))
         reporter.new) }
@@ -248,6 +249,7 @@ pub(crate) fn evaluate_reporter<R: Reporter>(
     requires can { R.can_report reporter.old }
     ensures answer { IfOk result (λ yes.
         yes ≡ holds interner.now.nodes tree (valuation_of environment.now extras.now)) }
+    ensures again { R.can_report reporter.new }
     ensures taken { OnOk result (FoldsTo (TakesKind R.takes) reporter.old
         (warned (valuation_of environment.now extras.now) (diagram_of interner.now.nodes tree))
         reporter.new) }

@@ -1,10 +1,20 @@
 -- The keys of markers (PEP 508, "Environment Markers").
 use Rattle.std.specs.Prelude.{ℕ, Bool, true, false, List, codes}
 use Rattle.pep508_marker.specs.declared.keys.MarkerValueVersion.{MarkerValueVersion}
-use Rattle.pep508_marker.specs.declared.keys.MarkerValueVersion.TheVariants.{ImplementationVersion, PythonFullVersion, PythonVersion}
+use Rattle.pep508_marker.specs.declared.keys.MarkerValueVersion.TheVariants.{ImplementationVersion}
+use Rattle.pep508_marker.specs.declared.keys.MarkerValueVersion.TheVariants.{PythonFullVersion, PythonVersion}
 use Rattle.pep508_marker.specs.declared.keys.MarkerValueString.{MarkerValueString}
-use Rattle.pep508_marker.specs.declared.keys.MarkerValueString.TheVariants.{ImplementationName, OsName, OsNameDeprecated, PlatformMachine, PlatformMachineDeprecated, PlatformPythonImplementation, PlatformPythonImplementationDeprecated}
-use Rattle.pep508_marker.specs.declared.keys.MarkerValueString.TheVariants.{PythonImplementationDeprecated, PlatformRelease, PlatformSystem, PlatformVersion, PlatformVersionDeprecated, SysPlatform, SysPlatformDeprecated}
+use Rattle.pep508_marker.specs.declared.keys.MarkerValueString.TheVariants.{ImplementationName, OsName}
+use Rattle.pep508_marker.specs.declared.keys.MarkerValueString.TheVariants.{OsNameDeprecated, PlatformMachine}
+use Rattle.pep508_marker.specs.declared.keys.MarkerValueString.TheVariants.{PlatformMachineDeprecated}
+use Rattle.pep508_marker.specs.declared.keys.MarkerValueString.TheVariants.{PlatformPythonImplementation}
+use Rattle.pep508_marker.specs.declared.keys.MarkerValueString.TheVariants.{PlatformPythonImplementationDeprecated}
+use Rattle.pep508_marker.specs.declared.keys.MarkerValueString.TheVariants.{PythonImplementationDeprecated}
+use Rattle.pep508_marker.specs.declared.keys.MarkerValueString.TheVariants.{PlatformRelease, PlatformSystem}
+use Rattle.pep508_marker.specs.declared.keys.MarkerValueString.TheVariants.{PlatformVersion}
+use Rattle.pep508_marker.specs.declared.keys.MarkerValueString.TheVariants.{PlatformVersionDeprecated}
+use Rattle.pep508_marker.specs.declared.keys.MarkerValueString.TheVariants.{SysPlatform}
+use Rattle.pep508_marker.specs.declared.keys.MarkerValueString.TheVariants.{SysPlatformDeprecated}
 
 -- the name of a key whose values are versions
 abbrev pub version_key_name : MarkerValueVersion → List ℕ

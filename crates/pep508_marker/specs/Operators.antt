@@ -1,5 +1,6 @@
 -- The operators of markers: their texts, and what bounds say with them (PEP 508, "Environment Markers").
-use Rattle.std.specs.Prelude.{ℕ, ◌&&◌, eqb, not, Bool, true, false, if◌then◌else◌, List, [], ◌∷◌, ◌++◌, drop, codes, Option, Some, None, option_to_list, Result, Ok, Err}
+use Rattle.std.specs.Prelude.{ℕ, ◌&&◌, eqb, not, Bool, true, false, if◌then◌else◌, List, [], ◌∷◌, ◌++◌, drop}
+use Rattle.std.specs.Prelude.{codes, Option, Some, None, option_to_list, Result, Ok, Err}
 use Rattle.std.specs.Borrow.{Bor}
 use Rattle.std.specs.List.{starts_with}
 use Rattle.std.specs.Option.{option_map_or}
@@ -13,7 +14,10 @@ use Rattle.pep440_operator.specs.declared.operator.Operator.TheVariants as versi
 use Rattle.pep508_marker.specs.declared.operators.ExtraOperator.{ExtraOperator}
 use Rattle.pep508_marker.specs.declared.operators.ExtraOperator.TheVariants as extras
 use Rattle.pep508_marker.specs.declared.operators.MarkerOperator.{MarkerOperator}
-use Rattle.pep508_marker.specs.declared.operators.MarkerOperator.TheVariants.{Equal, NotEqual, GreaterThan, GreaterEqual, LessThan, LessEqual, TildeEqual, In, NotIn, Contains, NotContains}
+use Rattle.pep508_marker.specs.declared.operators.MarkerOperator.TheVariants.{Equal, NotEqual, GreaterThan}
+use Rattle.pep508_marker.specs.declared.operators.MarkerOperator.TheVariants.{GreaterEqual, LessThan}
+use Rattle.pep508_marker.specs.declared.operators.MarkerOperator.TheVariants.{LessEqual, TildeEqual, In}
+use Rattle.pep508_marker.specs.declared.operators.MarkerOperator.TheVariants.{NotIn, Contains, NotContains}
 use Rattle.pep508_marker.specs.declared.operators.MarkerTextError.{MarkerTextError}
 use Rattle.pep508_marker.specs.declared.operators.MarkerTextError.TheVariants.{Text, Memory}
 

@@ -2,7 +2,9 @@
 use Rattle.std.specs.Prelude.{◌≡◌, ◌⊎◌, ℕ, List, ◌∷◌, ◌++◌}
 use Rattle.pep440_rs.specs.SpecifierText.{AreSpaces}
 use Rattle.pep508_error.specs.declared.error.Pep508ErrorSource.{Pep508ErrorSource}
-use Rattle.pep508_error.specs.declared.error.Pep508ErrorSource.TheVariants.{Memory, String, UrlError, UnsupportedRequirement, NumberAtEnd}
+use Rattle.pep508_error.specs.declared.error.Pep508ErrorSource.TheVariants.{Memory, String, UrlError}
+use Rattle.pep508_error.specs.declared.error.Pep508ErrorSource.TheVariants.{UnsupportedRequirement}
+use Rattle.pep508_error.specs.declared.error.Pep508ErrorSource.TheVariants.{NumberAtEnd}
 use Rattle.pep508_marker_read.specs.MarkerReading.{Marker}
 use Rattle.pep508_marker_read.specs.MarkerText.{IsMarkerText}
 use Rattle.pep508_requirement_text.specs.FrontReading.{Front}

@@ -71,10 +71,11 @@ pub fn a_read_unnamed_requirement_is_written<U: UnnamedRequirementUrl>()
     ensures { (vars : Variables) (directory : Option (List ℕ)) (nodes : List NodeRecord) (text : List ℕ)
         (r : _)
         → IsUnnamedRead
-        (ReadsGiven (ReadsUnnamed (λ path. U.reads_path path directory) U.reads_url) U.is_given vars) nodes text r
+        (ReadsGiven (ReadsUnnamed (λ path. U.reads_path path directory) U.reads_url) U.is_given vars)
+        nodes text r
         → (front : UnnamedFront) × (marker : Marker) × IsUnnamedMarkedText text front marker
-        × ReadsGiven (ReadsUnnamed (λ path. U.reads_path path directory) U.reads_url) U.is_given vars front.url
-        (Ok r.url)
+        × ReadsGiven (ReadsUnnamed (λ path. U.reads_path path directory) U.reads_url) U.is_given vars
+        front.url (Ok r.url)
         × (r.extras.items ≡ front.extras)
         × IsTreeOf nodes r.marker marker.formula }
 {

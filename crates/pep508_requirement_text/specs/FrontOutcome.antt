@@ -7,7 +7,8 @@ use Rattle.pep440_specifier_list.specs.Lists.{IsInOrder}
 use Rattle.pep508_error.specs.declared.cursor.Cursor.{Cursor}
 use Rattle.pep508_error.specs.declared.refusal.Refusal.{Refusal}
 use Rattle.pep508_error.specs.declared.refusal.RefusalKind.{RefusalKind}
-use Rattle.pep508_error.specs.declared.refusal.RefusalKind.TheVariants.{Memory, String, UnsupportedRequirement, NumberAtEnd}
+use Rattle.pep508_error.specs.declared.refusal.RefusalKind.TheVariants.{Memory, String}
+use Rattle.pep508_error.specs.declared.refusal.RefusalKind.TheVariants.{UnsupportedRequirement, NumberAtEnd}
 use Rattle.pep508_error.specs.Cursors.{rest_of, IsBehind}
 use Rattle.pep508_requirement_text.specs.FrontReading.{Refused}
 use Rattle.pep508_requirement_text.specs.FrontReading.Refused.{Malformed, Nameless, Archive}

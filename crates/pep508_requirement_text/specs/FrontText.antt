@@ -1,6 +1,7 @@
 -- The text of a requirement before its marker (PEP 508, "Grammar"): white space, a name, extras in brackets,
 -- and specifiers or a URL, with white space between each two.
-use Rattle.std.specs.Prelude.{◌≡◌, ◌⊎◌, ℕ, ◌<◌, false, List, [], ◌∷◌, ◌++◌, length, All, Some, ◌==◌, IsTrue, encode_utf8_all}
+use Rattle.std.specs.Prelude.{◌≡◌, ◌⊎◌, ℕ, ◌<◌, false, List, [], ◌∷◌, ◌++◌, length, All, Some, ◌==◌, IsTrue}
+use Rattle.std.specs.Prelude.{encode_utf8_all}
 use Rattle.std.specs.List.{AllZip, join_with_byte}
 use Rattle.std.specs.Str.{chars}
 use Rattle.pep508_name.specs.Name.{name_of}

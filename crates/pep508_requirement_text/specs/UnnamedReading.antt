@@ -1,5 +1,6 @@
 -- What there is to read at the front of a requirement without a name: a URL, and the extras at its end.
-use Rattle.std.specs.Prelude.{◌≡◌, ◌⊎◌, ◌<◌, ℕ, true, List, [], length, Option, Some, None, Ok, Err, encode_utf8_all}
+use Rattle.std.specs.Prelude.{◌≡◌, ◌⊎◌, ◌<◌, ℕ, true, List, [], length, Option, Some, None, Ok, Err}
+use Rattle.std.specs.Prelude.{encode_utf8_all}
 use Rattle.std.specs.Str.{chars, skip_leading_whitespace}
 use Rattle.pep508_url.specs.Splits.{IsExtrasSplit}
 use Rattle.pep508_requirement_text.specs.UrlEnds.{url_split}
