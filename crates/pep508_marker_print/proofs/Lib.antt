@@ -1,0 +1,2 @@
+pub mod Releases
+pub mod Sifting

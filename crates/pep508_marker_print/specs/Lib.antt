@@ -1,0 +1,5 @@
+pub mod Relations
+pub mod Terms
+pub mod Operators
+pub mod Places
+pub mod Turns
