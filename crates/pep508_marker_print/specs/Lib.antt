@@ -3,3 +3,4 @@ pub mod Terms
 pub mod Operators
 pub mod Places
 pub mod Turns
+pub mod Steps

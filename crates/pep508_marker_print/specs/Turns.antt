@@ -1,19 +1,26 @@
 -- The turns of a set, as the program has them.
-use Rattle.std.specs.Prelude.{Bool, true, false, List, [], ◌∷◌, map, Option, Some, None}
+use Rattle.std.specs.Prelude.{◌==◌, ◌&&◌, Bool, true, false, List, [], ◌∷◌, map, Option, Some, None}
+use mathlib.Core.Bool.{beq}
 use Rattle.std.specs.Borrow.{Bor}
 use Rattle.std.specs.Range.Bound.{bound_map}
 use Rattle.std.specs.declared.ops.Bound.{Bound}
-use Rattle.std.specs.declared.ops.Bound.TheVariants.{Unbounded}
-use Rattle.version_ranges.specs.declared.boundary.Boundary.{Boundary}
 use Rattle.version_ranges.specs.Boundaries.{point_of}
-use Rattle.version_ranges.specs.Bounds.{intervals, lower_bound_at, upper_bound_at}
+use Rattle.version_ranges.specs.Bounds.{intervals}
 use Rattle.version_ranges.specs.Point.{Point, BelowAll}
+use Rattle.pep508_diagram.specs.declared.branch.Branch.{Branch}
+use Rattle.pep508_tree.specs.Tree.{Tree}
+use Rattle.pep508_marker_text.specs.Groups.{turning}
 use Rattle.pep508_marker_text.specs.Saying.{Clause, Saying, interval_clause}
 
+-- the trees are named alike
+abbrev pub same_tree : Tree → Tree → Bool
+same_tree a b = (a.place == b.place) && beq a.negated b.negated
+
 module _ {T : Type 0} where
-  -- the points of boundaries that are lent
-  abbrev pub lent_points : List (Bor (Boundary T)) → List (Point T)
-  lent_points turns = map (λ turn. point_of turn.now) turns
+  -- the points at which branches turn to the tree or away from it, where what stands in front of them is the
+  -- tree or not
+  abbrev pub tree_points : Tree → Bool → List (Branch T Tree) → List (Point T)
+  tree_points tree held later = map point_of (turning (same_tree tree) held later)
 
   abbrev pub lent_value : Bound (Bor T) → Bound T
   lent_value bound = bound_map (λ value. value.now) bound
@@ -32,8 +39,7 @@ module _ {T : Type 0} where
   abbrev pub bounds_clauses : Saying T → List (Point T) → List Clause
   bounds_clauses say turns = map (interval_clause say) (intervals turns)
 
-  -- the intervals of turns behind a lower bound, where one has begun
-  abbrev pub intervals_from : Option (Bound T) → List (Point T) → List (Bound T × Bound T)
-  intervals_from None turns = intervals turns
-  intervals_from (Some lower) [] = (lower, Unbounded) ∷ []
-  intervals_from (Some lower) (upper ∷ later) = (lower, upper_bound_at upper) ∷ intervals later
+-- a list of two
+abbrev pub two_of : {A : Type 0} → List A → Option (A × A)
+two_of (x ∷ y ∷ []) = Some (x, y)
+two_of xs = None

@@ -2,7 +2,11 @@
 //! tree does.
 #![tactic(auto)]
 
+mod clause_text;
 mod saying;
 mod set_clauses;
 mod simplify;
+mod steps;
 mod term;
+mod turns;
+mod walk;

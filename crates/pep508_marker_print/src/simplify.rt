@@ -22,17 +22,21 @@ fn stands_in<T: Term>(clause: &[T], term: &T) -> bool
     false
 }
 
+/// Whether a term stands in front or behind.
+#[tactic(auto, using(crate::proofs::Sifting::stands_beside))]
+fn stands_beside<T: Term>(front: &[T], behind: &[T], term: &T) -> bool
+    ensures { result ≡ stands_in T.same T.opposite (front.now ++ behind.now) term.now }
+{
+    stands_in(front, term) || stands_in(behind, term)
+}
+
 /// Whether a term is another one than a given term, and is its negation or stands beside it.
 fn is_spared<T: Term>(term: &T, front: &[T], behind: &[T], other: &T) -> bool
-    ensures { result ≡ list_all
-        (λ other. not (T.same term.now other)
-        && (T.opposite term.now other || stands_in T.same T.opposite (front.now ++ behind.now) other))
-        (other.now ∷ []) }
+    ensures { result ≡ (not (T.same term.now other.now)
+        && (T.opposite term.now other.now
+        || stands_in T.same T.opposite (front.now ++ behind.now) other.now)) }
 {
-    if term.is_same(other) {
-        return false;
-    }
-    term.is_opposite(other) || stands_in(front, other) || stands_in(behind, other)
+    !term.is_same(other) && (term.is_opposite(other) || stands_beside(front, behind, other))
 }
 
 /// Whether a clause has the term nowhere, and consists of negations of it and of terms beside it.
@@ -60,6 +64,21 @@ fn one_spares<T: Term>(term: &T, front: &[T], behind: &[T], clauses: &[Vec<T>]) 
     false
 }
 
+/// Whether one of the clauses in front and behind spares a term.
+#[tactic(auto, using(crate::proofs::Sifting::spared_beside))]
+fn other_spares<T: Term>(
+    term: &T,
+    front: &[T],
+    behind: &[T],
+    done: &[Vec<T>],
+    later: &[Vec<T>],
+) -> bool
+    ensures { result ≡ list_any (spares T.same T.opposite term.now (front.now ++ behind.now))
+        (lists_of done.now ++ lists_of later.now) }
+{
+    one_spares(term, front, behind, done) || one_spares(term, front, behind, later)
+}
+
 /// Whether the term at a place of a clause is needless beside other clauses.
 fn is_needless<T: Term>(clause: &[T], place: usize, done: &[Vec<T>], later: &[Vec<T>]) -> bool
     requires { place < length clause.now }
@@ -73,7 +92,7 @@ fn is_needless<T: Term>(clause: &[T], place: usize, done: &[Vec<T>], later: &[Ve
             if front.is_empty() && behind.is_empty() {
                 return false;
             }
-            one_spares(term, front, behind, done) || one_spares(term, front, behind, later)
+            other_spares(term, front, behind, done, later)
         }
     }
 }
@@ -121,6 +140,15 @@ fn is_covered<T: Term>(clause: &[T], others: &[Vec<T>]) -> bool
     false
 }
 
+/// Whether one of the clauses in front and behind covers a clause.
+#[tactic(auto, using(crate::proofs::Sifting::covered_beside))]
+fn other_covers<T: Term>(clause: &[T], kept: &[Vec<T>], later: &[Vec<T>]) -> bool
+    ensures { result
+        ≡ is_covered T.same T.opposite clause.now (lists_of kept.now ++ lists_of later.now) }
+{
+    is_covered(clause, kept) || is_covered(clause, later)
+}
+
 /// Whether all of some terms stand in a clause.
 fn stand_in<T: Term>(clause: &[T], terms: &[T]) -> bool
     ensures { result ≡ list_all (stands_in T.same T.opposite clause.now) terms.now }
@@ -142,7 +170,7 @@ fn uncovered<T: Term>(alloc: Global, clauses: Vec<Vec<T>>) -> Result<Vec<Vec<T>>
     later.reverse();
     let mut kept = Vec::new(alloc);
     while let Some(clause) = later.pop() {
-        if !(is_covered(&clause, &kept) || is_covered(&clause, &later)) {
+        if !other_covers(&clause, &kept, &later) {
             kept.push(clause)?;
         }
     }
