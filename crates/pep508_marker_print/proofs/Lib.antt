@@ -1,5 +1,3 @@
-pub mod Releases
 pub mod Sifting
-pub mod Walking
-pub mod Stepping
-pub mod Rooting
+pub mod Natural
+pub mod Texts

@@ -1,13 +1,35 @@
 //! The text of clauses.
 
-ghost use Rattle.std.specs.Prelude.{◌≡◌, ◌++◌, ◌∷◌, Some, codes};
+ghost use Rattle.std.specs.Prelude.{◌≡◌, ◌++◌, Some};
 ghost use Rattle.std.specs.List.{flat_map};
 ghost use Rattle.pep508_marker.specs.Expression.{expression_of, expression_text};
 ghost use Rattle.pep508_marker_text.specs.MarkerText.{clause_text, bracketed_text, clauses_text};
 ghost use Rattle.pep508_marker_print.specs.Terms.{clause_of, clauses_shown};
+ghost use Rattle.pep508_marker_print.specs.Texts.{and_term, or_clause};
 
 use pep508_marker::MarkerExpression;
 use std::fmt;
+
+/// A term, and more with `and` before each.
+#[derive(Clone, Copy)]
+struct Joined<'a> {
+    first: &'a MarkerExpression,
+    others: &'a [MarkerExpression],
+}
+
+impl fmt::Display for Joined<'_> {
+    ghost output = { λ text. Some (expression_text (expression_of text.first.now)
+        ++ flat_map and_term text.others.now) };
+
+    fn fmt<W: fmt::Write>(&self, f: &mut fmt::Formatter<W>) -> fmt::Result {
+        let first = self.first;
+        write!(f, "{first}")?;
+        for term in self.others {
+            write!(f, " and {term}")?;
+        }
+        Ok(())
+    }
+}
 
 /// Terms with `and` between them.
 #[derive(Clone, Copy)]
@@ -18,16 +40,11 @@ struct Terms<'a> {
 impl fmt::Display for Terms<'_> {
     ghost output = { λ text. Some (clause_text (clause_of text.terms.now)) };
 
+    #[tactic(auto, using(crate::proofs::Texts::joined_terms))]
     fn fmt<W: fmt::Write>(&self, f: &mut fmt::Formatter<W>) -> fmt::Result {
         match self.terms.split_first() {
             None => Ok(()),
-            Some((first, others)) => {
-                write!(f, "{first}")?;
-                for term in others {
-                    write!(f, " and {term}")?;
-                }
-                Ok(())
-            }
+            Some((first, others)) => write!(f, "{}", Joined { first, others }),
         }
     }
 }
@@ -43,11 +60,32 @@ impl fmt::Display for Bracketed<'_> {
 
     fn fmt<W: fmt::Write>(&self, f: &mut fmt::Formatter<W>) -> fmt::Result {
         let terms = Terms { terms: self.terms };
-        if self.terms.len() > 1 {
-            write!(f, "({terms})")
-        } else {
-            write!(f, "{terms}")
+        match self.terms {
+            [] | [_] => write!(f, "{terms}"),
+            _ => write!(f, "({terms})"),
         }
+    }
+}
+
+/// A clause, and more with `or` before each.
+#[derive(Clone, Copy)]
+struct Alternatives<'a> {
+    first: &'a [MarkerExpression],
+    others: &'a [Vec<MarkerExpression>],
+}
+
+impl fmt::Display for Alternatives<'_> {
+    ghost output = { λ text. Some (bracketed_text (clause_of text.first.now)
+        ++ flat_map or_clause text.others.now) };
+
+    fn fmt<W: fmt::Write>(&self, f: &mut fmt::Formatter<W>) -> fmt::Result {
+        let first = Bracketed { terms: self.first };
+        write!(f, "{first}")?;
+        for clause in self.others {
+            let terms = Bracketed { terms: clause };
+            write!(f, " or {terms}")?;
+        }
+        Ok(())
     }
 }
 
@@ -65,12 +103,9 @@ impl fmt::Display for Clauses<'_> {
             return Ok(());
         };
         if others.is_empty() {
-            return write!(f, "{}", Terms { terms: first });
+            write!(f, "{}", Terms { terms: first })
+        } else {
+            write!(f, "{}", Alternatives { first, others })
         }
-        write!(f, "{}", Bracketed { terms: first })?;
-        for clause in others {
-            write!(f, " or {}", Bracketed { terms: clause })?;
-        }
-        Ok(())
     }
 }

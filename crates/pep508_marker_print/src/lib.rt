@@ -1,12 +1,10 @@
-//! The text of a marker tree (PEP 508, "Environment Markers"), and its clauses, of which one holds where the
-//! tree does.
+//! Clauses of comparisons (PEP 508, "Environment Markers"): how they are simplified, and their text. Contracts
+//! see a comparison as an `ExpressionRecord`.
 #![tactic(auto)]
 
 mod clause_text;
-mod saying;
-mod set_clauses;
+mod clauses;
 mod simplify;
-mod steps;
 mod term;
-mod turns;
-mod walk;
+
+pub use clauses::{clauses_text, simplified_clauses};
