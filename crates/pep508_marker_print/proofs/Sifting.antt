@@ -1,5 +1,5 @@
 -- Sifting a list step by step.
-use Rattle.std.proofs.Common.{◌≡◌, ℕ, zero, suc, ◌+◌, ◌<◌, Bool, true, false, ◌&&◌, ◌||◌, cond, List, [], ◌∷◌, ◌++◌, map, take, drop, length, add-one, refl, sym, ap, ◌∙◌, arith, append_assoc}
+use Rattle.std.proofs.Common.{◌≡◌, ℕ, zero, suc, ◌+◌, ◌<◌, Bool, true, false, ◌&&◌, ◌||◌, cond, List, [], ◌∷◌, ◌++◌, map, take, drop, length, add-one, refl, sym, ap, ◌∙◌, arith}
 use Rattle.std.specs.Prelude.{reverse, Vec}
 use Rattle.std.specs.List.{list_any, list_all, remove}
 use Rattle.std.proofs.lemmas.List.{reverse-append, map-append}
@@ -25,15 +25,19 @@ around zero (x ∷ xs) h = ([], x, xs, record { before = refl; from = refl; up_t
 around (suc p) [] h = absurd (omega arith)
 around (suc p) (y ∷ xs) h =
     let r = around p xs (omega (arith, h)) in
-    let a = r.3 in
-    (y ∷ r.0, r.1, r.2, record {
-      before = ap (λ l. y ∷ l) a.before;
-      from = a.from;
-      up_to = ap (λ l. y ∷ l) a.up_to;
-      after = a.after;
-      kept_before = ap (λ l. y ∷ l) a.kept_before;
-      kept_after = a.kept_after;
-    })
+    let a = r.3 in (
+      y ∷ r.0,
+      r.1,
+      r.2,
+      record {
+        before = ap (λ l. y ∷ l) a.before;
+        from = a.from;
+        up_to = ap (λ l. y ∷ l) a.up_to;
+        after = a.after;
+        kept_before = ap (λ l. y ∷ l) a.kept_before;
+        kept_after = a.kept_after;
+      },
+    )
 
 module _ {A : Type 0} (drops : A → List A → Bool) where
   pub drop_here : (xs : List A) (p : ℕ) → p < length xs →

@@ -1,5 +1,5 @@
 -- What is said of the term at a place of a clause.
-use Rattle.std.specs.Prelude.{ℕ, ◌+◌, Bool, false, List, [], ◌∷◌, ◌++◌, take, drop}
+use Rattle.std.specs.Prelude.{ℕ, Bool, false, List, [], ◌∷◌, ◌++◌, take, drop}
 use Rattle.pep508_marker_text.specs.Simplified.{is_needless}
 
 -- the test of a first term, beside those in front of it and behind it

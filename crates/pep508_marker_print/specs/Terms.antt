@@ -1,7 +1,7 @@
 -- Terms of the program, and its lists of them, as records.
 use Rattle.std.specs.Prelude.{Bool, List, map, Vec}
 use Rattle.pep508_marker.specs.declared.expression.MarkerExpression.{MarkerExpression}
-use Rattle.pep508_marker.specs.Expression.{ExpressionRecord, expression_of}
+use Rattle.pep508_marker.specs.Expression.{expression_of}
 use Rattle.pep508_marker_text.specs.Saying.{Clause}
 use Rattle.pep508_marker_text.specs.SameTerms.{same_term, opposite_term}
 

@@ -30,10 +30,7 @@ pub fn simplified_clauses(
 
 /// The text of clauses, with `or` between them; a clause of several terms beside others stands in brackets.
 /// Linear in the text.
-pub fn clauses_text(
-    alloc: Global,
-    clauses: &[Vec<MarkerExpression>],
-) -> Result<String, AllocError>
+pub fn clauses_text(alloc: Global, clauses: &[Vec<MarkerExpression>]) -> Result<String, AllocError>
     ensures { IfOk result (λ text. string_bytes text ≡ clauses_text (clauses_shown clauses.now)) }
 {
     let text = Clauses { clauses };

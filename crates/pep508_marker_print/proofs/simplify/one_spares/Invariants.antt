@@ -1,6 +1,6 @@
 use Rattle.std.proofs.Common.{◌≡◌, ◌++◌, drop}
-use Rattle.std.specs.List.{list_any, list_all}
-use Rattle.pep508_marker_text.specs.Simplified.{stands_in, spares, is_covered}
+use Rattle.std.specs.List.{list_any}
+use Rattle.pep508_marker_text.specs.Simplified.{spares}
 use Rattle.pep508_marker_print.specs.Terms.{lists_of}
 use Rattle.pep508_marker_print.proofs.simplify.one_spares.Given as goal
 

@@ -1,4 +1,4 @@
-use Rattle.std.proofs.Common.{◌≡◌, ◌≤◌, ◌-◌, [], ◌++◌, take, drop, length}
+use Rattle.std.proofs.Common.{◌≡◌, ◌-◌, [], ◌++◌, take, drop, length}
 use Rattle.pep508_marker_text.specs.Simplified.{sifted, is_needless}
 use Rattle.pep508_marker_print.specs.Terms.{lists_of}
 use Rattle.pep508_marker_print.proofs.simplify.shorten.Given as goal

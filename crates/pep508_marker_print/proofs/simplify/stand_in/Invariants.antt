@@ -1,7 +1,6 @@
-use Rattle.std.proofs.Common.{◌≡◌, ◌++◌, drop}
-use Rattle.std.specs.List.{list_any, list_all}
-use Rattle.pep508_marker_text.specs.Simplified.{stands_in, spares, is_covered}
-use Rattle.pep508_marker_print.specs.Terms.{lists_of}
+use Rattle.std.proofs.Common.{◌≡◌, drop}
+use Rattle.std.specs.List.{list_all}
+use Rattle.pep508_marker_text.specs.Simplified.{stands_in}
 use Rattle.pep508_marker_print.proofs.simplify.stand_in.Given as goal
 
 abbrev pub invariant-loop-term : goal.invariant-loop-term

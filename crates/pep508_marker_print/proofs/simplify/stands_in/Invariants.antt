@@ -1,7 +1,5 @@
-use Rattle.std.proofs.Common.{◌≡◌, ◌++◌, drop}
-use Rattle.std.specs.List.{list_any, list_all}
-use Rattle.pep508_marker_text.specs.Simplified.{stands_in, spares, is_covered}
-use Rattle.pep508_marker_print.specs.Terms.{lists_of}
+use Rattle.std.proofs.Common.{◌≡◌, drop}
+use Rattle.pep508_marker_text.specs.Simplified.{stands_in}
 use Rattle.pep508_marker_print.proofs.simplify.stands_in.Given as goal
 
 abbrev pub invariant-loop-other : goal.invariant-loop-other
