@@ -1,0 +1,3 @@
+pub mod Sifting
+pub mod Natural
+pub mod Texts

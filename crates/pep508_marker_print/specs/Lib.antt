@@ -1,0 +1,4 @@
+pub mod Terms
+pub mod Operators
+pub mod Places
+pub mod Texts

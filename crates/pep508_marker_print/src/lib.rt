@@ -1,0 +1,10 @@
+//! Clauses of comparisons (PEP 508, "Environment Markers"): how they are simplified, and their text. Contracts
+//! see a comparison as an `ExpressionRecord`.
+#![tactic(auto)]
+
+mod clause_text;
+mod clauses;
+mod simplify;
+mod term;
+
+pub use clauses::{clauses_text, simplified_clauses};

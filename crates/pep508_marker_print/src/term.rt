@@ -1,0 +1,204 @@
+//! Terms of clauses, and which of them say the same or the opposite.
+
+ghost use Rattle.std.specs.Prelude.{◌≡◌};
+ghost use Rattle.pep440_rs.specs.SpecifierOrder.{operator_rank};
+ghost use Rattle.pep508_marker.specs.Keys.{version_key_rank, text_key_rank};
+ghost use Rattle.pep508_marker.specs.Values.{extra_of};
+ghost use Rattle.pep508_marker_text.specs.SameTerms.{marker_operator_rank, extra_operator_rank};
+ghost use Rattle.pep508_marker_text.specs.SameTerms.{same_text, same_version, same_extra};
+ghost use Rattle.pep508_marker_print.specs.Operators.{are_opposite, are_opposite_texts, are_opposite_extras};
+ghost use Rattle.pep508_marker_print.specs.Terms.{same_expression, opposite_expression};
+
+use pep440_operator::Operator;
+use pep440_version::Version;
+use pep508_marker::{
+    ExtraOperator, MarkerExpression, MarkerOperator, MarkerValueExtra, MarkerValueString,
+    MarkerValueVersion,
+};
+
+/// What stands in a clause.
+pub(crate) trait Term: Drop {
+    ghost use Rattle.std.specs.Prelude.{Bool};
+
+    /// Whether two terms are the same.
+    ghost same: { Self → Self → Bool };
+
+    /// Whether one is the other's negation.
+    ghost opposite: { Self → Self → Bool };
+
+    fn is_same(&self, other: &Self) -> bool
+        ensures { result ≡ same self.now other.now };
+
+    fn is_opposite(&self, other: &Self) -> bool
+        ensures { result ≡ opposite self.now other.now };
+}
+
+fn version_key_rank(key: MarkerValueVersion) -> u8
+    ensures { result ≡ version_key_rank key }
+{
+    key as u8
+}
+
+fn text_key_rank(key: MarkerValueString) -> u8
+    ensures { result ≡ text_key_rank key }
+{
+    key as u8
+}
+
+fn operator_rank(operator: Operator) -> u8
+    ensures { result ≡ operator_rank operator }
+{
+    operator as u8
+}
+
+fn marker_operator_rank(operator: MarkerOperator) -> u8
+    ensures { result ≡ marker_operator_rank operator }
+{
+    operator as u8
+}
+
+fn extra_operator_rank(operator: ExtraOperator) -> u8
+    ensures { result ≡ extra_operator_rank operator }
+{
+    operator as u8
+}
+
+/// Whether two versions are equal and have as many release numbers.
+fn same_version(version: &Version, other: &Version) -> bool
+    ensures { result ≡ same_version version.now other.now }
+{
+    version == other && version.release().cmp(other.release()).is_eq()
+}
+
+fn same_text(text: &str, other: &str) -> bool
+    ensures { result ≡ same_text text.now other.now }
+{
+    text.cmp(other).is_eq()
+}
+
+fn same_extra(extra: &MarkerValueExtra, other: &MarkerValueExtra) -> bool
+    ensures { result ≡ same_extra (extra_of extra.now) (extra_of other.now) }
+{
+    match (extra, other) {
+        (MarkerValueExtra::Extra(name), MarkerValueExtra::Extra(other)) => {
+            same_text(name.as_str(), other.as_str())
+        }
+        (MarkerValueExtra::Arbitrary(text), MarkerValueExtra::Arbitrary(other)) => {
+            same_text(text.as_str(), other.as_str())
+        }
+        _ => false,
+    }
+}
+
+fn are_opposite(operator: Operator, other: Operator) -> bool
+    ensures { result ≡ are_opposite operator other }
+{
+    match operator.negate() {
+        Some(negated) => operator_rank(negated) == operator_rank(other),
+        None => false,
+    }
+}
+
+fn are_opposite_texts(operator: MarkerOperator, other: MarkerOperator) -> bool
+    ensures { result ≡ are_opposite_texts operator other }
+{
+    match operator.negate() {
+        Some(negated) => marker_operator_rank(negated) == marker_operator_rank(other),
+        None => false,
+    }
+}
+
+fn are_opposite_extras(operator: ExtraOperator, other: ExtraOperator) -> bool
+    ensures { result ≡ are_opposite_extras operator other }
+{
+    extra_operator_rank(operator.negate()) == extra_operator_rank(other)
+}
+
+impl Term for MarkerExpression {
+    ghost same = { same_expression };
+
+    ghost opposite = { opposite_expression };
+
+    fn is_same(&self, other: &MarkerExpression) -> bool {
+        match (self, other) {
+            (
+                MarkerExpression::Version { key, specifier },
+                MarkerExpression::Version {
+                    key: other_key,
+                    specifier: other,
+                },
+            ) => {
+                version_key_rank(*key) == version_key_rank(*other_key)
+                    && (operator_rank(specifier.operator()) == operator_rank(other.operator())
+                        && same_version(specifier.version(), other.version()))
+            }
+            (
+                MarkerExpression::String {
+                    key,
+                    operator,
+                    value,
+                },
+                MarkerExpression::String {
+                    key: other_key,
+                    operator: other,
+                    value: other_value,
+                },
+            ) => {
+                text_key_rank(*key) == text_key_rank(*other_key)
+                    && (marker_operator_rank(*operator) == marker_operator_rank(*other)
+                        && same_text(value.as_str(), other_value.as_str()))
+            }
+            (
+                MarkerExpression::Extra { operator, name },
+                MarkerExpression::Extra {
+                    operator: other,
+                    name: other_name,
+                },
+            ) => {
+                extra_operator_rank(*operator) == extra_operator_rank(*other)
+                    && same_extra(name, other_name)
+            }
+            _ => false,
+        }
+    }
+
+    fn is_opposite(&self, other: &MarkerExpression) -> bool {
+        match (self, other) {
+            (
+                MarkerExpression::Version { key, specifier },
+                MarkerExpression::Version {
+                    key: other_key,
+                    specifier: other,
+                },
+            ) => {
+                version_key_rank(*key) == version_key_rank(*other_key)
+                    && (are_opposite(specifier.operator(), other.operator())
+                        && same_version(specifier.version(), other.version()))
+            }
+            (
+                MarkerExpression::String {
+                    key,
+                    operator,
+                    value,
+                },
+                MarkerExpression::String {
+                    key: other_key,
+                    operator: other,
+                    value: other_value,
+                },
+            ) => {
+                text_key_rank(*key) == text_key_rank(*other_key)
+                    && (are_opposite_texts(*operator, *other)
+                        && same_text(value.as_str(), other_value.as_str()))
+            }
+            (
+                MarkerExpression::Extra { operator, name },
+                MarkerExpression::Extra {
+                    operator: other,
+                    name: other_name,
+                },
+            ) => are_opposite_extras(*operator, *other) && same_extra(name, other_name),
+            _ => false,
+        }
+    }
+}
