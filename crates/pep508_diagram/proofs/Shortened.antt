@@ -11,8 +11,8 @@ use Rattle.version_ranges.specs.Boundaries.{point_of, boundary_cmp}
 use Rattle.version_ranges.specs.OrderLaws.{points_total, boundaries_total}
 use Rattle.version_ranges.specs.Turns.{reaches, Rising}
 use Rattle.version_ranges.proofs.Membership.{like, tied_rises}
-use Rattle.pep440_rs.specs.Record.{VersionRecord}
-use Rattle.pep440_rs.specs.Changes.{or_zero, without_end_zeros}
+use Rattle.pep440_text.specs.Record.{VersionRecord}
+use Rattle.pep440_version.specs.Changes.{or_zero, without_end_zeros}
 use Rattle.pep440_version.specs.Order.{before_stripped, stripped, key_of, key_cmp, version_cmp}
 use Rattle.pep440_version.specs.OrderLaws.{version_cmp_total}
 use Rattle.pep508_diagram.specs.Branches.{branch_at, by_turns}

@@ -4,8 +4,8 @@ use Rattle.std.specs.Prelude.{◌≡◌, List}
 use Rattle.std.specs.List.{AllByRecursion}
 use Rattle.version_ranges.specs.declared.boundary.Boundary.{Boundary}
 use Rattle.version_ranges.specs.declared.boundary.Boundary.TheVariants.{At, JustAbove}
-use Rattle.pep440_rs.specs.Record.{VersionRecord}
-use Rattle.pep440_rs.specs.Changes.{without_end_zeros}
+use Rattle.pep440_text.specs.Record.{VersionRecord}
+use Rattle.pep440_version.specs.Changes.{without_end_zeros}
 use Rattle.pep508_diagram.specs.declared.branch.Branch.{Branch}
 
 -- the boundary at the version without the zeros at its release's end

@@ -4,8 +4,8 @@ ghost use Rattle.std.specs.Prelude.{◌≡◌, IfOk, map};
 ghost use Rattle.version_ranges.specs.Point.{Point};
 ghost use Rattle.version_ranges.specs.Turns.{Rising};
 ghost use Rattle.version_ranges.specs.Boundaries.{boundary_cmp};
-ghost use Rattle.pep440_rs.specs.Record.{VersionRecord};
-ghost use Rattle.pep440_rs.specs.Order.{version_cmp};
+ghost use Rattle.pep440_text.specs.Record.{VersionRecord};
+ghost use Rattle.pep440_version.specs.Order.{version_cmp};
 ghost use Rattle.pep508_diagram.specs.Branches.{RisingBranches, branch_at, NeighboursDiffer, by_turns};
 ghost use Rattle.pep508_diagram.specs.Shortened.{shortened, AllShort};
 

@@ -1,8 +1,8 @@
 -- An environment that is made of texts (PEP 508, "Environment Markers").
 use Rattle.std.specs.Prelude.{ℕ, List, ◌++◌, codes, Option, Some, None, option_map, Result, Ok, Err}
-use Rattle.pep440_rs.specs.ErrorPrints.{version_error_text}
-use Rattle.pep440_rs.specs.Record.{VersionRecord}
-use Rattle.pep440_rs.specs.VersionReading.{VersionFault, version_reading, told_version}
+use Rattle.pep440_version.specs.ErrorPrints.{version_error_text}
+use Rattle.pep440_text.specs.Record.{VersionRecord}
+use Rattle.pep440_version.specs.VersionReading.{VersionFault, version_reading, told_version}
 use Rattle.pep508_marker.specs.declared.keys.MarkerValueVersion.{MarkerValueVersion}
 use Rattle.pep508_marker.specs.declared.keys.MarkerValueVersion.TheVariants.{ImplementationVersion, PythonFullVersion, PythonVersion}
 use Rattle.pep508_marker.specs.Keys.{version_key_name}

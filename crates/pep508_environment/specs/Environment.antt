@@ -4,8 +4,8 @@ use Rattle.std.specs.List.{filter_map}
 use Rattle.serde_json.specs.Data.{Data}
 use Rattle.serde_json.specs.Find.{get, as_str, as_object}
 use Rattle.serde_json.specs.Written.{has_float}
-use Rattle.pep440_rs.specs.Record.{VersionRecord}
-use Rattle.pep440_rs.specs.Reading.{version_of}
+use Rattle.pep440_text.specs.Record.{VersionRecord}
+use Rattle.pep440_text.specs.Reading.{version_of}
 use Rattle.pep508_environment.specs.declared.EnvironmentMember.{EnvironmentMember}
 use Rattle.pep508_environment.specs.declared.EnvironmentMember.TheVariants.{ImplementationName, ImplementationVersion, OsName, PlatformMachine, PlatformPythonImplementation, PlatformRelease, PlatformSystem, PlatformVersion, PythonFullVersion, PythonVersion, SysPlatform}
 use Rattle.pep508_environment.specs.declared.EnvironmentError.{EnvironmentError}

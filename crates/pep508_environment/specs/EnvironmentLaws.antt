@@ -7,9 +7,9 @@ use Rattle.std.specs.Cmp.Lexicographic.{pointwise, lists_equiv, nat_list_eq_equi
 use Rattle.std.specs.Hash as fed
 use Rattle.std.specs.List.{flat_map}
 use Rattle.std.specs.Str.{bytes_eq}
-use Rattle.pep440_rs.specs.Record.{VersionRecord}
-use Rattle.pep440_rs.specs.Order.{version_eq}
-use Rattle.pep440_rs.specs.OrderLaws.{version_eq_equiv, alike_versions}
+use Rattle.pep440_text.specs.Record.{VersionRecord}
+use Rattle.pep440_version.specs.Order.{version_eq}
+use Rattle.pep440_version.specs.OrderLaws.{version_eq_equiv, alike_versions}
 use Rattle.pep508_environment.specs.Environment.{EnvironmentRecord}
 use Rattle.pep508_environment.specs.EnvironmentValues.{texts_of, versions_of, environment_eq, fed_version, fed_environment}
 

@@ -2,7 +2,7 @@
 
 ghost use Rattle.std.specs.Prelude.{◌≡◌, ◌≢◌, IfOk, Some, Err};
 ghost use Rattle.std.specs.String.{string_bytes};
-ghost use Rattle.pep440_rs.specs.VersionReading.{NoLeadingNumber, version_reading};
+ghost use Rattle.pep440_version.specs.VersionReading.{NoLeadingNumber, version_reading};
 ghost use Rattle.pep440_version.specs.declared.parse_error.VersionParseError.TheVariants as versions;
 ghost use Rattle.pep508_environment.specs.declared.builder.EnvironmentBuildError.TheVariants as errors;
 ghost use Rattle.pep508_environment.specs.Building.{under, environment_built, told_build, build_error_text};
@@ -10,7 +10,7 @@ ghost use Rattle.read_outcome.specs.Outcome.{Answers};
 ghost use Rattle.pep508_marker.specs.declared.keys.MarkerValueVersion.{MarkerValueVersion};
 
 use crate::{MarkerEnvironment, StringVersion};
-use pep440_rs::VersionParseError;
+use pep440_version::VersionParseError;
 use pep508_marker::MarkerValueVersion;
 use std::alloc::{AllocError, Global};
 use std::error::Error;

@@ -5,7 +5,7 @@ ghost use Rattle.std.specs.String.{string_bytes};
 ghost use Rattle.pep508_environment.specs.EnvironmentValues.{version_in, text_in};
 
 use crate::{MarkerEnvironment, StringVersion};
-use pep440_rs::Version;
+use pep440_version::Version;
 use pep508_marker::{MarkerValueString, MarkerValueVersion};
 
 /// What the members say.

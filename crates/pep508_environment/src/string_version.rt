@@ -4,12 +4,13 @@ ghost use Rattle.std.specs.Prelude.{◌≡◌, ◌≢◌, IfOk, Some, Err};
 ghost use Rattle.std.specs.String.{string_bytes};
 ghost use Rattle.serde_json.specs.View.{view};
 ghost use Rattle.serde_json.specs.Find.{as_str};
-ghost use Rattle.pep440_rs.specs.Outcome.{Answers, ReadsText};
-ghost use Rattle.pep440_rs.specs.Print.{version_text};
-ghost use Rattle.pep440_rs.specs.VersionReading.{NoLeadingNumber, version_reading, told_version};
+ghost use Rattle.read_outcome.specs.Outcome.{Answers, ReadsText};
+ghost use Rattle.pep440_text.specs.Print.{version_text};
+ghost use Rattle.pep440_version.specs.VersionReading.{NoLeadingNumber, version_reading, told_version};
 ghost use Rattle.pep440_version.specs.declared.parse_error.VersionParseError.TheVariants as errors;
 
-use pep440_rs::{FromValueError, Version, VersionParseError};
+use pep440_version::{Version, VersionParseError};
+use read_outcome::FromValueError;
 use serde_json::Value;
 use std::alloc::{AllocError, Global};
 use std::fmt;

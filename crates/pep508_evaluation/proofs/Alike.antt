@@ -1,6 +1,6 @@
 -- Environments that are alike but for one member, and that what holds in one can hold.
 use Rattle.std.proofs.Common.{◌≡◌, ℕ, true, List, refl, ap}
-use Rattle.pep440_rs.specs.Record.{VersionRecord}
+use Rattle.pep440_text.specs.Record.{VersionRecord}
 use Rattle.version_ranges.specs.Point.{At}
 use Rattle.pep508_marker.specs.declared.keys.MarkerValueString.{MarkerValueString}
 use Rattle.pep508_marker.specs.declared.keys.MarkerValueString.TheVariants.{ImplementationName, OsName, OsNameDeprecated, PlatformMachine, PlatformMachineDeprecated, PlatformPythonImplementation, PlatformPythonImplementationDeprecated}

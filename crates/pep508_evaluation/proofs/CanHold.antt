@@ -8,7 +8,7 @@ use Rattle.std.specs.List.{slice_get}
 use Rattle.std.specs.Cmp.Lexicographic.{nat_list_cmp_total}
 use Rattle.version_ranges.specs.Point.{BelowAll}
 use Rattle.pep440_version.specs.OrderLaws.{version_cmp_total}
-use Rattle.pep440_rs.specs.Order.{version_cmp}
+use Rattle.pep440_version.specs.Order.{version_cmp}
 use Rattle.pep508_diagram.specs.declared.branch.Branch.{Branch}
 use Rattle.pep508_diagram.specs.declared.variable.Flag.{Flag}
 use Rattle.pep508_diagram.specs.declared.variable.Flag.TheVariants.{In, Contains, Extra, Arbitrary}

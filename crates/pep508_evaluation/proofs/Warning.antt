@@ -6,7 +6,7 @@ use Rattle.version_ranges.specs.declared.boundary.Boundary.{Boundary}
 use Rattle.version_ranges.specs.Boundaries.{point_of}
 use Rattle.version_ranges.specs.Point.{Point, point_cmp}
 use Rattle.version_ranges.specs.Turns.{reaches}
-use Rattle.pep440_rs.specs.Order.{version_cmp}
+use Rattle.pep440_version.specs.Order.{version_cmp}
 use Rattle.pep508_marker.specs.declared.keys.MarkerValueString.{MarkerValueString}
 use Rattle.pep508_marker.specs.declared.warnings.MarkerWarningKind.{MarkerWarningKind}
 use Rattle.pep508_diagram.specs.declared.branch.Branch.{Branch}

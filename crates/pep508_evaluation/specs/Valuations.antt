@@ -4,7 +4,7 @@ use Rattle.std.specs.Prelude.{◌≡◌, ◌↔◌, ℕ, ◌||◌, eqb, Bool, Is
 use Rattle.std.specs.Prelude.{None}
 use Rattle.std.specs.List.{starts_with, list_any}
 use Rattle.version_ranges.specs.Point.{At}
-use Rattle.pep440_rs.specs.Record.{VersionRecord}
+use Rattle.pep440_text.specs.Record.{VersionRecord}
 use Rattle.pep508_name.specs.Name.{name_eq}
 use Rattle.pep508_environment.specs.Environment.{EnvironmentRecord}
 use Rattle.pep508_environment.specs.EnvironmentValues.{text_in}

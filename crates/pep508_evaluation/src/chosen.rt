@@ -4,7 +4,7 @@ ghost use Rattle.std.specs.Prelude.{◌≡◌};
 ghost use Rattle.version_ranges.specs.Point.{At, point_cmp};
 ghost use Rattle.version_ranges.specs.Boundaries.{point_of};
 ghost use Rattle.version_ranges.specs.Turns.{reaches};
-ghost use Rattle.pep440_rs.specs.Order.{version_cmp};
+ghost use Rattle.pep440_version.specs.Order.{version_cmp};
 ghost use Rattle.pep508_diagram.specs.Branches.{RisingBranches, branch_at};
 ghost use Rattle.pep508_diagram.specs.Text.{text_cmp};
 ghost use Rattle.pep508_tree.specs.Meaning.{IsTree, holds};

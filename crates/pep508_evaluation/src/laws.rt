@@ -3,7 +3,7 @@
 
 ghost use Rattle.std.specs.Prelude.{◌≡◌, ◌↔◌, ℕ, IsTrue, true, List};
 ghost use Rattle.std.specs.Str.Iter.{HasSubslice};
-ghost use Rattle.pep440_rs.specs.Record.{VersionRecord};
+ghost use Rattle.pep440_text.specs.Record.{VersionRecord};
 ghost use Rattle.pep508_environment.specs.Environment.{EnvironmentRecord};
 ghost use Rattle.pep508_tree.specs.Tree.{Tree};
 ghost use Rattle.pep508_tree.specs.Meaning.{NodeRecord, holds};

@@ -2,10 +2,10 @@
 use Rattle.std.specs.Prelude.{ℕ, Bool, if◌then◌else◌, List, [], ◌∷◌, ◌++◌, codes}
 use Rattle.std.specs.List.{flat_map}
 use Rattle.std.specs.String.{string_bytes}
-use Rattle.pep440_rs.specs.Record.{VersionRecord}
-use Rattle.pep440_rs.specs.Matching.{SpecifierRecord}
-use Rattle.pep440_rs.specs.OperatorPrint.{operator_text, star_text}
-use Rattle.pep440_rs.specs.Print.{version_text}
+use Rattle.pep440_text.specs.Record.{VersionRecord}
+use Rattle.pep440_specifier.specs.Matching.{SpecifierRecord}
+use Rattle.pep440_operator.specs.OperatorPrint.{operator_text, star_text}
+use Rattle.pep440_text.specs.Print.{version_text}
 use Rattle.pep508_marker.specs.declared.keys.MarkerValueVersion.{MarkerValueVersion}
 use Rattle.pep508_marker.specs.declared.keys.MarkerValueString.{MarkerValueString}
 use Rattle.pep508_marker.specs.declared.operators.ExtraOperator.{ExtraOperator}

@@ -2,13 +2,14 @@
 
 ghost use Rattle.std.specs.Prelude.{◌≡◌, ◌++◌, IfOk, Some};
 ghost use Rattle.std.specs.List.{flat_map};
-ghost use Rattle.pep440_rs.specs.Print.{version_text};
-ghost use Rattle.pep440_rs.specs.OperatorPrint.{star_text};
+ghost use Rattle.pep440_text.specs.Print.{version_text};
+ghost use Rattle.pep440_operator.specs.OperatorPrint.{star_text};
 
 use crate::{
     ExtraOperator, MarkerOperator, MarkerValueExtra, MarkerValueString, MarkerValueVersion,
 };
-use pep440_rs::{Version, VersionSpecifier};
+use pep440_specifier::VersionSpecifier;
+use pep440_version::Version;
 use std::alloc::{AllocError, Global};
 use std::fmt;
 

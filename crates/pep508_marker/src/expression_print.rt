@@ -2,11 +2,11 @@
 
 ghost use Rattle.std.specs.Prelude.{◌≡◌, ◌++◌, Some};
 ghost use Rattle.std.specs.List.{flat_map};
-ghost use Rattle.pep440_rs.specs.Print.{version_text};
+ghost use Rattle.pep440_text.specs.Print.{version_text};
 ghost use Rattle.pep508_marker.specs.Expression.{expression_of, expression_text, versions_text, behind_blank};
 
 use crate::{MarkerExpression, MarkerOperator};
-use pep440_rs::Version;
+use pep440_version::Version;
 use std::fmt;
 
 /// A version, and more with a blank before each.

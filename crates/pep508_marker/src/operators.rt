@@ -5,7 +5,7 @@ ghost use Rattle.read_outcome.specs.Outcome.{Answers};
 ghost use Rattle.pep508_marker.specs.Operators.{marker_operator_text, behind_not, is_not_in, marker_operator_of, marker_operator_reading, told_text, text_error_text, inverted, marker_negated, specifier_operator};
 ghost use Rattle.pep508_marker.specs.Operators.{extra_operator_text, extra_negated, extra_operator, shown_bound, lower_term, upper_term, bound_terms};
 
-use pep440_rs::Operator;
+use pep440_operator::Operator;
 use std::alloc::{AllocError, Global};
 use std::error::Error;
 use std::fmt;

@@ -8,8 +8,8 @@ use Rattle.std.specs.Prelude.{filter, option_map, Option}
 use Rattle.std.specs.Char.{is_whitespace}
 use Rattle.std.specs.List.{before_first, position_or_len, slice_split, onto_first}
 use Rattle.std.specs.Str.{chars, encode_utf8_all, skip_leading_whitespace, IsUtf8}
-use Rattle.pep440_rs.specs.Record.{VersionRecord}
-use Rattle.pep440_rs.specs.Reading.{version_of}
+use Rattle.pep440_text.specs.Record.{VersionRecord}
+use Rattle.pep440_text.specs.Reading.{version_of}
 use Rattle.pep508_name.specs.Name.{is_part}
 use Rattle.pep508_marker_comparison.specs.SideReading.{begins_by}
 use Rattle.pep508_marker_comparison.specs.Stops.{encoded_cut}

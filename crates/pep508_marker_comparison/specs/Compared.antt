@@ -5,10 +5,10 @@ use Rattle.std.specs.List.{slice_split}
 use Rattle.std.specs.Option.{option_map}
 use Rattle.std.specs.Result.{result_ok}
 use Rattle.std.specs.Str.{chars}
-use Rattle.pep440_rs.specs.Record.{VersionRecord}
-use Rattle.pep440_rs.specs.Reading.{version_of, pattern_of}
-use Rattle.pep440_rs.specs.Matching.{SpecifierRecord}
-use Rattle.pep440_rs.specs.Building.{built, built_of_pattern}
+use Rattle.pep440_text.specs.Record.{VersionRecord}
+use Rattle.pep440_text.specs.Reading.{version_of, pattern_of}
+use Rattle.pep440_specifier.specs.Matching.{SpecifierRecord}
+use Rattle.pep440_specifier.specs.Building.{built, built_of_pattern}
 use Rattle.pep508_name.specs.Name.{name_of, is_part}
 use Rattle.pep508_marker.specs.declared.keys.MarkerValueVersion.{MarkerValueVersion}
 use Rattle.pep508_marker.specs.declared.keys.MarkerValueString.{MarkerValueString}

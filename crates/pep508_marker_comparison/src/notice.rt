@@ -5,7 +5,8 @@ ghost use Rattle.pep508_marker_comparison.specs.Notices.{kind_of};
 ghost use Rattle.pep508_marker_comparison.specs.Compared.{left_out};
 ghost use Rattle.pep508_marker_comparison.specs.Outcome.{IsWarned, IsCompared};
 
-use pep440_rs::{Version, VersionParseError, VersionPatternParseError, VersionSpecifierBuildError};
+use pep440_specifier::VersionSpecifierBuildError;
+use pep440_version::{Version, VersionParseError, VersionPatternParseError};
 use pep508_marker::{
     MarkerExpression, MarkerOperator, MarkerValue, MarkerValueVersion, MarkerWarningKind, Reporter,
 };

@@ -7,7 +7,8 @@ ghost use Rattle.pep508_marker_comparison.specs.Outcome.{IsCompared};
 
 use crate::notice::{Notice, leave_out, warn};
 use crate::versions::{read_pattern, read_version, read_versions};
-use pep440_rs::{VersionPatternParseError, VersionSpecifier, VersionSpecifierBuildError};
+use pep440_specifier::{VersionSpecifier, VersionSpecifierBuildError};
+use pep440_version::VersionPatternParseError;
 use pep508_marker::{MarkerExpression, MarkerOperator, MarkerValueVersion, Reporter};
 use std::alloc::{AllocError, Global};
 

@@ -2,11 +2,11 @@
 
 ghost use Rattle.std.specs.Prelude.{◌≡◌, [], ◌∷◌, option_map, IfOk, MatchOption};
 ghost use Rattle.std.specs.Result.{result_ok};
-ghost use Rattle.pep440_rs.specs.Reading.{version_of, pattern_of};
+ghost use Rattle.pep440_text.specs.Reading.{version_of, pattern_of};
 ghost use Rattle.pep508_marker_comparison.specs.Compared.{runs_of, versions_of};
 
 use crate::stop::{Stop, split};
-use pep440_rs::{Version, VersionParseError, VersionPattern, VersionPatternParseError};
+use pep440_version::{Version, VersionParseError, VersionPattern, VersionPatternParseError};
 use std::alloc::{AllocError, Global};
 
 /// The version that a text is, or why it is none.

@@ -6,8 +6,8 @@ use Rattle.std.specs.Cmp.Lexicographic.{nat_list_cmp_total}
 use Rattle.version_ranges.specs.declared.boundary.Boundary.{Boundary}
 use Rattle.version_ranges.specs.Point.{Point}
 use Rattle.pep440_version.specs.OrderLaws.{version_cmp_total}
-use Rattle.pep440_rs.specs.Record.{VersionRecord}
-use Rattle.pep440_rs.specs.Order.{version_cmp}
+use Rattle.pep440_text.specs.Record.{VersionRecord}
+use Rattle.pep440_version.specs.Order.{version_cmp}
 use Rattle.pep508_marker.specs.declared.keys.MarkerValueString.{MarkerValueString}
 use Rattle.pep508_marker.specs.Keys.{text_key_rank}
 use Rattle.pep508_diagram.specs.declared.variable.VersionVariable.{VersionVariable}

@@ -1,7 +1,7 @@
 -- What marker trees mean: the nodes of an interner as decision diagrams.
 use Rattle.std.specs.Prelude.{◌≡◌, ℕ, ◌≤◌, Bool, true, List, [], ◌∷◌, ◌++◌, length}
 use Rattle.std.proofs.Common.{get_or}
-use Rattle.pep440_rs.specs.Record.{VersionRecord}
+use Rattle.pep440_text.specs.Record.{VersionRecord}
 use Rattle.pep508_marker.specs.declared.keys.MarkerValueString.{MarkerValueString}
 use Rattle.pep508_diagram.specs.declared.branch.Branch.{Branch}
 use Rattle.pep508_diagram.specs.declared.variable.VersionVariable.{VersionVariable}

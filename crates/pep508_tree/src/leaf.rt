@@ -4,7 +4,7 @@ ghost use Rattle.std.specs.Prelude.{◌≡◌, IfOk, map};
 ghost use Rattle.version_ranges.specs.Turns.{Rising};
 ghost use Rattle.version_ranges.specs.Boundaries.{boundary_cmp};
 ghost use Rattle.version_ranges.specs.Held.{holds_at};
-ghost use Rattle.pep440_rs.specs.Order.{version_cmp};
+ghost use Rattle.pep440_version.specs.Order.{version_cmp};
 ghost use Rattle.pep508_diagram.specs.Text.{text_cmp};
 ghost use Rattle.pep508_diagram.specs.Branches.{branch_at, by_turns};
 ghost use Rattle.pep508_diagram.specs.Question.{Valuation};

@@ -1,7 +1,7 @@
 //! Trees by what is asked first and what stands for each answer.
 
 ghost use Rattle.std.specs.Prelude.{◌≡◌, [], ◌∷◌, IfOk};
-ghost use Rattle.pep440_rs.specs.Order.{version_cmp};
+ghost use Rattle.pep440_version.specs.Order.{version_cmp};
 ghost use Rattle.pep508_diagram.specs.Text.{text_cmp};
 ghost use Rattle.pep508_diagram.specs.Branches.{RisingBranches, AllBranches, NeighboursDiffer};
 ghost use Rattle.pep508_diagram.specs.Question.{version_rank, text_rank, flag_place};

@@ -1,6 +1,6 @@
 -- A tree read off its views: which subtree decides, which variables the subtrees ask for, and how edges lie.
 use Rattle.std.specs.Prelude.{◌≡◌, ◌<◌, true, false, cond, List, [], ◌∷◌, map}
-use Rattle.pep440_rs.specs.Order.{version_cmp}
+use Rattle.pep440_version.specs.Order.{version_cmp}
 use Rattle.pep508_diagram.specs.declared.variable.Flag.{Flag}
 use Rattle.pep508_diagram.specs.declared.variable.Flag.TheVariants.{In, Contains}
 use Rattle.pep508_diagram.specs.Text.{text_cmp}

@@ -1,6 +1,6 @@
 -- What a view shows: the node at a tree's root, with the tree's sign on its children.
 use Rattle.std.specs.Prelude.{◌≡◌, ℕ, List, [], Option, Some, None, MatchOption}
-use Rattle.pep440_rs.specs.Record.{VersionRecord}
+use Rattle.pep440_text.specs.Record.{VersionRecord}
 use Rattle.pep508_marker.specs.declared.keys.MarkerValueVersion.{MarkerValueVersion}
 use Rattle.pep508_marker.specs.declared.keys.MarkerValueVersion.TheVariants as key
 use Rattle.pep508_diagram.specs.declared.variable.VersionVariable.{VersionVariable}

@@ -4,7 +4,7 @@ ghost use Rattle.std.specs.Prelude.{◌≡◌, ◌<◌, ◌^◌, length};
 ghost use Rattle.std.specs.Map.Iter.{ShowsInOrder};
 ghost use Rattle.std.specs.Ordering.{on};
 ghost use Rattle.std.specs.Cmp.{on_equiv, partial_equiv_from_equiv};
-ghost use Rattle.pep440_rs.specs.Record.{VersionRecord};
+ghost use Rattle.pep440_text.specs.Record.{VersionRecord};
 ghost use Rattle.pep508_view.specs.Edges.{lent_edge};
 ghost use Rattle.pep508_view.specs.Sameness.{tree_eq};
 ghost use Rattle.pep508_view.specs.SamenessLaws.{tree_eq_equiv};

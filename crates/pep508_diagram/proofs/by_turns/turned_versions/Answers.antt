@@ -1,5 +1,5 @@
 use Rattle.std.proofs.Common.{◌≤◌, length, map, sym, ap, subst, ◌∙◌, arith}
-use Rattle.pep440_rs.specs.Order.{version_cmp}
+use Rattle.pep440_version.specs.Order.{version_cmp}
 use Rattle.pep508_diagram.specs.Branches.{RisingBranches, branch_at, NeighboursDiffer}
 use Rattle.pep508_diagram.specs.Shortened.{shortened, AllShort}
 use Rattle.pep508_diagram.proofs.Turns.{turns_all, turns_rise, turns_differ}

@@ -1,7 +1,7 @@
 use Rattle.std.proofs.Common.{◌++◌, take}
 use Rattle.std.specs.Fmt.{HasWritten, IsPlainFormatter}
 use Rattle.std.specs.List.{flat_map}
-use Rattle.pep440_rs.specs.Print.{version_text}
+use Rattle.pep440_text.specs.Print.{version_text}
 use Rattle.pep508_marker.specs.Expression.{behind_blank}
 use Rattle.pep508_marker.proofs.expression_print.VersionsDisplay.fmt.Given as goal
 

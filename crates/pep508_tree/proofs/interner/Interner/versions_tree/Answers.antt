@@ -2,7 +2,7 @@ use Rattle.std.proofs.Common.{◌∙◌, ap}
 use Rattle.std.proofs.lemmas.Result.{IfOk-weaker}
 use Rattle.version_ranges.specs.Held.{holds_at}
 use Rattle.pep440_version.specs.OrderLaws.{version_cmp_total}
-use Rattle.pep440_rs.specs.Order.{version_cmp}
+use Rattle.pep440_version.specs.Order.{version_cmp}
 use Rattle.pep508_diagram.proofs.Chains.{turns_held}
 use Rattle.pep508_tree.proofs.interner.Interner.versions_tree.Goals as goal
 

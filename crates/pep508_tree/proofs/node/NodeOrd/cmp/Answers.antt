@@ -1,7 +1,7 @@
 use Rattle.std.proofs.Common.{◌∙◌, ap, ap₂, sym}
 use Rattle.std.specs.Ordering.{is_ne, ordering_then}
 use Rattle.std.specs.Cmp.Lexicographic.{slice_cmp}
-use Rattle.pep440_rs.specs.Order.{version_cmp}
+use Rattle.pep440_version.specs.Order.{version_cmp}
 use Rattle.pep508_diagram.specs.Text.{text_cmp}
 use Rattle.pep508_tree.specs.Nodes.{tree_cmp, branch_cmp, node_cmp}
 use Rattle.pep508_tree.proofs.Orders.{first_decides, second_decides}
