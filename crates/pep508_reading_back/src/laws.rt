@@ -44,8 +44,8 @@ pub fn a_printed_marker_means_its_diagram()
         → diagram ≢ Leaf false → marker_text diagram ≡ Some text → ReadsDiagram (chars text) diagram }
 {}
 
-/// A printed requirement without a URL is read with its name, its extras and its specifiers: without a marker,
-/// and with whatever marker is read of the text behind the `;`.
+/// A printed requirement without a URL is read with its name, its extras and its specifiers: without a
+/// marker, and with whatever marker is read of the text behind the `;`.
 pub fn a_printed_requirement_is_read()
     ensures plain { (front : Front) → IsReadableFront front
         → IsMarkedText (requirement_text front None) front no_marker }
