@@ -1,6 +1,6 @@
 //! Conjunctions of marker trees.
 
-ghost use Rattle.std.specs.Prelude.{◌≡◌, ◌⊎◌, ◌+◌, ◌-◌, ◌<◌, ◌++◌, ◌∷◌, false, [], List, MatchOption, IfOk, IfSome, refl};
+ghost use Rattle.std.specs.Prelude.{◌≡◌, ◌⊎◌, ◌+◌, ◌-◌, ◌<◌, false, [], List, MatchOption, IfOk, IfSome, refl};
 ghost use Rattle.std.specs.Cmp.{eq_by_cmp_equiv, partial_equiv_from_equiv, partial_order_from_agreeing_total};
 ghost use Rattle.std.specs.Ordering.{eq_by_cmp, as_partial_cmp, is_gt};
 ghost use Rattle.std.specs.List.{AllByRecursion};
@@ -97,7 +97,6 @@ impl Model for Conjoiner {
 }
 
 /// The conjunction of two trees of which one is constant, or that are one tree or its negation.
-#[inline(never)]
 pub(crate) fn plain_conjunction(a: MarkerTree, b: MarkerTree) -> Option<MarkerTree>
     ensures { MatchOption result ((0 < a.place) × (0 < b.place)) (λ tree.
         (nodes : List NodeRecord) → IsTree nodes a → IsTree nodes b → Conjunction nodes nodes a b tree) }
@@ -116,15 +115,6 @@ pub(crate) fn plain_conjunction(a: MarkerTree, b: MarkerTree) -> Option<MarkerTr
     } else {
         MarkerTree::FALSE
     })
-}
-
-/// Adds a tree to a list, outside the recursion, whose frame stays the smaller.
-#[inline(never)]
-fn add(trees: &mut Vec<MarkerTree>, tree: MarkerTree) -> Result<(), AllocError>
-    ensures { IfOk result (λ _. trees.new.items ≡ trees.old.items ++ tree ∷ []) }
-{
-    trees.push(tree)?;
-    Ok(())
 }
 
 impl Conjoiner {
@@ -289,7 +279,7 @@ impl Conjoiner {
                 pair.0.turned(a.is_negated()),
                 pair.1.turned(b.is_negated()),
             )?;
-            add(&mut trees, tree)?;
+            trees.push(tree)?;
         }
         Ok(trees)
     }

@@ -100,9 +100,9 @@ conjunctions-loop-pair-preserved t c =
     let second : c.turned-in-loop-pair.result ≡ turned c.args.b.negated pair.1 =
     c.turned-in-loop-pair.ensures ∙ ap (λ s. turned s pair.1) c.is_negated-in-loop-pair.ensures in
     conjoined_more old now new c.args.a c.args.b c.args.pairs.now c.loop-pair.trees.items
-    c.add.new.trees.items
+    c.push.new.self.items
     c.loop-pair.pair-index pair tree c.loop-pair.invariant c.loop-pair-test.true c.pair-item.is made
     c.in_ok-tree.ensures.keeps
     (subst (λ x. Conjunction now new x (turned c.args.b.negated pair.1) tree) first
     (subst (λ y. Conjunction now new c.turned.result y tree) second c.in_ok-tree.ensures.made))
-    c.in_ok-add.ensures
+    c.in_ok-push.ensures.items
