@@ -211,8 +211,11 @@ module _ (returns : Bor (List ℕ) → Bool → Type 0) where
   asked nodes t (Some (Flagged flag set unset)) b root named = record {
     made = (root.made.0, pick (IsTree nodes) b set unset root.made.0 root.made.1);
     falls = (root.falls.0, pick (λ child. child.place < t.place) b set unset root.falls.0 root.falls.1);
-    above = (root.above.0, pick (Above nodes (node_place (Flagged flag set unset))) b set unset root.above.0
-        root.above.1);
+    above = (
+      root.above.0,
+      pick (Above nodes (node_place (Flagged flag set unset))) b set unset root.above.0
+          root.above.1,
+    );
     place_is = root.place_is;
     rises = tt;
     holds_is = λ says by v.

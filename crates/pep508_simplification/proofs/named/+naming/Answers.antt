@@ -18,12 +18,12 @@ all_with_named-loop-child-preserved g t c =
     let child = c.child-item.result in
     let found = c.in_ok-with_named.ensures.found in (
       found_more R old c.loop-child.interner.nodes c.with_named.new.interner.nodes c.args.children.now
-      c.loop-child.trees.items c.push.new.self.items c.loop-child.known c.with_named.new.known
-      c.loop-child.child-index child c.in_ok-with_named.field-0 c.loop-child.invariant.0 c.loop-child-test.true
-      c.child-item.is
-      (each_of_list (IsTree old) c.args.children.now c.loop-child.child-index child c.requires.made
-      c.loop-child-test.true c.child-item.is)
-      c.in_ok-with_named.ensures.keeps found.named found.kept c.in_ok-push.ensures.items,
+          c.loop-child.trees.items c.push.new.self.items c.loop-child.known c.with_named.new.known
+          c.loop-child.child-index child c.in_ok-with_named.field-0 c.loop-child.invariant.0 c.loop-child-test.true
+          c.child-item.is
+          (each_of_list (IsTree old) c.args.children.now c.loop-child.child-index child c.requires.made
+          c.loop-child-test.true c.child-item.is)
+          c.in_ok-with_named.ensures.keeps found.named found.kept c.in_ok-push.ensures.items,
       c.in_ok-with_named.ensures.counts ∙ c.loop-child.invariant.1,
     )
 
