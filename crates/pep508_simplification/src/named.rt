@@ -2,9 +2,10 @@
 
 ghost use Rattle.std.specs.Prelude.{◌≡◌, ◌<◌, false, ℕ, Bool, List, IfOk, IfSome};
 ghost use Rattle.std.specs.List.{AllByRecursion};
-ghost use Rattle.pep508_tree.specs.Meaning.{IsTree, Extends};
+ghost use Rattle.pep508_diagram.specs.Question.{Valuation};
+ghost use Rattle.pep508_tree.specs.Meaning.{IsTree, Extends, holds};
 ghost use Rattle.pep508_tree.specs.Conjunctions.{Meet};
-ghost use Rattle.pep508_simplification.specs.Simplified.{is_named};
+ghost use Rattle.pep508_simplification.specs.Simplified.{is_listed, is_named, with_named};
 ghost use Rattle.pep508_simplification.specs.Parts.{record_of, is_root_named};
 ghost use Rattle.pep508_simplification.specs.Named.{AnswersBy, IsNamed, IsKnown, AreKnown, IsFound};
 
@@ -155,4 +156,24 @@ pub(crate) fn with_extras<F: Fn(&ExtraName) -> bool>(
 {
     let mut known = BTreeMap::new(alloc);
     with_named(alloc, interner, &mut known, predicate, tree)
+}
+
+/// The same of listed extras.
+pub(crate) fn with_listed(
+    alloc: Global,
+    interner: &mut Interner,
+    tree: MarkerTree,
+    extras: &[ExtraName],
+) -> Result<MarkerTree, AllocError>
+    requires { IsTree interner.old.nodes tree }
+    ensures made { IfOk result (λ simple. IsTree interner.new.nodes simple) }
+    ensures truth { IfOk result (λ simple. (v : Valuation) → holds interner.new.nodes simple v
+        ≡ holds interner.old.nodes tree (with_named (is_listed extras.now) v)) }
+    ensures keeps { Extends interner.old.nodes interner.new.nodes }
+    ensures counts { interner.new.conjunctions ≡ interner.old.conjunctions }
+{
+    let listed = |name: &ExtraName| -> bool
+        ensures { result ≡ is_listed extras.entry.now name.now }
+    { extras.contains(name) };
+    with_extras(alloc, interner, tree, &listed)
 }

@@ -5,11 +5,11 @@ ghost use Rattle.pep440_rs.specs.Bounds.{lent_bound};
 ghost use Rattle.pep508_diagram.specs.Question.{Valuation};
 ghost use Rattle.pep508_diagram.specs.declared.variable.VersionVariable.TheVariants.{PythonFullVersion};
 ghost use Rattle.pep508_tree.specs.Meaning.{IsTree, Extends, holds};
-ghost use Rattle.pep508_simplification.specs.Simplified.{between, with_named};
+ghost use Rattle.pep508_simplification.specs.Simplified.{between, is_listed, with_named};
 ghost use Rattle.pep508_simplification.specs.Named.{AnswersBy};
 
 use crate::complexified::complexified;
-use crate::named::with_extras;
+use crate::named::{with_extras, with_listed};
 use pep440_version::Version;
 use pep508_name::ExtraName;
 use pep508_tree::{Interner, MarkerTree};
@@ -58,6 +58,20 @@ pub trait MarkerTreeSimplification: Sized {
             ≡ holds interner.old.nodes (tree self) (with_named says v)) }
         ensures keeps { Extends interner.old.nodes interner.new.nodes }
         ensures counts { interner.new.conjunctions ≡ interner.old.conjunctions };
+
+    /// The same of listed extras. Each extra in the tree is compared with all of them.
+    fn simplify_extras(
+        self,
+        alloc: Global,
+        interner: &mut Interner,
+        extras: &[ExtraName],
+    ) -> Result<Self, AllocError>
+        requires { IsTree interner.old.nodes (tree self) }
+        ensures made { IfOk result (λ simple. IsTree interner.new.nodes (tree simple)) }
+        ensures truth { IfOk result (λ simple. (v : Valuation) → holds interner.new.nodes (tree simple) v
+            ≡ holds interner.old.nodes (tree self) (with_named (is_listed extras.now) v)) }
+        ensures keeps { Extends interner.old.nodes interner.new.nodes }
+        ensures counts { interner.new.conjunctions ≡ interner.old.conjunctions };
 }
 
 impl MarkerTreeSimplification for MarkerTree {
@@ -80,5 +94,14 @@ impl MarkerTreeSimplification for MarkerTree {
         predicate: F,
     ) -> Result<MarkerTree, AllocError> {
         with_extras(alloc, interner, self, &predicate)
+    }
+
+    fn simplify_extras(
+        self,
+        alloc: Global,
+        interner: &mut Interner,
+        extras: &[ExtraName],
+    ) -> Result<MarkerTree, AllocError> {
+        with_listed(alloc, interner, self, extras)
     }
 }
