@@ -1,13 +1,15 @@
--- What there is to read of a marker's text: a formula and the warnings of its comparisons, or why there is none
--- (PEP 508, "Grammar").
-use Rattle.std.specs.Prelude.{ℕ, suc, zero, ◌==◌, Bool, if◌then◌else◌, List, [], ◌∷◌, ◌++◌, length, codes, Option, Some, None, Result, Ok, Err, encode_utf8_all}
+-- What there is to read of a marker's text: a formula and the warnings of its comparisons, or why there is
+-- none (PEP 508, "Grammar").
+use Rattle.std.specs.Prelude.{ℕ, suc, zero, ◌==◌, Bool, if◌then◌else◌, List, [], ◌∷◌, ◌++◌, length, codes}
+use Rattle.std.specs.Prelude.{Option, Some, None, Result, Ok, Err, encode_utf8_all}
 use Rattle.std.specs.Char.{is_whitespace}
 use Rattle.std.specs.Str.{skip_leading_whitespace, bytes_eq}
 use Rattle.pep508_marker.specs.declared.warnings.MarkerWarningKind.{MarkerWarningKind}
 use Rattle.pep508_marker.specs.Expression.{ExpressionRecord}
 use Rattle.pep508_expression.specs.Expressions.{has_points}
 use Rattle.pep508_marker_comparison.specs.Compared.{Compared}
-use Rattle.pep508_marker_comparison.specs.SideReading.{Refused, Malformed, AtEnd, TooDeep, Reading, ◌>>=◌, cut_before, compared_at, if_end}
+use Rattle.pep508_marker_comparison.specs.SideReading.{Refused, Malformed, AtEnd, TooDeep, Reading, ◌>>=◌}
+use Rattle.pep508_marker_comparison.specs.SideReading.{cut_before, compared_at, if_end}
 use Rattle.pep508_marker_read.specs.Formula.{Formula, Says, LeftOut, Both, Either}
 
 -- what a marker says, and of what kinds its warnings are, in their order
@@ -20,7 +22,9 @@ pub record Marker : Type 0 where
 abbrev pub of_said : Option ExpressionRecord → List MarkerWarningKind → List ℕ → Reading Marker
 of_said None warned rest = Ok (record { formula = LeftOut; warned = warned }, rest)
 of_said (Some expression) warned rest =
-    if has_points expression then Ok (record { formula = Says expression; warned = warned }, rest) else Err AtEnd
+    if has_points expression
+    then Ok (record { formula = Says expression; warned = warned }, rest)
+    else Err AtEnd
 
 abbrev pub of_compared : Compared × List ℕ → Reading Marker
 of_compared found = of_said found.0.said found.0.warned found.1
@@ -40,7 +44,8 @@ abbrev pub word_of : Connective → List ℕ
 word_of And = codes "and"
 word_of Or = codes "or"
 
-abbrev pub made_of : Connective → Formula ExpressionRecord → Formula ExpressionRecord → Formula ExpressionRecord
+abbrev pub made_of : Connective → Formula ExpressionRecord → Formula ExpressionRecord
+    → Formula ExpressionRecord
 made_of And f g = Both f g
 made_of Or f g = Either f g
 
@@ -66,7 +71,8 @@ abbrev pub more_at : Connective → (List ℕ → Reading Marker) → ℕ → Ma
 more_at word read zero found = Ok found
 more_at word read (suc count) found =
     if is_next word found.1
-    then (read (behind_run found.1) >>= λ next. more_at word read count (join_with word found.0 next.0, next.1))
+    then (read (behind_run found.1)
+    >>= λ next. more_at word read count (join_with word found.0 next.0, next.1))
     else Ok (found.0, skip_leading_whitespace found.1)
 
 -- parts with a word between each two

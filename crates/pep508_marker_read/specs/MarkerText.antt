@@ -1,6 +1,8 @@
--- The text of a marker (PEP 508, "Grammar"): comparisons joined by `and` and `or`, some in brackets, with white space
--- between any two pieces. A piece is told by the characters with which it begins and those that follow it.
-use Rattle.std.specs.Prelude.{◌≡◌, ◌⊎◌, ℕ, ◌<◌, ◌==◌, suc, zero, Bool, false, List, [], ◌∷◌, ◌++◌, length, All, IsTrue, codes, Some, Ok, encode_utf8_all}
+-- The text of a marker (PEP 508, "Grammar"): comparisons joined by `and` and `or`, some in brackets, with
+-- white space between any two pieces. A piece is told by the characters with which it begins and those that
+-- follow it.
+use Rattle.std.specs.Prelude.{◌≡◌, ◌⊎◌, ℕ, ◌<◌, ◌==◌, suc, zero, Bool, false, List, [], ◌∷◌, ◌++◌, length}
+use Rattle.std.specs.Prelude.{All, IsTrue, codes, Some, Ok, encode_utf8_all}
 use Rattle.std.specs.Char.{is_ascii_alphabetic, is_whitespace}
 use Rattle.pep440_rs.specs.SpecifierText.{AreSpaces}
 use Rattle.pep508_marker.specs.declared.operators.MarkerOperator.{MarkerOperator}
@@ -9,7 +11,8 @@ use Rattle.pep508_marker.specs.Operators.{marker_operator_of}
 use Rattle.pep508_marker.specs.Values.{ValueRecord, Quoted, key_of_text}
 use Rattle.pep508_marker_comparison.specs.Compared.{compared}
 use Rattle.pep508_marker_comparison.specs.SideReading.{is_quote}
-use Rattle.pep508_marker_read.specs.MarkerReading.{Marker, Connective, And, Or, word_of, join_with, of_compared}
+use Rattle.pep508_marker_read.specs.MarkerReading.{Marker, Connective, And, Or, word_of, join_with}
+use Rattle.pep508_marker_read.specs.MarkerReading.{of_compared}
 use Rattle.pep508_marker_comparison.specs.SideReading.{begins_by, ends_key, ends_word, ends_signs}
 
 -- nothing follows, or a character that passes the test
@@ -99,7 +102,8 @@ pub record IsJoint (word : Connective) (cs behind : List ℕ) : Type 0 where
   pub ends : IsBefore is_whitespace behind
 
 -- one or more pieces, with the word between each two
-abbrev pub AreJoined : Connective → (List ℕ → Marker → List ℕ → Type 0) → List ℕ → List Marker → List ℕ → Type 0
+abbrev pub AreJoined : Connective → (List ℕ → Marker → List ℕ → Type 0)
+    → List ℕ → List Marker → List ℕ → Type 0
 AreJoined word piece cs [] rest = ⊥
 AreJoined word piece cs (marker ∷ []) rest = piece cs marker rest
 AreJoined word piece cs (marker ∷ next ∷ markers) rest =
@@ -126,7 +130,8 @@ IsEither piece = IsJoined Or (IsJoined And piece)
 abbrev pub IsFormulaText : ℕ → List ℕ → Marker → List ℕ → Type 0
 IsFormulaText zero = IsEither IsComparisonText
 IsFormulaText (suc depth) =
-    IsEither (λ cs marker rest. IsComparisonText cs marker rest ⊎ IsEnclosed (IsFormulaText depth) cs marker rest)
+    IsEither (λ cs marker rest.
+    IsComparisonText cs marker rest ⊎ IsEnclosed (IsFormulaText depth) cs marker rest)
 
 -- the characters are those of the marker
 abbrev pub IsMarkerText : List ℕ → Marker → Type 0

@@ -10,10 +10,10 @@ use Rattle.pep508_marker_comparison.specs.Outcome.{IsWarned, Shows}
 use Rattle.pep508_marker_read.specs.MarkerReading.{Marker}
 use Rattle.pep508_marker_read.specs.MarkerOutcome.{IsTreeOf}
 
--- what was returned is the marker that a text is: the tree that is named, its warnings taken; or an error for its
--- reason
-abbrev pub ReadsMarkerText : {S R T E : Type 0} → (S → Tree) → (R → Warning → R → Type 0) → R → R → List NodeRecord
-    → List ℕ → Result S (Pep508Error T E) → Result Marker Refused → Type 0
+-- what was returned is the marker that a text is: the tree that is named, its warnings taken; or an error for
+-- its reason
+abbrev pub ReadsMarkerText : {S R T E : Type 0} → (S → Tree) → (R → Warning → R → Type 0) → R → R
+    → List NodeRecord → List ℕ → Result S (Pep508Error T E) → Result Marker Refused → Type 0
 ReadsMarkerText named takes old new nodes text (Ok tree) reading =
     (marker : Marker) × (reading ≡ Ok marker) × IsTreeOf nodes (named tree) marker.formula
     × IsWarned takes old new marker.warned

@@ -1,5 +1,6 @@
 -- What the readers of a marker's pieces return, by what there is to read: trees of what is not left out.
-use Rattle.std.specs.Prelude.{◌≡◌, ℕ, suc, zero, Bool, ◌&&◌, ◌||◌, List, [], ◌∷◌, ◌++◌, map, option_map, Option, Some, None, IfSome, Result, Ok, Err}
+use Rattle.std.specs.Prelude.{◌≡◌, ℕ, suc, zero, Bool, ◌&&◌, ◌||◌, List, [], ◌∷◌, ◌++◌, map, option_map}
+use Rattle.std.specs.Prelude.{Option, Some, None, IfSome, Result, Ok, Err}
 use Rattle.std.specs.List.{AllByRecursion}
 use Rattle.pep508_marker.specs.Warnings.{Warning}
 use Rattle.pep508_marker.specs.Expression.{ExpressionRecord}
@@ -15,7 +16,8 @@ use Rattle.pep508_marker_comparison.specs.Outcome.{Tells, IsWarned, IsOf, behind
 use Rattle.pep508_marker_read.specs.declared.word.Word.{Word}
 use Rattle.pep508_marker_read.specs.declared.word.Word.TheVariants as words
 use Rattle.pep508_marker_read.specs.Formula.{Formula, joined, truth_in}
-use Rattle.pep508_marker_read.specs.MarkerReading.{Marker, Connective, And, Or, closed, part_at, joined_at, formula_at}
+use Rattle.pep508_marker_read.specs.MarkerReading.{Marker, Connective, And, Or, closed, part_at, joined_at}
+use Rattle.pep508_marker_read.specs.MarkerReading.{formula_at}
 
 -- ---- what there is to read
 
@@ -68,7 +70,8 @@ pub record AreChainTrees (word : Connective) (nodes : List NodeRecord) (trees : 
 
 -- ---- what is returned
 
--- what was returned is the reading: a tree of what is said, and the place behind it; or a refusal for its reason
+-- what was returned is the reading: a tree of what is said, and the place behind it; or a refusal for its
+-- reason
 abbrev pub ReadsPart : {R : Type 0} → (R → Warning → R → Type 0) → R → R → List NodeRecord
     → Result (Option Tree × Cursor) Refusal → Reading Marker → Type 0
 ReadsPart takes old new nodes (Ok found) reading =
@@ -81,10 +84,11 @@ listed None = []
 listed (Some a) = a ∷ []
 
 -- the same, where the tree was put behind those of earlier pieces
-abbrev pub ReadsPiece : {R : Type 0} → (R → Warning → R → Type 0) → R → R → List NodeRecord → List Tree → List Tree
-    → Result Cursor Refusal → Reading Marker → Type 0
+abbrev pub ReadsPiece : {R : Type 0} → (R → Warning → R → Type 0) → R → R → List NodeRecord
+    → List Tree → List Tree → Result Cursor Refusal → Reading Marker → Type 0
 ReadsPiece takes old new nodes earlier trees (Ok later) reading =
-    (marker : Marker) × (tree : Option Tree) × (reading ≡ Ok (marker, behind later)) × (trees ≡ earlier ++ listed tree)
+    (marker : Marker) × (tree : Option Tree)
+    × (reading ≡ Ok (marker, behind later)) × (trees ≡ earlier ++ listed tree)
     × IsPartTree nodes tree marker.formula × IsWarned takes old new marker.warned
 ReadsPiece takes old new nodes earlier trees (Err refusal) reading = Tells refusal.kind reading
 
