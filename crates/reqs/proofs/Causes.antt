@@ -10,10 +10,10 @@ use Rattle.pep508_environment.specs.declared.EnvironmentError.TheVariants as env
 use Rattle.pep508_environment.specs.Environment.{environment_of}
 use Rattle.reqtable_lines.specs.declared.requirements.RequirementsError.{RequirementsError}
 use Rattle.reqtable_lines.specs.declared.requirements.RequirementsError.TheVariants as requirements
-use Rattle.reqtable_lines.specs.declared.candidates.CandidatesError.{CandidatesError}
-use Rattle.reqtable_lines.specs.declared.candidates.CandidatesError.TheVariants as candidates
+use Rattle.reqtable_text.specs.declared.candidates.CandidatesError.{CandidatesError}
+use Rattle.reqtable_text.specs.declared.candidates.CandidatesError.TheVariants as candidates
 use Rattle.reqtable_lines.specs.Requirements.{requirements_of}
-use Rattle.reqtable_lines.specs.Candidates.{candidates_of}
+use Rattle.reqtable_text.specs.Candidates.{candidates_of}
 use Rattle.reqs_io.specs.declared.TheConstants.{INPUT_LIMIT}
 use Rattle.reqs.specs.declared.fault.Input.{Input}
 use Rattle.reqs.specs.declared.fault.Input.TheVariants.{First, Second, Third}

@@ -4,10 +4,10 @@ use Rattle.read_outcome.specs.Outcome.{Tells}
 use Rattle.reqs_io.specs.Front.{AreAsTold, WritesWhole, AppendsFront}
 use Rattle.reqtable_lines.specs.declared.requirements.RequirementsError.{RequirementsError}
 use Rattle.reqtable_lines.specs.declared.requirements.RequirementsError.TheVariants as requirements
-use Rattle.reqtable_lines.specs.declared.candidates.CandidatesError.{CandidatesError}
-use Rattle.reqtable_lines.specs.declared.candidates.CandidatesError.TheVariants as candidates
+use Rattle.reqtable_text.specs.declared.candidates.CandidatesError.{CandidatesError}
+use Rattle.reqtable_text.specs.declared.candidates.CandidatesError.TheVariants as candidates
 use Rattle.reqtable_lines.specs.Requirements.{told_requirements}
-use Rattle.reqtable_lines.specs.Candidates.{told_candidates}
+use Rattle.reqtable_text.specs.Candidates.{told_candidates}
 use Rattle.reqs.specs.declared.fault.RunFault.{RunFault}
 use Rattle.reqs.specs.declared.fault.RunFault.TheVariants.{Read, Write}
 use Rattle.reqs.specs.declared.fault.Input.{Input}

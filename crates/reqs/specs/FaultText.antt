@@ -2,8 +2,8 @@
 use Rattle.std.specs.Prelude.{ℕ, List, [], ◌++◌, get_or, codes}
 use Rattle.std.specs.Fmt.{decimal}
 use Rattle.pep508_environment.specs.Environment.{member_name}
-use Rattle.reqtable_lines.specs.declared.candidates.CandidateFault.{CandidateFault}
-use Rattle.reqtable_lines.specs.declared.candidates.CandidateFault.TheVariants as causes
+use Rattle.reqtable_text.specs.declared.candidates.CandidateFault.{CandidateFault}
+use Rattle.reqtable_text.specs.declared.candidates.CandidateFault.TheVariants as causes
 use Rattle.reqs.specs.declared.fault.Input.{Input}
 use Rattle.reqs.specs.declared.fault.Input.TheVariants.{First, Second, Third}
 use Rattle.reqs.specs.declared.fault.RunFault.{RunFault}

@@ -7,8 +7,8 @@ use Rattle.reqs_io.specs.declared.ReadFault.{ReadFault}
 use Rattle.reqs_io.specs.declared.ReadFault.TheVariants as ends
 use Rattle.reqtable_lines.specs.declared.requirements.RequirementsError.{RequirementsError}
 use Rattle.reqtable_lines.specs.declared.requirements.RequirementsError.TheVariants as requirements
-use Rattle.reqtable_lines.specs.declared.candidates.CandidatesError.{CandidatesError}
-use Rattle.reqtable_lines.specs.declared.candidates.CandidatesError.TheVariants as candidates
+use Rattle.reqtable_text.specs.declared.candidates.CandidatesError.{CandidatesError}
+use Rattle.reqtable_text.specs.declared.candidates.CandidatesError.TheVariants as candidates
 use Rattle.reqs.specs.declared.fault.Input.{Input}
 use Rattle.reqs.specs.declared.fault.Input.TheVariants.{First, Second, Third}
 use Rattle.reqs.specs.declared.fault.RunFault.{RunFault}

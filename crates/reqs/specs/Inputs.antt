@@ -8,9 +8,9 @@ use Rattle.serde_json.specs.Read.{read}
 use Rattle.pep508_name.specs.Name.{is_name}
 use Rattle.pep508_environment.specs.Environment.{EnvironmentRecord, environment_of}
 use Rattle.reqtable_lines.specs.declared.requirement.RequirementLine.{RequirementLine}
-use Rattle.reqtable_lines.specs.declared.candidates.Candidate.{Candidate}
+use Rattle.reqtable_text.specs.declared.candidates.Candidate.{Candidate}
 use Rattle.reqtable_lines.specs.Requirements.{requirements_of}
-use Rattle.reqtable_lines.specs.Candidates.{candidates_of}
+use Rattle.reqtable_text.specs.Candidates.{candidates_of}
 use Rattle.reqs.specs.declared.fault.Input.{Input}
 use Rattle.reqs.specs.declared.fault.Input.TheVariants.{First, Second, Third}
 use Rattle.reqs.specs.declared.fault.RunFault.{RunFault}

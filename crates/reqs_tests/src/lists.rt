@@ -1,7 +1,5 @@
-use reqtable_lines::{
-    CandidateFault, Candidates, CandidatesError, Comparator, RequirementLine, Requirements,
-    RequirementsError,
-};
+use reqtable_lines::{Comparator, RequirementLine, Requirements, RequirementsError};
+use reqtable_text::{CandidateFault, Candidates, CandidatesError};
 use std::alloc::Global;
 use std::fmt;
 use std::test::Fail;

@@ -12,7 +12,7 @@ use Rattle.std.proofs.lemmas.Map.Text.{is_eq-slice_cmp}
 use Rattle.pep440_rs.specs.Record.{VersionRecord}
 use Rattle.pep508_environment.specs.Environment.{EnvironmentRecord}
 use Rattle.reqtable_lines.specs.declared.requirement.RequirementLine.{RequirementLine}
-use Rattle.reqtable_lines.specs.declared.candidates.Candidate.{Candidate}
+use Rattle.reqtable_text.specs.declared.candidates.Candidate.{Candidate}
 use Rattle.reqtable.specs.Answer.{AreThePackages, IsCheckText, package_answer, row_text}
 
 any_at : (q : List ℕ) (xs : List (List ℕ)) → list_any (is_at (slice_cmp nat_cmp q)) xs ≡ list_any (bytes_eq q) xs

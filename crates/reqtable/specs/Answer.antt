@@ -12,7 +12,7 @@ use Rattle.pep440_rs.specs.Print.{version_text}
 use Rattle.pep440_rs.specs.Matching.{matches}
 use Rattle.pep508_environment.specs.Environment.{EnvironmentRecord}
 use Rattle.reqtable_lines.specs.declared.requirement.RequirementLine.{RequirementLine}
-use Rattle.reqtable_lines.specs.declared.candidates.Candidate.{Candidate}
+use Rattle.reqtable_text.specs.declared.candidates.Candidate.{Candidate}
 use Rattle.reqtable.specs.Applies.{applies}
 
 -- a line of the package that applies

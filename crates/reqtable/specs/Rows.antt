@@ -1,7 +1,7 @@
 -- What a row of an answer says.
 use Rattle.std.specs.Prelude.{ℕ, List, Option, Some, None, option_map}
 use Rattle.pep440_rs.specs.Record.{VersionRecord}
-use Rattle.reqtable_lines.specs.declared.candidates.Candidate.{Candidate}
+use Rattle.reqtable_text.specs.declared.candidates.Candidate.{Candidate}
 use Rattle.reqtable.specs.declared.answer.Outcome.{Outcome}
 use Rattle.reqtable.specs.declared.answer.Outcome.TheVariants.{Taken, Nothing}
 use Rattle.reqtable.specs.declared.answer.Row.{Row}

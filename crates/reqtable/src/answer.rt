@@ -5,7 +5,7 @@ ghost use Rattle.std.specs.List.{flat_map};
 ghost use Rattle.reqtable.specs.Rows.{row_seen};
 ghost use Rattle.reqtable.specs.Answer.{row_text};
 
-use reqtable_lines::Candidate;
+use reqtable_text::Candidate;
 use std::alloc::{AllocError, Global};
 use std::fmt::Write;
 

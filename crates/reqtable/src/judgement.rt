@@ -15,9 +15,8 @@ use crate::answer::{Answer, Outcome, Row};
 use pep440_rs::Version;
 use pep508_environment::MarkerEnvironment;
 use pep508_marker::MarkerValueVersion;
-use reqtable_lines::{
-    Candidate, Candidates, Comparator, Comparison, RequirementLine, Requirements,
-};
+use reqtable_lines::{Comparator, Comparison, RequirementLine, Requirements};
+use reqtable_text::{Candidate, Candidates};
 use std::alloc::{AllocError, Global};
 use std::collections::BTreeMap;
 

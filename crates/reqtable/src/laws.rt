@@ -3,7 +3,7 @@
 ghost use Rattle.std.specs.Prelude.{◌≡◌, ℕ, List};
 ghost use Rattle.pep508_environment.specs.Environment.{EnvironmentRecord};
 ghost use Rattle.reqtable_lines.specs.declared.requirement.RequirementLine.{RequirementLine};
-ghost use Rattle.reqtable_lines.specs.declared.candidates.Candidate.{Candidate};
+ghost use Rattle.reqtable_text.specs.declared.candidates.Candidate.{Candidate};
 ghost use Rattle.reqtable.specs.Answer.{IsCheckText};
 
 /// Lines, candidates and an environment have one answer, and so one text of it.

@@ -12,6 +12,6 @@ pub use pep440_rs;
 pub use pep508_environment::{EnvironmentError, EnvironmentMember, MarkerEnvironment};
 pub use pep508_name::{ExtraName, InvalidNameError, PackageName};
 pub use reqtable_lines::{
-    Candidate, CandidateFault, Candidates, CandidatesError, Comparator, Comparison,
-    RequirementLine, Requirements, RequirementsError,
+    Comparator, Comparison, RequirementLine, Requirements, RequirementsError,
 };
+pub use reqtable_text::{Candidate, CandidateFault, Candidates, CandidatesError};

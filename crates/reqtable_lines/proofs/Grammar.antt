@@ -16,9 +16,10 @@ use Rattle.reqtable_lines.specs.declared.requirement.Comparison.{Comparison}
 use Rattle.reqtable_lines.specs.declared.requirement.RequirementLine.{RequirementLine}
 use Rattle.reqtable_lines.specs.RequirementLine.{AreBlanks, IsSpaced, comparator_text, operator_of, IsQuotedVersion, AreMarkerPieces, IsRequirementLine}
 use Rattle.reqtable_lines.specs.Reading.{◌>>=◌, is_in, after_run, after_blanks, behind, comparator_at, before_quote, quoted_by, in_quotes, comparison_by, comparison_of, marker_of, line_by, line_behind, requirement_of, release_of}
-use Rattle.reqtable_lines.proofs.Words.{first_place, before_place, after_place}
-use Rattle.reqtable_lines.proofs.Spaced.{some_same, AreIn, Stops, Begins, run_again, rest_again, blanks_again, only_blanks, blanks_found, spaced_found, stops_spaced, behind_found, behind_again, name_bytes, inside, inside_map}
-use Rattle.reqtable_lines.proofs.Releases.{VersionLaw, release_bytes, release_law}
+use Rattle.reqtable_text.proofs.CandidateLines.{VersionLaw}
+use Rattle.reqtable_text.proofs.Words.{some_same, first_place, before_place, after_place}
+use Rattle.reqtable_lines.proofs.Spaced.{AreIn, Stops, Begins, run_again, rest_again, blanks_again, only_blanks, blanks_found, spaced_found, stops_spaced, behind_found, behind_again, name_bytes, inside, inside_map}
+use Rattle.reqtable_lines.proofs.Releases.{release_bytes, release_law}
 
 -- ---- comparisons
 

@@ -1,14 +1,5 @@
 pub mod Runs
-pub mod Comments
-pub mod Lines
-pub mod Words
-pub mod White
-pub mod Texts
 pub mod Spaced
 pub mod Releases
 pub mod Grammar
 pub mod Whole
-pub mod CandidateParts
-pub mod CandidateLines
-pub mod Utf8Lines
-pub mod WholeCandidates

@@ -9,11 +9,9 @@ use Rattle.reqtable_lines.specs.declared.requirement.ByteClass.{ByteClass}
 use Rattle.reqtable_lines.specs.declared.requirement.ByteClass.TheVariants as classes
 use Rattle.reqtable_lines.specs.RequirementLine.{IsReleaseText}
 use Rattle.reqtable_lines.specs.Reading.{is_in, after_run, release_of}
-use Rattle.reqtable_lines.proofs.Spaced.{AreIn, Begins, both_true}
-
--- what pep440_rs says of versions and their texts
-abbrev pub VersionLaw : Type 0
-VersionLaw = (text : List ℕ) (version : VersionRecord) → (version_of text ≡ Some version) ↔ IsVersionText text version
+use Rattle.reqtable_text.proofs.CandidateLines.{VersionLaw}
+use Rattle.reqtable_text.proofs.Words.{both_true}
+use Rattle.reqtable_lines.proofs.Spaced.{AreIn, Begins}
 
 -- ---- texts of one class
 

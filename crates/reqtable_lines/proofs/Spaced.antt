@@ -8,6 +8,7 @@ use Rattle.std.proofs.lemmas.Slice.Eq.{bytes_eq-Decides}
 use Rattle.std.specs.List.{AllByRecursion, prefix_len, take_while, list_all, starts_with}
 use Rattle.std.specs.Option.{option_map, option_and_then}
 use Rattle.pep508_name.specs.Name.{is_name_byte, is_alphanumeric_at, is_name, normal_name, name_of}
+use Rattle.reqtable_text.proofs.Words.{some_same, both_true}
 use Rattle.reqtable_lines.specs.declared.requirement.ByteClass.{ByteClass}
 use Rattle.reqtable_lines.specs.declared.requirement.ByteClass.TheVariants as classes
 use Rattle.reqtable_lines.specs.RequirementLine.{AreBlanks, IsSpaced}
@@ -21,9 +22,6 @@ AreIn class = AllByRecursion (λ b. is_in class b ≡ true)
 abbrev pub Stops : ByteClass → List ℕ → Type 0
 Stops class [] = Unit {0}
 Stops class (b ∷ bs) = is_in class b ≡ false
-
-pub some_same : {A : Type 0} (x y : A) → Some x ≡ Some y → x ≡ y
-some_same x y h = cc
 
 -- ---- runs
 
@@ -117,10 +115,6 @@ behind_again word text rest e =
 abbrev pub Begins : ByteClass → List ℕ → Type 0
 Begins class [] = ⊥
 Begins class (b ∷ bs) = is_in class b ≡ true
-
-pub both_true : (a b : Bool) → (a && b) ≡ true → (a ≡ true) × (b ≡ true)
-both_true true b h = (refl, h)
-both_true false b h = absurd (cc)
 
 all_in : (text : List ℕ) → list_all is_name_byte text ≡ true → AreIn classes.Name text
 all_in [] h = tt

@@ -4,14 +4,14 @@ use Rattle.std.specs.List.{AllZip}
 use Rattle.std.specs.Str.{IsUtf8}
 use Rattle.reqtable_lines.specs.declared.requirement.RequirementLine.{RequirementLine}
 use Rattle.reqtable_lines.specs.declared.requirements.RequirementsError.TheVariants.{NotText, NotYet}
-use Rattle.reqtable_lines.specs.TextLines.{text_lines}
+use Rattle.reqtable_text.specs.TextLines.{text_lines}
 use Rattle.reqtable_lines.specs.RequirementLine.{IsRequirementLine, IsNumberedLine, IsFirstUnread}
 use Rattle.reqtable_lines.specs.Reading.{requirement_of}
 use Rattle.reqtable_lines.specs.Requirements.{or_not_yet, requirement_at, requirements_of}
-use Rattle.reqtable_lines.proofs.Releases.{VersionLaw}
+use Rattle.reqtable_text.proofs.CandidateLines.{VersionLaw}
 use Rattle.reqtable_lines.proofs.Grammar.{line_found, line_again}
-use Rattle.reqtable_lines.proofs.Lines.{FirstFault, each_found, each_again, fault_found, fault_again, all_zip_map}
-use Rattle.reqtable_lines.proofs.Texts.{text_is_read, text_found}
+use Rattle.reqtable_text.proofs.Lines.{FirstFault, each_found, each_again, fault_found, fault_again, all_zip_map}
+use Rattle.reqtable_text.proofs.Texts.{text_is_read, text_found}
 
 read_by : (number : ℕ) (read : Option RequirementLine) (line : RequirementLine) → or_not_yet number read ≡ Ok line → read ≡ Some line
 read_by number (Some other) line h = cc

@@ -3,7 +3,7 @@ use Rattle.std.specs.Prelude.{ℕ, List, Option, Some, None, Result, Ok, Err}
 use Rattle.reqtable_lines.specs.declared.requirement.RequirementLine.{RequirementLine}
 use Rattle.reqtable_lines.specs.declared.requirements.RequirementsError.{RequirementsError}
 use Rattle.reqtable_lines.specs.declared.requirements.RequirementsError.TheVariants.{NotText, NotYet, Memory}
-use Rattle.reqtable_lines.specs.TextLines.{lines_of_text}
+use Rattle.reqtable_text.specs.TextLines.{lines_of_text}
 use Rattle.reqtable_lines.specs.Reading.{requirement_of}
 
 abbrev pub or_not_yet : ℕ → Option RequirementLine → Result RequirementLine RequirementsError

@@ -1,12 +1,9 @@
-//! The two kinds of line lists that the judge reads: requirements and candidates.
+//! Requirement lines that the judge reads, as far as they are read today.
 #![tactic(auto)]
 
-pub mod candidates;
 pub mod laws;
 pub mod requirement;
 pub mod requirements;
-mod text_lines;
 
-pub use candidates::{Candidate, CandidateFault, Candidates, CandidatesError};
 pub use requirement::{Comparator, Comparison, RequirementLine};
 pub use requirements::{Requirements, RequirementsError};

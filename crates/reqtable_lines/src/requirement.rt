@@ -1,16 +1,15 @@
 //! One requirement line, as far as lines are read today.
 
-ghost use Rattle.std.specs.Prelude.{◌≡◌, ◌<◌, [], IsTrue, IfOk, IfSome, OnErr};
+ghost use Rattle.std.specs.Prelude.{◌≡◌, ◌<◌, [], IfOk, IfSome};
 ghost use Rattle.std.specs.Option.{option_map, option_copied};
 ghost use Rattle.std.specs.List.{take_while};
-ghost use Rattle.pep440_rs.specs.Reading.{version_of};
-ghost use Rattle.pep508_name.specs.Name.{is_name, name_of};
 ghost use Rattle.reqtable_lines.specs.RequirementLine.{operator_of};
 ghost use Rattle.reqtable_lines.specs.Reading.{is_in, after_run, after_blanks, behind, comparator_at, before_quote, in_quotes, comparison_of, marker_of, line_behind, requirement_of, release_of};
 
 use pep440_rs::laws::version_text_is_read;
-use pep440_rs::{Version, VersionParseError, VersionSpecifier};
-use pep508_name::{PackageName, is_name};
+use pep440_rs::{Version, VersionSpecifier};
+use pep508_name::PackageName;
+use reqtable_text::pieces::{read_name, read_version};
 use std::alloc::{AllocError, Global};
 
 /// The two comparisons that are read today (PEP 440, "Version specifiers").
@@ -105,18 +104,6 @@ fn split_comparator(text: &str) -> Option<(Comparator, &str)>
     Some((Comparator::GreaterThanEqual, rest))
 }
 
-/// The version that the whole text is.
-#[tactic(auto, using(pep440_version::proofs::Found::reads_found))]
-pub(crate) fn read_version(alloc: Global, text: &str) -> Result<Option<Version>, AllocError>
-    ensures { IfOk result (λ version. version ≡ version_of text.now) }
-{
-    match Version::from_str(alloc, text) {
-        Ok(version) => Ok(Some(version)),
-        Err(VersionParseError::Memory) => Err(AllocError),
-        Err(_) => Ok(None),
-    }
-}
-
 /// The release version that the whole text is: a version of digits and dots alone.
 #[tactic(auto, using(crate::proofs::Releases::run_is_all), unfolding(crate::specs::Reading::release_of))]
 fn read_release(alloc: Global, text: &str) -> Result<Option<Version>, AllocError>
@@ -130,19 +117,6 @@ fn read_release(alloc: Global, text: &str) -> Result<Option<Version>, AllocError
         return Ok(None);
     }
     read_version(alloc, text)
-}
-
-/// The name that the whole text is. Want of memory is told for a name alone.
-#[tactic(auto, unfolding(pep508_name::specs::Name::name_of))]
-pub(crate) fn read_name(alloc: Global, text: &str) -> Result<Option<PackageName>, AllocError>
-    ensures name { IfOk result (λ name. name ≡ name_of text.now) }
-    ensures grown { OnErr result (IsTrue (is_name text.now)) }
-{
-    match PackageName::from_str(alloc, text) {
-        Ok(name) => Ok(Some(name)),
-        Err(_) if is_name(text) => Err(AllocError),
-        Err(_) => Ok(None),
-    }
 }
 
 /// What stands between two quotes of one kind, which blanks alone may follow.

@@ -2,11 +2,11 @@
 
 ghost use Rattle.std.specs.Prelude.{◌≡◌};
 ghost use Rattle.read_outcome.specs.Outcome.{Answers};
-ghost use Rattle.reqtable_lines.specs.TextLines.{text_lines, each_line};
+ghost use Rattle.reqtable_text.specs.TextLines.{text_lines, each_line};
 ghost use Rattle.reqtable_lines.specs.Requirements.{requirement_at, requirements_of, told_requirements};
 
 use crate::requirement::RequirementLine;
-use crate::text_lines::{as_text, is_blank, line_text};
+use reqtable_text::text_lines::{as_text, is_blank, line_text};
 use std::alloc::{AllocError, AllocFailed, Global};
 use std::marker::Model;
 

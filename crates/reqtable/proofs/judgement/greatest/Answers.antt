@@ -2,7 +2,7 @@ use Rattle.std.proofs.Common.{◌≡◌, ◌∙◌, ◌++◌, ◌∷◌, [], ◌
 use Rattle.std.proofs.lemmas.List.{map_more, take_all}
 use Rattle.pep440_rs.specs.OrderLaws.{version_cmp_total}
 use Rattle.std.specs.Cmp.{IsTotalOrder, on_total}
-use Rattle.reqtable_lines.specs.declared.candidates.Candidate.{Candidate}
+use Rattle.reqtable_text.specs.declared.candidates.Candidate.{Candidate}
 use Rattle.reqtable.specs.Answer.{by_version, all_match, first_greatest}
 use Rattle.reqtable.specs.Rows.{taken}
 use Rattle.reqtable.proofs.Greatest.{IsBest, best_passed_over, best_kept, best_taken, first_greatest-best}

@@ -3,9 +3,9 @@ use Rattle.std.proofs.lemmas.Iterator.Consumers.{YieldsList-at, YieldsList-end, 
 use Rattle.std.proofs.lemmas.Iterator.Splits.{YieldsList-from_str_split}
 use Rattle.std.specs.Str.Lines.{strip_carriage_return}
 use Rattle.read_outcome.specs.Outcome.{Tells}
-use Rattle.reqtable_lines.specs.TextLines.{is_blank, without_comment, text_lines, each_line}
+use Rattle.reqtable_text.specs.TextLines.{is_blank, without_comment, text_lines, each_line}
 use Rattle.reqtable_lines.specs.Requirements.{requirement_at, told_requirements}
-use Rattle.reqtable_lines.proofs.Lines.{lines_of, numbered, seen, lines_all, lines_split, lines_more_kept, each_more, tells_all, answers_err}
+use Rattle.reqtable_text.proofs.Lines.{lines_of, numbered, seen, lines_all, lines_split, lines_more_kept, each_more, tells_all, answers_err}
 use Rattle.reqtable_lines.proofs.requirements.read_lines.Goals as goal
 
 pub returns : goal.returns

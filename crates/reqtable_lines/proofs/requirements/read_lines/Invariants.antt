@@ -1,7 +1,7 @@
 use Rattle.std.proofs.Common.{◌≡◌, Ok}
-use Rattle.reqtable_lines.specs.TextLines.{each_line}
+use Rattle.reqtable_text.specs.TextLines.{each_line}
 use Rattle.reqtable_lines.specs.Requirements.{requirement_at}
-use Rattle.reqtable_lines.proofs.Lines.{lines_of}
+use Rattle.reqtable_text.proofs.Lines.{lines_of}
 use Rattle.reqtable_lines.proofs.requirements.read_lines.Given as goal
 
 abbrev pub invariant-loop-index : goal.invariant-loop-index

@@ -1,7 +1,7 @@
 use Rattle.std.proofs.Common.{◌∙◌, Err, ap, sym, rules}
 use Rattle.reqtable_lines.specs.declared.requirements.RequirementsError.TheVariants.{NotText}
 use Rattle.reqtable_lines.specs.Requirements.{requirement_at}
-use Rattle.reqtable_lines.proofs.Texts.{text_is_read, no_text_is_read}
+use Rattle.reqtable_text.proofs.Texts.{text_is_read, no_text_is_read}
 use Rattle.reqtable_lines.proofs.requirements.Requirements.parse.Goals as goal
 
 pub returns-in-Err : goal.returns-in-Err

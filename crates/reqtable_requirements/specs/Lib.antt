@@ -1,0 +1,3 @@
+pub mod LineReading
+pub mod LineText
+pub mod Requirements

@@ -1,0 +1,43 @@
+//! Laws over the definitions that the contracts cite. The functions do nothing: each one's contract is
+//! its law.
+
+ghost use Rattle.std.specs.Prelude.{◌≡◌, ◌↔◌, ℕ, List, Ok, Err};
+ghost use Rattle.pep508_url.specs.Vars.{Variables};
+ghost use Rattle.reqtable_requirements.specs.LineReading.{LineRecord, line_of};
+ghost use Rattle.reqtable_requirements.specs.LineText.{IsRequirementLine, IsRequirementsText};
+ghost use Rattle.reqtable_requirements.specs.Requirements.{requirements_of};
+
+use pep508_marker_read::laws::{a_read_marker_is_written, a_written_marker_is_read};
+use pep508_requirement_text::laws::{a_read_front_is_written, a_written_front_is_read};
+
+/// A text is read as a requirement line exactly where the grammar says that it is that line's.
+pub fn requirement_line_is_read()
+    ensures { (vars : Variables) (number : ℕ) (text : List ℕ) (line : LineRecord) →
+        (line_of vars number text ≡ Ok line) ↔ (IsRequirementLine vars text line × (line.number ≡ number)) }
+{
+    a_read_front_is_written();
+    a_written_front_is_read();
+    a_read_marker_is_written();
+    a_written_marker_is_read();
+}
+
+/// A text is that of at most one requirement line, its number apart.
+pub fn text_is_one_requirement_line()
+    ensures { (vars : Variables) (text : List ℕ) (line other : LineRecord) →
+        IsRequirementLine vars text line → IsRequirementLine vars text other →
+        line.number ≡ other.number → line ≡ other }
+{
+    a_written_front_is_read();
+    a_written_marker_is_read();
+}
+
+/// Bytes are read as a requirements text exactly where they are that of these lines.
+pub fn requirements_are_their_lines()
+    ensures { (vars : Variables) (bytes : List ℕ) (lines : List LineRecord) →
+        (requirements_of vars bytes ≡ Ok lines) ↔ IsRequirementsText vars bytes lines }
+{
+    a_read_front_is_written();
+    a_written_front_is_read();
+    a_read_marker_is_written();
+    a_written_marker_is_read();
+}

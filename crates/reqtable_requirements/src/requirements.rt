@@ -1,0 +1,167 @@
+//! A requirements text: one requirement line after another.
+
+ghost use Rattle.std.specs.Prelude.{◌≡◌, Some};
+ghost use Rattle.pep508_tree.specs.Meaning.{Extends};
+ghost use Rattle.reqtable_text.specs.TextLines.{text_lines, each_line};
+ghost use Rattle.reqtable_requirements.specs.LineReading.{line_of};
+ghost use Rattle.reqtable_requirements.specs.Requirements.{ReadsLine, ReadsLines, ReadsRequirements, refusal_of};
+
+use pep508_error::{Pep508Error, Pep508ErrorSource};
+use pep508_requirement::Requirement;
+use pep508_tree::Interner;
+use pep508_url::{Vars, VerbatimUrl};
+use reqtable_text::text_lines::{as_text, is_blank, line_text};
+use std::alloc::{AllocError, AllocFailed, Global};
+use std::marker::Model;
+
+/// A requirement of a text.
+#[derive(Drop)]
+pub struct Line {
+    /// The line's number in its text, from 1.
+    pub number: usize,
+    pub requirement: Requirement<VerbatimUrl>,
+}
+
+/// Why bytes are no requirements text.
+#[derive(Debug, Drop)]
+pub enum RequirementsError {
+    /// The bytes stop being UTF-8 here, counted from 0.
+    NotText {
+        offset: usize,
+    },
+    /// The first line, counted from 1, that is not taken is no requirement.
+    Line {
+        number: usize,
+        error: Pep508Error<VerbatimUrl>,
+    },
+    /// The first line that is not taken has a marker with a version number that can't be raised.
+    NumberAtEnd {
+        number: usize,
+    },
+    /// Memory ran out while reading.
+    Memory,
+}
+
+impl From<AllocError> for RequirementsError {
+    ghost use Rattle.reqtable_requirements.specs.declared.requirements.RequirementsError.TheVariants.{Memory};
+
+    ghost from_gives = { λ _ error. error ≡ Memory };
+
+    fn from(_: AllocError) -> RequirementsError {
+        RequirementsError::Memory
+    }
+}
+
+impl<T: Drop> From<AllocFailed<T>> for RequirementsError {
+    ghost use Rattle.reqtable_requirements.specs.declared.requirements.RequirementsError.TheVariants.{Memory};
+
+    ghost from_gives = { λ _ error. error ≡ Memory };
+
+    fn from(_: AllocFailed<T>) -> RequirementsError {
+        RequirementsError::Memory
+    }
+}
+
+/// The requirements of a text, in order.
+#[derive(Drop)]
+pub struct Requirements {
+    lines: Vec<Line>,
+}
+
+impl Model for Requirements {
+    ghost use Rattle.std.specs.Prelude.{List};
+    ghost use Rattle.reqtable_requirements.specs.declared.requirements.Line.{Line};
+
+    ghost Value = { List Line };
+
+    ghost view = { λ r. r.lines.items };
+}
+
+impl Requirements {
+    /// Reads a requirements text, which is UTF-8, by lines.
+    ///
+    /// A line ends in a line feed, and one carriage return before that belongs to the end. A `#` that
+    /// stands first or after white space begins a comment, also inside quotes. Lines of white space alone
+    /// count and are left out. Each other line is a requirement (PEP 508, "Grammar"), whose relative paths
+    /// stand in the project's root. The first one that isn't ends the reading.
+    ///
+    /// Time and memory are those of reading each line's requirement. The nodes of the interner stay,
+    /// refused or not.
+    pub fn parse(
+        alloc: Global,
+        bytes: &[u8],
+        interner: &mut Interner,
+        vars: &Vars,
+    ) -> Result<Requirements, RequirementsError>
+        ensures answered { ReadsRequirements vars.now interner.new.nodes bytes.now result }
+        ensures keeps { Extends interner.old.nodes interner.new.nodes }
+        ensures counts { interner.new.conjunctions ≡ interner.old.conjunctions }
+    {
+        let text = match as_text(bytes) {
+            Ok(text) => text,
+            Err(offset) => return Err(RequirementsError::NotText { offset }),
+        };
+        let lines = read_lines(alloc, text, interner, vars)?;
+        Ok(Requirements { lines })
+    }
+
+    /// The requirements in the order of the text.
+    pub fn lines(&self) -> &[Line]
+        ensures { result.now ≡ self.now }
+    {
+        &self.lines
+    }
+}
+
+/// The refusal of a line for this error of its requirement.
+fn refusal(number: usize, error: Pep508Error<VerbatimUrl>) -> RequirementsError
+    ensures { result ≡ refusal_of number error }
+{
+    match error.message() {
+        Pep508ErrorSource::Memory => RequirementsError::Memory,
+        Pep508ErrorSource::NumberAtEnd => RequirementsError::NumberAtEnd { number },
+        _ => RequirementsError::Line { number, error },
+    }
+}
+
+/// The requirement that a line's text is.
+fn read_line(
+    alloc: Global,
+    number: usize,
+    text: &str,
+    interner: &mut Interner,
+    vars: &Vars,
+) -> Result<Line, RequirementsError>
+    ensures read { ReadsLine vars.now interner.new.nodes number text.now result }
+    ensures keeps { Extends interner.old.nodes interner.new.nodes }
+    ensures counts { interner.new.conjunctions ≡ interner.old.conjunctions }
+{
+    match Requirement::parse(alloc, interner, vars, text, Some(vars.project_root())) {
+        Ok(requirement) => Ok(Line {
+            number,
+            requirement,
+        }),
+        Err(error) => Err(refusal(number, error)),
+    }
+}
+
+fn read_lines(
+    alloc: Global,
+    text: &str,
+    interner: &mut Interner,
+    vars: &Vars,
+) -> Result<Vec<Line>, RequirementsError>
+    ensures read { ReadsLines (λ read. read.items) vars.now interner.new.nodes (text_lines text.now)
+        (each_line (line_of vars.now) (text_lines text.now)) result }
+    ensures keeps { Extends interner.old.nodes interner.new.nodes }
+    ensures counts { interner.new.conjunctions ≡ interner.old.conjunctions }
+{
+    let mut read = Vec::new(alloc);
+    for (index, line) in text.split('\n').enumerate() {
+        let line = line_text(line);
+        if !is_blank(line) {
+            read.push(read_line(alloc, index + 1, line, interner, vars)?)?;
+        }
+    }
+    Ok(read)
+}

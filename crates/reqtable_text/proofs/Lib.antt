@@ -1,0 +1,9 @@
+pub mod Comments
+pub mod Lines
+pub mod Words
+pub mod White
+pub mod Texts
+pub mod CandidateParts
+pub mod CandidateLines
+pub mod Utf8Lines
+pub mod WholeCandidates

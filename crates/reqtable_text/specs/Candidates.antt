@@ -1,0 +1,37 @@
+-- A candidate list: UTF-8, with a candidate line on each line that is not blank.
+use Rattle.std.specs.Prelude.{◌≡◌, ℕ, IsTrue, List, ◌∷◌, ◌++◌, Option, Some, None, Result, Ok, Err}
+use Rattle.std.specs.Str.{trim}
+use Rattle.reqtable_text.specs.declared.candidates.Candidate.{Candidate}
+use Rattle.reqtable_text.specs.declared.candidates.CandidateFault.{CandidateFault}
+use Rattle.reqtable_text.specs.declared.candidates.CandidatesError.{CandidatesError}
+use Rattle.reqtable_text.specs.declared.candidates.CandidatesError.TheVariants.{NotText, Line, Memory}
+use Rattle.reqtable_text.specs.TextLines.{each_line, lines_of_text}
+use Rattle.reqtable_text.specs.CandidateLine.{has_name, candidate_of}
+
+abbrev pub at_line : ℕ → Result Candidate CandidateFault → Result Candidate CandidatesError
+at_line number (Ok candidate) = Ok candidate
+at_line number (Err fault) = Err (Line number fault)
+
+abbrev pub candidate_at : ℕ → List ℕ → Result Candidate CandidatesError
+candidate_at number text = at_line number (candidate_of text)
+
+-- the candidates of a list, or where its bytes stop being UTF-8, or else its first line that is no candidate
+abbrev pub candidates_of : List ℕ → Result (List Candidate) CandidatesError
+candidates_of = lines_of_text candidate_at NotText
+
+-- what an error says of a text, if it is not want of memory
+abbrev pub told_candidates : CandidatesError → Option CandidatesError
+told_candidates (NotText offset) = Some (NotText offset)
+told_candidates (Line number cause) = Some (Line number cause)
+told_candidates Memory = None
+
+-- a line with a name is reached: the lines before it are candidates'
+pub record IsNameReached (lines : List (ℕ × List ℕ)) : Type 0 where
+  pub front : List (ℕ × List ℕ)
+  pub candidates : List Candidate
+  pub number : ℕ
+  pub line : List ℕ
+  pub back : List (ℕ × List ℕ)
+  pub split : lines ≡ front ++ (number, line) ∷ back
+  pub are_candidates : each_line candidate_at front ≡ Ok candidates
+  pub is_named : IsTrue (has_name (trim line))

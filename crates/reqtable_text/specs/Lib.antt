@@ -1,0 +1,4 @@
+pub mod TextLines
+pub mod CandidateLine
+pub mod CandidateText
+pub mod Candidates

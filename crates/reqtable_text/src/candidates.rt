@@ -1,0 +1,165 @@
+//! A candidate list: one candidate after another.
+
+ghost use Rattle.std.specs.Prelude.{◌≡◌, IsTrue, OnOk, Err};
+ghost use Rattle.read_outcome.specs.Outcome.{Answers};
+ghost use Rattle.reqtable_text.specs.TextLines.{text_lines, each_line};
+ghost use Rattle.std.specs.Option.{option_map};
+ghost use Rattle.std.specs.Str.{IsUtf8, trim};
+ghost use Rattle.reqtable_text.specs.CandidateLine.{parts_in, has_name};
+ghost use Rattle.reqtable_text.specs.Candidates.{candidate_at, candidates_of, told_candidates, IsNameReached};
+
+use crate::pieces::{read_name, read_version};
+use crate::text_lines::{as_text, is_blank, line_text};
+use pep440_rs::Version;
+use pep508_name::PackageName;
+use std::alloc::{AllocError, AllocFailed, Global};
+use std::marker::Model;
+
+/// A version of a package that may be taken.
+#[derive(Drop)]
+pub struct Candidate {
+    pub name: PackageName,
+    pub version: Version,
+}
+
+/// What is wrong with a candidate line.
+#[derive(Clone, Copy, Debug, PartialEq, Eq)]
+pub enum CandidateFault {
+    /// No white space stands inside, so name and version can't be told apart.
+    Shape,
+    /// What stands before the white space is no name (PEP 508, "Names").
+    Name,
+    /// What stands behind it is no version (PEP 440, "Version scheme").
+    Version,
+}
+
+/// Why bytes are no candidate list.
+#[derive(Clone, Copy, Debug, PartialEq, Eq)]
+pub enum CandidatesError {
+    /// The bytes stop being UTF-8 here, counted from 0.
+    NotText {
+        offset: usize,
+    },
+    /// The first line, counted from 1, that is no candidate.
+    Line {
+        number: usize,
+        cause: CandidateFault,
+    },
+    /// Memory ran out while reading.
+    Memory,
+}
+
+impl From<AllocError> for CandidatesError {
+    ghost use Rattle.reqtable_text.specs.declared.candidates.CandidatesError.TheVariants.{Memory};
+
+    ghost from_gives = { λ _ error. error ≡ Memory };
+
+    fn from(_: AllocError) -> CandidatesError {
+        CandidatesError::Memory
+    }
+}
+
+impl<T: Drop> From<AllocFailed<T>> for CandidatesError {
+    ghost use Rattle.reqtable_text.specs.declared.candidates.CandidatesError.TheVariants.{Memory};
+
+    ghost from_gives = { λ _ error. error ≡ Memory };
+
+    fn from(_: AllocFailed<T>) -> CandidatesError {
+        CandidatesError::Memory
+    }
+}
+
+/// The candidates of a list, in order.
+#[derive(Drop)]
+pub struct Candidates {
+    items: Vec<Candidate>,
+}
+
+impl Model for Candidates {
+    ghost use Rattle.std.specs.Prelude.{List};
+    ghost use Rattle.reqtable_text.specs.declared.candidates.Candidate.{Candidate};
+
+    ghost Value = { List Candidate };
+
+    ghost view = { λ c. c.items.items };
+}
+
+impl Candidates {
+    /// Reads a candidate list, which is UTF-8, by lines.
+    ///
+    /// Lines end, have comments and are left out as in a requirements text. Each other line is a
+    /// name, white space and a version, as `numpy 1.26.4`, with white space around them or none. The
+    /// version is in any spelling that PEP 440 normalizes ("Normalization"), as `v1.0-ALPHA`.
+    ///
+    /// The first line of another kind ends the reading, with the first thing that is wrong of its
+    /// shape, its name and its version. A line of a wrong shape or name is refused as that whatever
+    /// memory there is. Time grows with the length of the bytes, memory with the candidates.
+    pub fn parse(alloc: Global, bytes: &[u8]) -> Result<Candidates, CandidatesError>
+        ensures answered { Answers (λ candidates. candidates) told_candidates result
+            (candidates_of bytes.now) }
+        ensures grown { result ≡ Err CandidatesError.Memory →
+            IsUtf8 bytes.now × IsNameReached (text_lines bytes.now) }
+    {
+        let text = match as_text(bytes) {
+            Ok(text) => text,
+            Err(offset) => return Err(CandidatesError::NotText { offset }),
+        };
+        let items = read_candidates(alloc, text)?;
+        Ok(Candidates { items })
+    }
+
+    /// The candidates in the order of the list.
+    pub fn items(&self) -> &[Candidate]
+        ensures { result.now ≡ self.now }
+    {
+        &self.items
+    }
+}
+
+/// The text before the first white space, and what follows that run of white space.
+fn split_at_white(text: &str) -> Option<(&str, &str)>
+    ensures { option_map (λ parts. (parts.0.now, parts.1.now)) result ≡ parts_in text.now }
+{
+    let (name, rest) = text.split_once(|c: char| c.is_whitespace())?;
+    Some((name, rest.trim_start()))
+}
+
+#[tactic(auto, unfolding(crate::specs::CandidateLine::candidate_of, pep508_name::specs::Name::name_of))]
+fn read_candidate(alloc: Global, number: usize, text: &str) -> Result<Candidate, CandidatesError>
+    ensures answered { Answers (λ candidate. candidate) told_candidates result
+        (candidate_at number text.now) }
+    ensures named { OnOk result (IsTrue (has_name (trim text.now))) }
+    ensures grown { result ≡ Err CandidatesError.Memory → IsTrue (has_name (trim text.now)) }
+{
+    let Some((name, version)) = split_at_white(text.trim()) else {
+        return Err(fault(number, CandidateFault::Shape));
+    };
+    let Some(name) = read_name(alloc, name)? else {
+        return Err(fault(number, CandidateFault::Name));
+    };
+    match read_version(alloc, version)? {
+        Some(version) => Ok(Candidate { name, version }),
+        None => Err(fault(number, CandidateFault::Version)),
+    }
+}
+
+fn fault(number: usize, cause: CandidateFault) -> CandidatesError
+    ensures { result ≡ CandidatesError.Line number cause }
+{
+    CandidatesError::Line { number, cause }
+}
+
+fn read_candidates(alloc: Global, text: &str) -> Result<Vec<Candidate>, CandidatesError>
+    ensures answered { Answers (λ read. read.items) told_candidates result
+        (each_line candidate_at (text_lines text.now)) }
+    ensures grown { result ≡ Err CandidatesError.Memory → IsNameReached (text_lines text.now) }
+{
+    let mut read = Vec::new(alloc);
+    for (index, line) in text.split('\n').enumerate() {
+        let line = line_text(line);
+        if !is_blank(line) {
+            read.push(read_candidate(alloc, index + 1, line)?)?;
+        }
+    }
+    Ok(read)
+}

@@ -1,0 +1,9 @@
+//! What texts of the judge are made of: lines without their ends and comments; and candidate lists.
+#![tactic(auto)]
+
+pub mod candidates;
+pub mod laws;
+pub mod pieces;
+pub mod text_lines;
+
+pub use candidates::{Candidate, CandidateFault, Candidates, CandidatesError};
