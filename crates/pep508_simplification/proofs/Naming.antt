@@ -13,7 +13,7 @@ use Rattle.pep508_diagram.specs.Text.{text_cmp}
 use Rattle.pep508_diagram.specs.Question.{Valuation}
 use Rattle.pep508_tree.specs.Tree.{Tree}
 use Rattle.pep508_tree.specs.Meaning.{NodeRecord, Versions, Texts, Flagged, holds, IsTree, Extends}
-use Rattle.pep508_tree.specs.Nodes.{AllChildren, IsRising, Above, Made, chosen, no_node, node_at, node_place, first_place, turned}
+use Rattle.pep508_tree.specs.Nodes.{AllChildren, IsRising, Above, chosen, no_node, node_at, node_place, first_place, turned}
 use Rattle.pep508_tree.specs.Joining.{children, node_joined}
 use Rattle.pep508_tree.specs.Conjunctions.{Meet}
 use Rattle.pep508_tree.specs.Roots.{IsRoot}

@@ -16,8 +16,8 @@ use pep508_tree::{Interner, MarkerTree};
 use std::alloc::{AllocError, Global};
 use std::ops::Bound;
 
-/// What is made of a marker tree by what is known of environments. Each call's only refusal is want of memory;
-/// earlier trees mean what they meant, refused or not, and no conjunction is counted.
+/// What is made of a marker tree by what is known of environments. Each call's only refusal is want of
+/// memory; earlier trees mean what they meant, refused or not, and no conjunction is counted.
 pub trait MarkerTreeSimplification: Sized {
     ghost use Rattle.pep508_tree.specs.Tree.{Tree};
 
@@ -42,8 +42,8 @@ pub trait MarkerTreeSimplification: Sized {
         ensures keeps { Extends interner.old.nodes interner.new.nodes }
         ensures counts { interner.new.conjunctions ≡ interner.old.conjunctions };
 
-    /// The tree with the extras taken as present for which the predicate answers true; extras that are no names
-    /// are never asked for. Copies each node of the tree once; looks up trees that were met.
+    /// The tree with the extras taken as present for which the predicate answers true; extras that are no
+    /// names are never asked for. Copies each node of the tree once; looks up trees that were met.
     fn simplify_extras_with<F: Fn(&ExtraName) -> bool>(
         self,
         alloc: Global,

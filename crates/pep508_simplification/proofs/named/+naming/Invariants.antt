@@ -1,4 +1,4 @@
-use Rattle.std.proofs.Common.{◌≡◌, ◌+◌, ◌*◌, ◌-◌}
+use Rattle.std.proofs.Common.{◌≡◌, ◌+◌, ◌*◌}
 use Rattle.pep508_simplification.proofs.Naming.{AreFound}
 use Rattle.pep508_simplification.proofs.named.+naming.Given as goal
 
