@@ -1,0 +1,3 @@
+pub mod Ordered
+pub mod Edges
+pub mod Walking

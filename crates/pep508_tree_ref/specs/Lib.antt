@@ -1,0 +1,4 @@
+pub mod TreeOrder
+pub mod TreeIn
+pub mod TreeOrderLaws
+pub mod Sides

@@ -1,0 +1,10 @@
+//! Marker trees with their interners (PEP 508, "Environment Markers"), which are compared by what they mean.
+#![tactic(auto)]
+
+mod end;
+pub mod laws;
+mod order;
+mod root;
+mod tree_ref;
+
+pub use tree_ref::MarkerTreeRef;

@@ -1,0 +1,94 @@
+//! Marker trees with their interners.
+
+ghost use Rattle.std.specs.Prelude.{◌≡◌, refl};
+ghost use Rattle.std.specs.Cmp.{partial_equiv_from_equiv, eq_by_cmp_equiv, partial_order_from_total};
+ghost use Rattle.std.specs.Ordering.{eq_by_cmp, as_partial_cmp};
+ghost use Rattle.pep508_diagram.specs.Question.{IsCanonical};
+ghost use Rattle.pep508_tree.specs.Meaning.{IsTree};
+ghost use Rattle.pep508_tree_ref.specs.TreeIn.{diagram_in, tree_in_cmp};
+ghost use Rattle.pep508_tree_ref.specs.TreeOrderLaws.{trees_in_total};
+
+use crate::order::cmp_trees;
+use pep508_tree::{Interner, MarkerTree};
+use std::cmp::Ordering;
+use std::marker::Model;
+
+/// A marker tree with the interner that it was made with, so that trees of different interners can be compared
+/// (PEP 508, "Environment Markers"). Contracts see it as the tree with the interner's nodes.
+///
+/// Two of them are equal exactly where their trees mean the same (`laws::equal_trees_mean_the_same`). A
+/// comparison takes no memory and ends at the first difference; trees that are equal are walked along each path
+/// from the root, of which there can be many more than nodes.
+#[derive(Drop)]
+pub struct MarkerTreeRef<'a> {
+    interner: &'a Interner,
+    tree: MarkerTree,
+}
+
+impl<'a> Model for MarkerTreeRef<'a> {
+    ghost use Rattle.pep508_tree.specs.Meaning.{IsTree};
+    ghost use Rattle.pep508_tree_ref.specs.TreeIn.{TreeIn};
+
+    ghost Value = { TreeIn };
+
+    ghost view = { λ r. record { nodes = r.interner.now.nodes; tree = r.tree } };
+
+    ghost invariant = { λ r. IsTree r.interner.now.nodes r.tree };
+}
+
+impl<'a> MarkerTreeRef<'a> {
+    /// A tree with its interner. Takes no memory.
+    pub fn new(interner: &'a Interner, tree: MarkerTree) -> MarkerTreeRef<'a>
+        requires { IsTree interner.now.nodes tree }
+        ensures nodes { result.nodes ≡ interner.now.nodes }
+        ensures tree { result.tree ≡ tree }
+    {
+        MarkerTreeRef { interner, tree }
+    }
+
+    /// No question is asked in vain in it. Does nothing.
+    #[tactic(auto, using(pep508_tree::proofs::OneTree::canonical_trees))]
+    pub fn is_canonical(&self)
+        ensures { IsCanonical (diagram_in self.now) }
+    {
+        self.interner.are_sound()
+    }
+}
+
+impl PartialEq for MarkerTreeRef<'_> {
+    ghost eq = { eq_by_cmp tree_in_cmp };
+
+    ghost laws = { partial_equiv_from_equiv (eq_by_cmp_equiv trees_in_total) };
+
+    fn eq(&self, other: &Self) -> bool {
+        self.cmp(other).is_eq()
+    }
+}
+
+impl Eq for MarkerTreeRef<'_> {
+    ghost laws = { eq_by_cmp_equiv trees_in_total };
+}
+
+impl Ord for MarkerTreeRef<'_> {
+    ghost cmp = { tree_in_cmp };
+
+    ghost total = { trees_in_total };
+
+    ghost matches_partial_cmp = { λ x y. refl };
+
+    ghost matches_eq = { λ x y. refl };
+
+    fn cmp(&self, other: &Self) -> Ordering {
+        cmp_trees(self.tree, self.interner, other.tree, other.interner)
+    }
+}
+
+impl PartialOrd for MarkerTreeRef<'_> {
+    ghost partial_cmp = { as_partial_cmp tree_in_cmp };
+
+    ghost laws = { partial_order_from_total trees_in_total };
+
+    fn partial_cmp(&self, other: &Self) -> Option<Ordering> {
+        Some(self.cmp(other))
+    }
+}
