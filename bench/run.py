@@ -1,7 +1,7 @@
 #!/usr/bin/env python3
 """Measures `reqs check` beside Python's packaging, and beside a native program where one is named.
 
-    run.py [PROGRAM] [--native PATH] [--only NAME,..] [--sizes N,..] [--runs N] [--seed N]
+    run.py [PROGRAM] [--full] [--native PATH] [--only NAME,..] [--sizes N,..] [--runs N] [--seed N]
            [--folder FOLDER]
 
 PROGRAM is crates/reqs_cli/out/reqs_cli where none is named. A native program is called as
@@ -68,6 +68,7 @@ def read_words():
     )
     program = os.path.join(HERE, "..", "crates", "reqs_cli", "out", "reqs_cli")
     words.add_argument("program", nargs="?", default=os.path.normpath(program))
+    words.add_argument("--full", action="store_true", help="lines of every kind, with markers")
     words.add_argument("--native", metavar="PATH")
     words.add_argument("--only", metavar="NAME,..", help="of reqs, native, packaging")
     words.add_argument("--sizes", metavar="N,..", type=numbers, default=[1000, 10000, 100000],
@@ -106,7 +107,7 @@ def main():
         for size in words.sizes:
             lines = max(1, size // 10)
             folder = os.path.join(words.folder or room, str(size))
-            inputs = write_workload(lines, size, words.seed, folder)
+            inputs = write_workload(lines, size, words.seed, folder, words.full)
             found, rows = {}, {}
             for name, head in heads.items():
                 runs = words.runs if name != "packaging" else max(1, words.runs // 3)

@@ -1,13 +1,15 @@
 #!/usr/bin/env python3
 """Writes a workload for `reqs check`: requirements.txt, environment.json and candidates.txt.
 
-    workload.py LINES CANDIDATES SEED FOLDER
+    workload.py [--full] LINES CANDIDATES SEED FOLDER
 
 LINES is the number of requirement lines and CANDIDATES that of candidate lines. The same words give
-the same files. Lines are `name==N.N` or `name>=N.N`, nearly a third of them with a marker on
-`python_full_version`; a candidate is `name N.N`. Nine lines of ten name a package of their own; the
-others name one of these again. Few packages have many candidates, as in an index. One candidate of
-eight is of a package that no line names.
+the same files. Nine lines of ten name a package of their own; the others name one of these again. Few
+packages have many candidates, as in an index. One candidate of eight is of a package that no line names.
+
+Lines are `name==N.N` or `name>=N.N`, nearly a third of them with a marker on `python_full_version`; a
+candidate is `name N.N`. With `--full` they are what real lists hold: extras, URLs, every operator but
+`===`, lists of specifiers, markers of all keys, comments, `# via` lines, and versions with every part.
 """
 
 import itertools
@@ -61,7 +63,104 @@ def make_version(rng):
     return f"{rng.randrange(12)}.{rng.randrange(40)}"
 
 
-def make_workload(lines, candidates, seed):
+# What stands behind `;` in full workloads.
+MARKERS = (
+    "python_version < '3.11'",
+    "python_version >= '3.8'",
+    "python_version != '3.10'",
+    "python_version == '3.11'",
+    "python_version ~= '3.9'",
+    "python_version in '3.9 3.10 3.11'",
+    "python_full_version < '3.11.3'",
+    'python_full_version >= "3.7.1"',
+    'python_version < "3.12" and python_version >= "3.7"',
+    "implementation_name == 'cpython' and python_version >= '3.8'",
+    "platform_python_implementation != 'PyPy'",
+    "platform_machine not in 'aarch64 arm64'",
+    "platform_system == 'Linux'",
+    "platform_system != 'Windows' and platform_machine == 'x86_64'",
+    "sys_platform == 'win32'",
+    "sys_platform == 'linux' or sys_platform == 'darwin'",
+    "'linux' in sys_platform",
+    "extra == 'test'",
+    "extra == 'docs' and python_version < '3.12'",
+    "python_version >= '3.7' and (extra == 'docs' or os_name != 'nt')",
+    "(os_name == 'posix' or sys_platform == 'darwin') and python_full_version < '3.12.1'",
+    "(python_version < '3.9' and os_name == 'nt') or (python_version >= '3.9' and os_name == 'posix')",
+)
+
+EXTRAS = ("all", "async", "cli", "Dev_Tools", "docs", "security", "speed", "test", "tls")
+
+
+def make_full_version(rng):
+    numbers = [rng.randrange(9), rng.randrange(30), rng.randrange(15)]
+    form = rng.random()
+    if form < 0.05:
+        numbers = [rng.randrange(2018, 2027), rng.randrange(1, 13)]
+    elif form < 0.25:
+        numbers = numbers[:2]
+    elif form > 0.95:
+        numbers.append(rng.randrange(300))
+    release = ".".join(map(str, numbers))
+    part = rng.random()
+    if part < 0.78:
+        return release
+    if part < 0.88:
+        return f"{release}{rng.choice(('a', 'b', 'rc'))}{rng.randrange(5)}"
+    if part < 0.92:
+        return f"{release}.post{rng.randrange(4)}"
+    if part < 0.96:
+        return f"{release}.dev{rng.randrange(300)}"
+    if part < 0.97:
+        return f"{release}rc{rng.randrange(1, 4)}.post1.dev{rng.randrange(9)}"
+    if part < 0.999:
+        return f"{release}+{rng.choice(('1', 'cu118', 'local.7', 'ubuntu.1'))}"
+    return f"1!{release}"
+
+
+def make_specifiers(rng, version):
+    """A list of specifiers, mostly one that takes the version."""
+    public = version.partition("+")[0]
+    numbers = public.rpartition("!")[2].split(".")
+    major = int(numbers[0])
+    minor = numbers[1] if numbers[1:] and numbers[1].isdigit() else "0"
+    return rng.choice((
+        f"=={version}", f"=={version}", f"=={public}", f">={public}", f">={public}",
+        f">={major}.{minor},<{major + rng.randrange(1, 4)}", f" >= {major}.{minor} , < {major + 1}",
+        f"~={major}.{minor}", f"~={major}.{minor}.0", f"=={major}.*", f"=={major}.{minor}.*",
+        f">={major}.0,!={public},!={major}.{minor}.*", f"<{major + 1}.0a1, >={major}.0.dev0",
+        f" (>={major}.{minor}, <={major + 2}.99)", f">{major}.{minor}", f"!={public}", "",
+    ))
+
+
+def make_full_line(rng, name, version):
+    line = name
+    if rng.random() < 0.15:
+        line += f"[{','.join(rng.sample(EXTRAS, rng.choice((1, 1, 2))))}]"
+    if rng.random() < 0.01:
+        line += " @ https://files.example/packages/" + name.lower() + "-1.0-py3-none-any.whl"
+    else:
+        # A name with a dot may end like that of an archive, which has to have specifiers behind it.
+        line += make_specifiers(rng, version) or (">=0" if "." in name else "")
+    if rng.random() < 0.35:
+        line += f" ; {rng.choice(MARKERS)}"
+    if rng.random() < 0.05:
+        line += "  # pinned"
+    if rng.random() < 0.2:
+        line += "\n    # via another-package"
+    return line
+
+
+def make_plain_line(rng, name, version):
+    line = f"{name}{rng.choice(('==', '>=', '>='))}{version}"
+    if rng.random() < 0.3:
+        operator = rng.choice(("==", ">=", ">=", ">="))
+        line += f" ; python_full_version {operator} '3.{rng.randrange(6, 14)}'"
+    return line
+
+
+def make_workload(lines, candidates, seed, full=False):
+    new_version, new_line = (make_full_version, make_full_line) if full else (make_version, make_plain_line)
     rng = random.Random(seed)
     count = max(1, lines * 9 // 10)
     names = make_names(rng, count + max(1, count // 8))
@@ -71,7 +170,7 @@ def make_workload(lines, candidates, seed):
     versions = {name: [] for name in wanted}
     offered = []
     for number, name in enumerate(rng.choices(wanted, cum_weights=weights, k=candidates)):
-        version = make_version(rng)
+        version = new_version(rng)
         if number % 8 == 7:
             name = rng.choice(others)
         else:
@@ -82,20 +181,16 @@ def make_workload(lines, candidates, seed):
     rng.shuffle(order)
     asked = []
     for name in order:
-        version = rng.choice(versions[name] or [make_version(rng)])
-        line = f"{name}{rng.choice(('==', '>=', '>='))}{version}"
-        if rng.random() < 0.3:
-            operator = rng.choice(("==", ">=", ">=", ">="))
-            line += f" ; python_full_version {operator} '3.{rng.randrange(6, 14)}'"
-        asked.append(line + "\n")
+        version = rng.choice(versions[name] or [new_version(rng)])
+        asked.append(new_line(rng, name, version) + "\n")
     return "".join(asked), json.dumps(ENVIRONMENT, indent=2) + "\n", "".join(offered)
 
 
-def write_workload(lines, candidates, seed, folder):
+def write_workload(lines, candidates, seed, folder, full=False):
     """Writes the files, and returns their paths in the order of the command line."""
     os.makedirs(folder, exist_ok=True)
     paths = []
-    texts = make_workload(lines, candidates, seed)
+    texts = make_workload(lines, candidates, seed, full)
     for name, text in zip(("requirements.txt", "environment.json", "candidates.txt"), texts):
         paths.append(os.path.join(folder, name))
         with open(paths[-1], "w", encoding="utf-8") as file:
@@ -104,6 +199,7 @@ def write_workload(lines, candidates, seed, folder):
 
 
 if __name__ == "__main__":
-    if len(sys.argv) != 5:
+    words = [word for word in sys.argv[1:] if word != "--full"]
+    if len(words) != 4:
         sys.exit(__doc__)
-    write_workload(int(sys.argv[1]), int(sys.argv[2]), int(sys.argv[3]), sys.argv[4])
+    write_workload(*map(int, words[:3]), words[3], "--full" in sys.argv[1:])
