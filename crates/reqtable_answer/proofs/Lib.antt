@@ -1,0 +1,5 @@
+pub mod Tests
+pub mod Texts
+pub mod InOrder
+pub mod Alike
+pub mod OneAnswer

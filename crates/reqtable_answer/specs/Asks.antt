@@ -1,0 +1,54 @@
+-- What is asked of a package: requirements without their markers (PEP 508, "Grammar"). Which ones are asked,
+-- an environment says.
+use Rattle.std.specs.Prelude.{◌≡◌, ◌&&◌, ℕ, Bool, true, false, List, []}
+use Rattle.std.specs.List.{list_any, list_all}
+use Rattle.std.specs.Str.{bytes_eq}
+use Rattle.pep440_version.specs.Record.{VersionRecord}
+use Rattle.pep440_version.specs.Changes.{is_prerelease}
+use Rattle.pep440_specifier.specs.Matching.{SpecifierRecord}
+use Rattle.pep440_specifier_list.specs.Lists.{matches_all}
+use Rattle.pep508_requirement_text.specs.FrontReading.{Source, Front}
+use Rattle.pep508_requirement_text.specs.FrontReading.Source.{Any, Specifiers, Url}
+use Rattle.reqtable_text.specs.declared.candidates.Candidate.{Candidate}
+use Rattle.reqtable_answer.specs.Admission.{Admits}
+
+-- the specifiers that an ask has; one of a URL has none
+abbrev pub specifiers_of : Source → List SpecifierRecord
+specifiers_of Any = []
+specifiers_of (Specifiers given) = given
+specifiers_of (Url text) = []
+
+abbrev pub is_url : Source → Bool
+is_url Any = false
+is_url (Specifiers given) = false
+is_url (Url text) = true
+
+-- the ask is of the package
+abbrev pub is_of : List ℕ → Front → Bool
+is_of name ask = bytes_eq name ask.name
+
+-- the ask has the extra
+abbrev pub has_extra : List ℕ → Front → Bool
+has_extra extra ask = list_any (bytes_eq extra) ask.extras
+
+-- the ask is of a URL
+abbrev pub has_url : Front → Bool
+has_url ask = is_url ask.source
+
+-- all specifiers of the ask take the version (PEP 440, "Version specifiers")
+abbrev pub ask_takes : VersionRecord → Front → Bool
+ask_takes version ask = matches_all (specifiers_of ask.source) version
+
+-- some specifier of the ask has a pre-release or a developmental release
+abbrev pub has_prerelease : Front → Bool
+has_prerelease ask = list_any (λ s. is_prerelease s.version) (specifiers_of ask.source)
+
+-- some specifier of the asks has
+abbrev pub names_prerelease : List Front → Bool
+names_prerelease asks = list_any has_prerelease asks
+
+-- a candidate of the package that all asks take and that is admitted
+abbrev pub may_be_taken : Admits → List ℕ → List Front → Candidate → Bool
+may_be_taken admits name asks candidate =
+    bytes_eq name candidate.name
+    && (list_all (ask_takes candidate.version) asks && admits candidate.version (names_prerelease asks))

@@ -1,0 +1,5 @@
+pub mod Admission
+pub mod Asks
+pub mod Answer
+pub mod Rows
+pub mod Says

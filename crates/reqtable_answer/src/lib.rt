@@ -1,0 +1,9 @@
+//! The answer to what is asked of packages: for each package the greatest candidate that may be taken.
+#![tactic(auto)]
+
+pub mod admission;
+pub mod answer;
+pub mod laws;
+
+pub use admission::Admission;
+pub use answer::{Answer, Outcome, Row};
