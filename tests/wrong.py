@@ -43,8 +43,8 @@ LEAST_GROUP = 20
 # Where one of the edits in a check doesn't compile, all of them are tried alone.
 MOST_TOGETHER = 20
 HEADER = re.compile(r"^( *)(?:pub(?:\([a-z]+\))? )?(?:unsafe |const )*fn (\w+)", re.M)
-# What rt says of a proof file that names what an edit took away.
-LOST = re.compile(r"has no field|is not in scope|has no `|was not admitted|\(nearest: ")
+# What rt says of a proof file that names what an edit took away, and of what rests on a part that is refused.
+LOST = re.compile(r"has no field|is not in scope|has no `|was not admitted|\(nearest: |were not checked")
 TOLD = re.compile(r"^fn (\S+): (proved|not proved.*|no proof.*)$", re.M)
 NAME = re.compile(r"[A-Za-z0-9_-][A-Za-z0-9_.-]*\.edit")
 
@@ -196,10 +196,12 @@ def function_at(file, text, at):
         return None
     if not header[1]:
         return "::".join([*file[len("src/") : -len(".rt")].split("/"), header[2]]).removeprefix("lib::")
-    blocks = re.findall(r"^impl\b(.*?)\{", text[: header.start()], re.M | re.S)
+    blocks = list(re.finditer(r"^(impl|(?:pub(?:\([a-z]+\))? )?trait)\b(.*?)\{", text[: header.start()], re.M | re.S))
     if not blocks:
         return None
-    block, of = blocks[-1], None
+    block, of = blocks[-1][2].replace("->", ""), None
+    if blocks[-1][1] != "impl":
+        return "::".join([re.match(r"\s*(\w+)", block)[1], header[2]])
     at_types = re.fullmatch(r"\s+(\w+)<([^<>]+)>\s*", block)
     if at_types:
         types = [it.strip() for it in at_types[2].split(",") if not it.strip().startswith("'")]
@@ -232,10 +234,16 @@ def is_told_refused(function, said, crate):
     if "did not prove" in told[names[0]]:
         return True
     *modules, name = names[0].split("::")[1:]
-    proof = "".join(f"{re.escape(it)}/" for it in modules) + rf"\+?{re.escape(name)}/"
-    errors = re.findall(rf"^(?:\./)?proofs/{proof}\S+: error: (.*)$", said, re.M)
-    lost = [it for it in errors if LOST.search(it)]
-    return told[names[0]].startswith("not proved") and len(lost) < len(errors)
+    folder = "".join(f"{re.escape(it)}/" for it in modules)
+    # (a message goes on in indented lines; functions of one cycle have a folder together, where a goal begins by
+    # the name of its function)
+    errors = [
+        message
+        for place, message in re.findall(rf"^(?:\./)?proofs/{folder}([\w+-]+)/\S+: error: (.*(?:\n  .*)*)", said, re.M)
+        if place.lstrip("+") == name or place[0] == "+" and message.startswith(f"`{name}-")
+    ]
+    shown = [it for it in errors if not LOST.search(" ".join(it.split()))]
+    return told[names[0]].startswith("not proved") and bool(shown)
 
 
 def try_texts(crates):

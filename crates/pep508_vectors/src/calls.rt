@@ -3,10 +3,11 @@
 ghost use Rattle.pep508_url.specs.Vars.{IsAbsolute};
 
 use crate::answers::json;
-use pep508_rs::{
-    Extras, Interner, Pep508Error, Pep508ErrorSource, Requirement, RequirementOrigin,
-    UnnamedRequirement, Vars, VerbatimUrl, VersionOrUrl, VersionOrUrlRef,
-};
+use pep508_error::{Pep508Error, Pep508ErrorSource};
+use pep508_name::RequirementOrigin;
+use pep508_requirement::{Extras, Requirement, UnnamedRequirement, VersionOrUrl, VersionOrUrlRef};
+use pep508_tree::Interner;
+use pep508_url::{Vars, VerbatimUrl};
 use read_outcome::FromValueError;
 use std::alloc::{AllocError, Global};
 use url::Url;

@@ -1,8 +1,8 @@
 //! Answers on names, origins and environments, and on what is done with them.
 
 use crate::answers::{json, refused_name};
+use pep508_environment::{EnvironmentError, MarkerEnvironment};
 use pep508_name::{ExtraName, InvalidNameError, PackageName, RequirementOrigin, is_name};
-use pep508_rs::{EnvironmentError, MarkerEnvironment};
 use read_outcome::FromValueError;
 use std::alloc::{AllocError, Global};
 use std::cmp::Ordering;

@@ -2,11 +2,13 @@
 
 ghost use Rattle.pep508_url.specs.Vars.{IsAbsolute};
 
-use pep508_rs::pep440_rs::VersionSpecifiers;
-use pep508_rs::{
-    ExtraName, Interner, MarkerTree, Pep508Error, Pep508ErrorSource, Requirement, Silent,
-    UnnamedRequirement, Vars, VerbatimUrl, VersionOrUrl,
-};
+use pep440_specifier_list::VersionSpecifiers;
+use pep508_error::{Pep508Error, Pep508ErrorSource};
+use pep508_marker::Silent;
+use pep508_name::ExtraName;
+use pep508_requirement::{Requirement, UnnamedRequirement, VersionOrUrl};
+use pep508_tree::{Interner, MarkerTree};
+use pep508_url::{Vars, VerbatimUrl};
 use std::alloc::{AllocError, Global};
 
 /// What a text is read as, in the directory, or the span and the message of its refusal.

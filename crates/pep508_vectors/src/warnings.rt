@@ -1,8 +1,10 @@
 //! The answer on the warnings of a requirement's marker.
 
-use pep508_rs::{
-    Interner, MarkerWarningKind, Pep508ErrorSource, Reporter, Requirement, Vars, VerbatimUrl,
-};
+use pep508_error::Pep508ErrorSource;
+use pep508_marker::{MarkerWarningKind, Reporter};
+use pep508_requirement::Requirement;
+use pep508_tree::Interner;
+use pep508_url::{Vars, VerbatimUrl};
 use std::alloc::{AllocError, Global};
 
 /// Keeps the kinds and the texts of warnings.
