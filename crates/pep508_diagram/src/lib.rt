@@ -12,4 +12,4 @@ pub use branch::{Branch, branch_at, paired};
 pub use by_turns::{turned_branches, turned_versions};
 pub use text::MarkerText;
 pub use value::NodeValue;
-pub use variable::{Flag, VersionVariable};
+pub use variable::{Flag, VersionVariable, text_rank};

@@ -1,8 +1,14 @@
 //! The variables of marker trees.
 
+ghost use Rattle.std.specs.Prelude.{◌≡◌, IfOk};
+ghost use Rattle.pep508_marker.specs.Keys.{text_key_rank};
+ghost use Rattle.pep508_diagram.specs.Question.{text_rank, flag_rank, flag_text};
+
 use crate::text::MarkerText;
+use crate::value::NodeValue;
 use pep508_marker::MarkerValueString;
 use pep508_name::ExtraName;
+use std::alloc::{AllocError, Global};
 
 /// A variable whose values are versions. What is asked of `python_version` is asked of `python_full_version`.
 #[derive(Clone, Copy, Debug, PartialEq, Eq, PartialOrd, Ord, Hash)]
@@ -24,4 +30,55 @@ pub enum Flag {
     Extra(ExtraName),
     /// An extra of this text, which is no name: no environment has it.
     Arbitrary(MarkerText),
+}
+
+fn text_key_rank(key: MarkerValueString) -> u8
+    ensures { result ≡ text_key_rank key }
+{
+    key as u8
+}
+
+/// The place of a key whose values are texts among the kinds of variables and their keys.
+pub fn text_rank(key: MarkerValueString) -> u8
+    ensures { result ≡ text_rank key }
+{
+    2 + text_key_rank(key)
+}
+
+impl Flag {
+    /// The place of the flag's kind and key among the kinds of variables and their keys.
+    pub fn rank(&self) -> u8
+        ensures { result ≡ flag_rank self.now }
+    {
+        match self {
+            Flag::In(key, _) => 16 + text_key_rank(*key),
+            Flag::Contains(key, _) => 30 + text_key_rank(*key),
+            Flag::Extra(_) => 44,
+            Flag::Arbitrary(_) => 45,
+        }
+    }
+
+    /// The text that the flag is about.
+    pub fn text(&self) -> &str
+        ensures { result.now ≡ flag_text self.now }
+    {
+        match self {
+            Flag::In(_, text) => text.as_str(),
+            Flag::Contains(_, text) => text.as_str(),
+            Flag::Extra(name) => name.as_str(),
+            Flag::Arbitrary(text) => text.as_str(),
+        }
+    }
+
+    /// A copy. The only refusal is want of memory.
+    pub fn try_clone(&self, alloc: Global) -> Result<Flag, AllocError>
+        ensures { IfOk result (λ copy. copy ≡ self.now) }
+    {
+        Ok(match self {
+            Flag::In(key, text) => Flag::In(*key, text.copied(alloc)?),
+            Flag::Contains(key, text) => Flag::Contains(*key, text.copied(alloc)?),
+            Flag::Extra(name) => Flag::Extra(name.try_clone(alloc)?),
+            Flag::Arbitrary(text) => Flag::Arbitrary(text.copied(alloc)?),
+        })
+    }
 }

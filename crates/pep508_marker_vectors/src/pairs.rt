@@ -1,8 +1,9 @@
 //! What is asked of two markers.
 
 use crate::reading::{read, refused};
+use pep508_disjointness::MarkerTreeDisjointness;
 use pep508_tree::Interner;
-use pep508_tree::laws::earlier_trees_keep;
+use pep508_tree_laws::earlier_trees_keep;
 use std::alloc::{AllocError, Global};
 
 /// Whether two markers have one tree, are disjoint, or the one's tree is the other's negation.

@@ -5,6 +5,7 @@
 #![tactic(auto)]
 
 pub use pep440_rs;
+pub use pep508_disjointness::MarkerTreeDisjointness;
 pub use pep508_environment::{
     EnvironmentBuildError, EnvironmentError, EnvironmentMember, MarkerEnvironment,
     MarkerEnvironmentBuilder, StringVersion,

@@ -6,9 +6,7 @@
 
 mod algebra;
 mod conjoiner;
-mod disjointness;
 mod interner;
-pub mod laws;
 mod leaf;
 mod node;
 mod node_making;

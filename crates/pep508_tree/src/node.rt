@@ -5,13 +5,12 @@ ghost use Rattle.std.specs.Cmp.{eq_by_cmp_equiv, partial_equiv_from_equiv, parti
 ghost use Rattle.std.specs.Ordering.{eq_by_cmp, as_partial_cmp};
 ghost use Rattle.std.specs.Cmp.Lexicographic.{slice_cmp};
 ghost use Rattle.pep508_diagram.specs.Text.{text_cmp};
-ghost use Rattle.pep508_diagram.specs.Question.{text_rank, flag_rank, flag_text};
-ghost use Rattle.pep508_marker.specs.Keys.{text_key_rank};
 ghost use Rattle.std.specs.declared.cmp.Ordering.TheVariants.{Equal};
 ghost use Rattle.pep508_tree.specs.Forms.{record_of};
 ghost use Rattle.pep508_tree.specs.Joining.{children, joined, node_joined, head, tail};
 ghost use Rattle.pep508_tree.specs.Nodes.{node_rank, node_text, node_place, version_branches, text_branches};
 ghost use Rattle.pep508_tree.specs.Nodes.{first_child, second_child, counterpart, IsRising, Paired, signed};
+ghost use Rattle.pep508_tree.specs.Disjoint.{turned_pair};
 ghost use Rattle.pep508_tree.specs.Roots.{shown};
 ghost use Rattle.pep508_tree.specs.Nodes.{branch_cmp, node_cmp};
 ghost use Rattle.pep508_tree.specs.NodeLaws.{nodes_total};
@@ -19,7 +18,7 @@ ghost use Rattle.pep508_tree.specs.NodeLaws.{nodes_total};
 use crate::root::{Children, TreeNode};
 use crate::tree::MarkerTree;
 use pep440_version::Version;
-use pep508_diagram::{Branch, Flag, MarkerText, NodeValue, VersionVariable, paired};
+use pep508_diagram::{Branch, Flag, MarkerText, NodeValue, VersionVariable, paired, text_rank};
 use pep508_marker::MarkerValueString;
 use std::alloc::{AllocError, Global};
 use std::cmp::Ordering;
@@ -90,6 +89,23 @@ fn first_and_others(trees: &[MarkerTree]) -> (MarkerTree, &[MarkerTree])
     }
 }
 
+fn turn_pairs(pairs: &mut [Pair], first: bool, second: bool)
+    ensures { pairs.new ≡ map (turned_pair first second) pairs.old }
+{
+    for pair in pairs.iter_mut() {
+        *pair = (pair.0.turned(first), pair.1.turned(second));
+    }
+}
+
+/// Pairs, with the signs of two trees put on them.
+pub(crate) fn turned_pairs(pairs: Vec<Pair>, first: bool, second: bool) -> Vec<Pair>
+    ensures { result.items ≡ map (turned_pair first second) pairs.items }
+{
+    let mut pairs = pairs;
+    turn_pairs(&mut pairs, first, second);
+    pairs
+}
+
 impl Form<Pair> {
     /// The children, in turn.
     #[inline(never)]
@@ -139,48 +155,6 @@ impl Model for Node {
     ghost view = { λ node. record_of node.form };
 }
 
-/// The place of a key among those whose values are texts.
-fn text_key_rank(key: MarkerValueString) -> u8
-    ensures { result ≡ text_key_rank key }
-{
-    key as u8
-}
-
-/// The kind of a flag and its key.
-fn flag_rank(flag: &Flag) -> u8
-    ensures { result ≡ flag_rank flag.now }
-{
-    match flag {
-        Flag::In(key, _) => 16 + text_key_rank(*key),
-        Flag::Contains(key, _) => 30 + text_key_rank(*key),
-        Flag::Extra(_) => 44,
-        Flag::Arbitrary(_) => 45,
-    }
-}
-
-/// The text that a flag is about.
-fn flag_text(flag: &Flag) -> &str
-    ensures { result.now ≡ flag_text flag.now }
-{
-    match flag {
-        Flag::In(_, text) => text.as_str(),
-        Flag::Contains(_, text) => text.as_str(),
-        Flag::Extra(name) => name.as_str(),
-        Flag::Arbitrary(text) => text.as_str(),
-    }
-}
-
-fn copy_of_flag(alloc: Global, flag: &Flag) -> Result<Flag, AllocError>
-    ensures { IfOk result (λ copy. copy ≡ flag.now) }
-{
-    Ok(match flag {
-        Flag::In(key, text) => Flag::In(*key, text.copied(alloc)?),
-        Flag::Contains(key, text) => Flag::Contains(*key, text.copied(alloc)?),
-        Flag::Extra(name) => Flag::Extra(name.try_clone(alloc)?),
-        Flag::Arbitrary(text) => Flag::Arbitrary(text.copied(alloc)?),
-    })
-}
-
 fn cmp_branches<T: NodeValue>(a: &[Branch<T, MarkerTree>], b: &[Branch<T, MarkerTree>]) -> Ordering
     ensures { result ≡ slice_cmp (branch_cmp T.cmp) a.now b.now }
 {
@@ -220,8 +194,8 @@ impl Node {
         match &self.form {
             Form::Versions(VersionVariable::ImplementationVersion, _, _) => 0,
             Form::Versions(VersionVariable::PythonFullVersion, _, _) => 1,
-            Form::Texts(key, _, _) => 2 + text_key_rank(*key),
-            Form::Flagged(flag, _, _) => flag_rank(flag),
+            Form::Texts(key, _, _) => text_rank(*key),
+            Form::Flagged(flag, _, _) => flag.rank(),
         }
     }
 
@@ -230,7 +204,7 @@ impl Node {
         ensures { result.now ≡ node_text self.now }
     {
         match &self.form {
-            Form::Flagged(flag, _, _) => flag_text(flag),
+            Form::Flagged(flag, _, _) => flag.text(),
             _ => "",
         }
     }
@@ -335,7 +309,7 @@ impl Node {
                 Ok(Form::Texts(*key, (*own, first), pairs))
             }
             Form::Flagged(flag, set, unset) => {
-                let flag = copy_of_flag(alloc, flag)?;
+                let flag = flag.try_clone(alloc)?;
                 Ok(Form::Flagged(flag, (*set, first), (*unset, second)))
             }
         }

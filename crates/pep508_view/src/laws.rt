@@ -14,8 +14,8 @@ ghost use Rattle.pep508_view.specs.Views.{IsKind};
 ghost use Rattle.pep508_view.specs.ReadOff.{IsReadOff, IsBelow, IsLaidOut, subtrees};
 
 use crate::kind::MarkerTreeView;
-use pep508_tree::laws::constants_are_named;
 use pep508_tree::{Interner, MarkerTree};
+use pep508_tree_laws::constants_are_named;
 
 /// A tree's truth is read off its views, one variable at a time: just one edge holds the point of the
 /// variable, and the tree holds where the subtree of that edge does.

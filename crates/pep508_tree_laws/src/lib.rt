@@ -1,12 +1,13 @@
-//! Laws over the definitions that the contracts cite. The functions do nothing: each one's contract is its
-//! law.
+//! Laws of marker trees (PEP 508, "Environment Markers"), over the definitions that the contracts of
+//! `pep508_tree` cite. The functions do nothing: each one's contract is its law.
+#![tactic(auto)]
 
 ghost use Rattle.std.specs.Prelude.{◌≡◌, ◌↔◌, IsTrue, true, false, not, List};
 ghost use Rattle.pep508_diagram.specs.Question.{Valuation};
 ghost use Rattle.pep508_tree.specs.Tree.{Tree, always, never, negation};
 ghost use Rattle.pep508_tree.specs.Meaning.{NodeRecord, IsTree, Extends, holds};
 
-use crate::{Interner, MarkerTree};
+use pep508_tree::{Interner, MarkerTree};
 
 /// Each of the two constant trees is the other's negation, and a tree is the negation of its negation.
 pub fn negation_turns_back()
@@ -16,7 +17,7 @@ pub fn negation_turns_back()
 {}
 
 /// Trees of one interner are equal exactly where they are named alike.
-#[tactic(auto, using(crate::proofs::Same::same_trees))]
+#[tactic(auto, using(pep508_tree::proofs::Same::same_trees))]
 pub fn equal_is_same()
     ensures { (a b : Tree) → IsTrue (⟦<MarkerTree as PartialEq>⟧.eq a b) ↔ (a ≡ b) }
 {}
@@ -30,14 +31,14 @@ pub fn constants() -> (MarkerTree, MarkerTree)
 }
 
 /// A negation holds exactly where its tree does not.
-#[tactic(auto, using(crate::proofs::OneTree::negation_holds))]
+#[tactic(auto, using(pep508_tree::proofs::OneTree::negation_holds))]
 pub fn negation_means_not()
     ensures { (nodes : List NodeRecord) (tree : Tree) (v : Valuation) →
         holds nodes (negation tree) v ≡ not (holds nodes tree v) }
 {}
 
 /// Trees of one interner are equal exactly where they hold under the same valuations.
-#[tactic(auto, using(crate::proofs::Equal::equal_means))]
+#[tactic(auto, using(pep508_tree::proofs::Equal::equal_means))]
 pub fn equal_means_same(interner: &Interner)
     ensures { (a b : Tree) → IsTree interner.now.nodes a → IsTree interner.now.nodes b →
         IsTrue (⟦<MarkerTree as PartialEq>⟧.eq a b)
@@ -57,7 +58,7 @@ pub fn constants_are_named(interner: &Interner)
 }
 
 /// A tree keeps its meaning while nodes are added to its interner.
-#[tactic(auto, using(crate::proofs::Conjoining::tree_kept, crate::proofs::Diagrams::holds_kept))]
+#[tactic(auto, using(pep508_tree::proofs::Conjoining::tree_kept, pep508_tree::proofs::Diagrams::holds_kept))]
 pub fn earlier_trees_keep()
     ensures made { (old new : List NodeRecord) (tree : Tree) → Extends old new → IsTree old tree →
         IsTree new tree }

@@ -1,0 +1,4 @@
+pub mod Ranks
+pub mod Putting
+pub mod Looking
+pub mod Plain

@@ -1,0 +1,126 @@
+//! Whether two trees never hold together, as a call on them.
+
+ghost use Rattle.std.specs.Prelude.{◌≡◌, ◌↔◌, ◌<◌, IsTrue, List, MatchOption, IfOk, OnOk, true};
+ghost use Rattle.pep508_tree.specs.Tree.{Tree};
+ghost use Rattle.pep508_tree.specs.Meaning.{NodeRecord, IsTree};
+ghost use Rattle.pep508_tree.specs.Nodes.{AreSound};
+ghost use Rattle.pep508_tree.specs.Disjoint.{AreDisjoint};
+ghost use Rattle.pep508_disjointness.specs.Left.{IsAsked, IsApart, Replaced, with_pairs};
+
+use crate::asked::Asked;
+use pep508_tree::{Interner, MarkerTree};
+use std::alloc::{AllocError, Global};
+use std::collections::BTreeSet;
+
+/// Whether two trees are disjoint of which one is constant, or that are one tree or its negation.
+fn plain_disjointness(a: MarkerTree, b: MarkerTree) -> Option<bool>
+    ensures { MatchOption result ((0 < a.place) × (0 < b.place)) (λ apart. (nodes : List NodeRecord) →
+        AreSound nodes → IsTree nodes a → IsTree nodes b → IsTrue apart ↔ AreDisjoint nodes a b) }
+{
+    if a.place() == 0 {
+        return Some(a.is_negated() || b.is_false());
+    }
+    if b.place() == 0 {
+        return Some(b.is_negated());
+    }
+    if a.place() != b.place() {
+        return None;
+    }
+    Some(a.is_negated() != b.is_negated())
+}
+
+/// Puts pairs among those that are left.
+fn add_pairs(
+    left: &mut BTreeSet<Asked>,
+    pairs: &[(MarkerTree, MarkerTree)],
+) -> Result<(), AllocError>
+    ensures { OnOk result (left.new.keys ≡ with_pairs left.old.keys pairs.now) }
+{
+    for pair in pairs {
+        left.insert(Asked::new(pair.0, pair.1))?;
+    }
+    Ok(())
+}
+
+/// Whether a pair may be disjoint. It is so where all that is put among the pairs that are left is.
+fn look_at(
+    alloc: Global,
+    interner: &Interner,
+    left: &mut BTreeSet<Asked>,
+    asked: Asked,
+) -> Result<bool, AllocError>
+    requires made { IsAsked interner.now.nodes asked }
+    ensures on { IfOk result (λ may. IsTrue may →
+        Replaced interner.now.nodes asked left.old.keys left.new.keys) }
+    ensures over { IfOk result (λ may. IsApart interner.now.nodes asked → IsTrue may) }
+{
+    interner.are_sound();
+    match plain_disjointness(asked.first, asked.second) {
+        Some(apart) => Ok(apart),
+        None => {
+            let pairs = interner.pairs(alloc, asked.first, asked.second)?;
+            add_pairs(left, &pairs)?;
+            Ok(true)
+        }
+    }
+}
+
+/// Whether two trees never hold together: what stands in them is put in their place, the pairs of the highest
+/// places first, so that no pair comes again.
+fn are_disjoint(
+    alloc: Global,
+    interner: &Interner,
+    a: MarkerTree,
+    b: MarkerTree,
+) -> Result<bool, AllocError>
+    requires a { IsTree interner.now.nodes a }
+    requires b { IsTree interner.now.nodes b }
+    ensures { IfOk result (λ apart. IsTrue apart ↔ AreDisjoint interner.now.nodes a b) }
+{
+    let mut left = BTreeSet::new(alloc);
+    left.insert(Asked::new(a, b))?;
+    while let Some(asked) = left.pop_last() {
+        if !look_at(alloc, interner, &mut left, asked)? {
+            return Ok(false);
+        }
+    }
+    Ok(true)
+}
+
+/// Marker trees of which it can be asked whether they hold together.
+pub trait MarkerTreeDisjointness {
+    ghost use Rattle.pep508_tree.specs.Tree.{Tree};
+
+    /// The tree.
+    ghost tree: { Self → Tree };
+
+    /// Whether no environment and no extras make both trees hold. Makes no tree and counts nothing; the only
+    /// refusal is want of memory for the pairs that were looked at.
+    ///
+    /// Looks at each pair of a node of the one and a node of the other at most once, and never further down than
+    /// to the first that holds: no more pairs than `MarkerTree::and` takes steps. No recursion, however deep the
+    /// trees are.
+    fn is_disjoint(
+        self,
+        alloc: Global,
+        interner: &Interner,
+        other: Self,
+    ) -> Result<bool, AllocError>
+        requires made { IsTree interner.now.nodes (tree self) }
+        requires other_made { IsTree interner.now.nodes (tree other) }
+        ensures { IfOk result (λ apart.
+            IsTrue apart ↔ AreDisjoint interner.now.nodes (tree self) (tree other)) };
+}
+
+impl MarkerTreeDisjointness for MarkerTree {
+    ghost tree = { λ tree. tree };
+
+    fn is_disjoint(
+        self,
+        alloc: Global,
+        interner: &Interner,
+        other: MarkerTree,
+    ) -> Result<bool, AllocError> {
+        are_disjoint(alloc, interner, self, other)
+    }
+}

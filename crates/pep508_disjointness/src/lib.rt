@@ -1,0 +1,7 @@
+//! Whether two marker trees of one interner (PEP 508, "Environment Markers") never hold together.
+#![tactic(auto)]
+
+mod asked;
+mod disjointness;
+
+pub use disjointness::MarkerTreeDisjointness;
