@@ -1,2 +1,6 @@
 pub mod Rooted
 pub mod Naming
+pub mod Cutting
+pub mod Narrowing
+pub mod Simplifying
+pub mod Signing

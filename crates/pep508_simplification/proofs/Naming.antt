@@ -26,7 +26,7 @@ use Rattle.pep508_simplification.specs.Simplified.{with_named, is_named}
 use Rattle.pep508_simplification.specs.Parts.{children_of, with_set, is_root_named, IsRejoined}
 use Rattle.pep508_simplification.specs.Named.{AnswersBy, IsNamed, IsKnown, AreKnown, plain}
 
-above_back : (old new : List NodeRecord) → Extends old new → (place : List ℕ) (t : Tree) → IsTree old t →
+pub above_back : (old new : List NodeRecord) → Extends old new → (place : List ℕ) (t : Tree) → IsTree old t →
     Above new place t → Above old place t
 unfolding Above
 above_back old new e place t made above k f =
@@ -44,11 +44,11 @@ above_plain : (nodes : List NodeRecord) (place : List ℕ) (turns : Bool) (t : T
 unfolding Above
 above_plain nodes place turns t above = above
 
-above_none : (nodes : List NodeRecord) (place : List ℕ) (t : Tree) → t.place ≡ 0 → Above nodes place t
+pub above_none : (nodes : List NodeRecord) (place : List ℕ) (t : Tree) → t.place ≡ 0 → Above nodes place t
 unfolding Above
 above_none nodes place t e k f = absurd (omega (arith, e, f))
 
-above_first : (nodes : List NodeRecord) (place : List ℕ) (t : Tree) → 0 < t.place → Above nodes place t →
+pub above_first : (nodes : List NodeRecord) (place : List ℕ) (t : Tree) → 0 < t.place → Above nodes place t →
     text_cmp place (first_place nodes t) ≡ Less
 unfolding Above
 above_first nodes place t some above = above (t.place - 1) (omega (arith, some))

@@ -14,7 +14,7 @@ unsigned : {T : Type 0} (later : List (Branch T Tree)) → map (signs false) lat
 unsigned [] = refl
 unsigned (branch ∷ later) = ap (λ branches. branch ∷ branches) (unsigned later)
 
-signed_versions : (turns : Bool) (key : VersionVariable) (first : Tree) (later : List (Branch VersionRecord Tree)) →
+pub signed_versions : (turns : Bool) (key : VersionVariable) (first : Tree) (later : List (Branch VersionRecord Tree)) →
     signed turns (Versions key first later) ≡ Versions key (turned turns first) (map (signs turns) later)
 signed_versions true key first later = refl
 signed_versions false key first later = ap (Versions key first) (sym (unsigned later))

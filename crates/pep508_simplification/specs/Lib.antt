@@ -1,3 +1,5 @@
 pub mod Simplified
 pub mod Parts
 pub mod Named
+pub mod Within
+pub mod Narrowed

@@ -5,7 +5,9 @@
 mod bounds;
 mod complexified;
 mod named;
+mod narrowed;
 mod root;
 mod simplification;
+mod within;
 
 pub use simplification::MarkerTreeSimplification;

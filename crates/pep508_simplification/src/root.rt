@@ -31,7 +31,7 @@ pub(crate) fn turned(tree: MarkerTree, turns: bool) -> MarkerTree
     if turns { tree.negate() } else { tree }
 }
 
-fn copy_of_boundary<T: NodeValue>(
+pub(crate) fn copy_of_boundary<T: NodeValue>(
     alloc: Global,
     boundary: &Boundary<T>,
 ) -> Result<Boundary<T>, AllocError>

@@ -5,11 +5,12 @@ ghost use Rattle.pep440_rs.specs.Bounds.{lent_bound};
 ghost use Rattle.pep508_diagram.specs.Question.{Valuation};
 ghost use Rattle.pep508_diagram.specs.declared.variable.VersionVariable.TheVariants.{PythonFullVersion};
 ghost use Rattle.pep508_tree.specs.Meaning.{IsTree, Extends, holds};
-ghost use Rattle.pep508_simplification.specs.Simplified.{between, is_listed, with_named};
+ghost use Rattle.pep508_simplification.specs.Simplified.{between, is_listed, with_named, IsSimplified};
 ghost use Rattle.pep508_simplification.specs.Named.{AnswersBy};
 
 use crate::complexified::complexified;
 use crate::named::{with_extras, with_listed};
+use crate::narrowed::simplified;
 use pep440_version::Version;
 use pep508_name::ExtraName;
 use pep508_tree::{Interner, MarkerTree};
@@ -39,6 +40,25 @@ pub trait MarkerTreeSimplification: Sized {
         ensures truth { IfOk result (λ both. (v : Valuation) → holds interner.new.nodes (tree both) v
             ≡ (holds interner.old.nodes (tree self) v
             && between (lent_bound lower.entry) (lent_bound upper.entry) (v.version PythonFullVersion))) }
+        ensures keeps { Extends interner.old.nodes interner.new.nodes }
+        ensures counts { interner.new.conjunctions ≡ interner.old.conjunctions };
+
+    /// The tree that says the same where `python_full_version` lies between the bounds, and asks of it no more
+    /// than that takes: below them it says what it says where they begin, above them what it says from some
+    /// point on up to their end. Where no point lies between them, what depends on `python_full_version`
+    /// becomes false. Compares each boundary of a version of Python with both bounds, and copies what is kept.
+    fn simplify_python_versions(
+        self,
+        alloc: Global,
+        interner: &mut Interner,
+        lower: Bound<&Version>,
+        upper: Bound<&Version>,
+    ) -> Result<Self, AllocError>
+        requires { IsTree interner.old.nodes (tree self) }
+        ensures made { IfOk result (λ simple. IsTree interner.new.nodes (tree simple)) }
+        ensures truth { IfOk result (λ simple. IsSimplified
+            (between (lent_bound lower.entry) (lent_bound upper.entry))
+            (holds interner.old.nodes (tree self)) (holds interner.new.nodes (tree simple))) }
         ensures keeps { Extends interner.old.nodes interner.new.nodes }
         ensures counts { interner.new.conjunctions ≡ interner.old.conjunctions };
 
@@ -85,6 +105,16 @@ impl MarkerTreeSimplification for MarkerTree {
         upper: Bound<&Version>,
     ) -> Result<MarkerTree, AllocError> {
         complexified(alloc, interner, self, lower, upper)
+    }
+
+    fn simplify_python_versions(
+        self,
+        alloc: Global,
+        interner: &mut Interner,
+        lower: Bound<&Version>,
+        upper: Bound<&Version>,
+    ) -> Result<MarkerTree, AllocError> {
+        simplified(alloc, interner, self, lower, upper)
     }
 
     fn simplify_extras_with<F: Fn(&ExtraName) -> bool>(
