@@ -10,7 +10,6 @@ use Rattle.pep508_requirement_text.specs.FrontReading.{Front}
 use Rattle.reqtable_text.specs.declared.candidates.Candidate.{Candidate}
 use Rattle.reqtable_answer.specs.Asks.{is_of, has_extra, has_url, ask_takes, has_prerelease, names_prerelease}
 use Rattle.reqtable_answer.specs.Answer.{Admits, RowRecord, IsRow, IsAnswer, outcome_of, chosen, greatest_place}
-use Rattle.reqtable_answer.specs.declared.answer.Outcome.{Outcome}
 use Rattle.reqtable_answer.specs.declared.answer.Outcome.TheVariants.{Direct}
 
 -- the same of one package

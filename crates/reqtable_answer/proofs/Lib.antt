@@ -3,3 +3,9 @@ pub mod Texts
 pub mod InOrder
 pub mod Alike
 pub mod OneAnswer
+pub mod Greatest
+pub mod United
+pub mod Passing
+pub mod Packages
+pub mod ByPackage
+pub mod Said

@@ -1,6 +1,8 @@
 -- Tests of lists: of what a filter keeps, of all by some, of lists that say the same place by place.
-use Rattle.std.proofs.Common.{◌≡◌, Bool, true, false, cond, not, ◌&&◌, ◌||◌, List, [], ◌∷◌, filter, refl, ap, sym, ◌∙◌}
+use Rattle.std.proofs.Common.{◌≡◌, ℕ, Bool, true, false, cond, not, ◌&&◌, ◌||◌, List, [], ◌∷◌, filter, map, refl, ap}
 use Rattle.std.specs.List.{list_any, list_all, AllZip}
+use Rattle.std.specs.Str.{bytes_eq}
+use Rattle.std.proofs.lemmas.Slice.Eq.{bytes_eq-Decides}
 
 any_by : (p f a : Bool) {X : Type 0} (g : X → Bool) (x : X) (xs : List X) → g x ≡ f → list_any g xs ≡ a
     → list_any g (cond p (x ∷ xs) xs) ≡ (p && f || a)
@@ -44,3 +46,13 @@ any_zip R f g same (x ∷ xs) (y ∷ ys) h =
     let one = same x y h.0 in
     let rest = any_zip R f g same xs ys h.1 in
     λ i. one i || rest i
+
+-- of what a function gives
+pub any_mapped : {X Y : Type 0} (f : Y → Bool) (g : X → Y) (xs : List X)
+    → list_any f (map g xs) ≡ list_any (λ x. f (g x)) xs
+any_mapped f g [] = refl
+any_mapped f g (x ∷ xs) = ap (λ b. f (g x) || b) (any_mapped f g xs)
+
+-- texts of the same bytes
+pub same_bytes : (xs ys : List ℕ) → bytes_eq xs ys ≡ true → xs ≡ ys
+same_bytes xs ys h = (bytes_eq-Decides xs ys).0 h

@@ -1,6 +1,6 @@
 -- What is asked of a package: requirements without their markers (PEP 508, "Grammar"). Which ones are asked,
 -- an environment says.
-use Rattle.std.specs.Prelude.{◌≡◌, ◌&&◌, ℕ, Bool, true, false, List, []}
+use Rattle.std.specs.Prelude.{◌&&◌, ℕ, Bool, true, false, List, []}
 use Rattle.std.specs.List.{list_any, list_all}
 use Rattle.std.specs.Str.{bytes_eq}
 use Rattle.pep440_version.specs.Record.{VersionRecord}

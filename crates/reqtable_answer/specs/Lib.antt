@@ -3,3 +3,4 @@ pub mod Asks
 pub mod Answer
 pub mod Rows
 pub mod Says
+pub mod Groups

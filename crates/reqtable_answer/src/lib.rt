@@ -3,7 +3,12 @@
 
 pub mod admission;
 pub mod answer;
+mod answering;
+mod asking;
+mod choosing;
+mod extras;
 pub mod laws;
 
 pub use admission::Admission;
 pub use answer::{Answer, Outcome, Row};
+pub use answering::answer_to;

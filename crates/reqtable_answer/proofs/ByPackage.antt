@@ -1,0 +1,188 @@
+-- Groups by package: what is in them, and the rows of them.
+use Rattle.std.proofs.Common.{◌≡◌, ℕ, ◌+◌, ◌<◌, ◌≤◌, take, get_or, Bor, Bool, true, false, cond, ◌&&◌, ◌||◌, List, [], ◌∷◌, ◌++◌, All, filter, map, length, option_map, refl, sym, ap, subst, arith, append-nil, ◌∙◌}
+use Rattle.std.proofs.lemmas.List.{length-map, get_or-map, length-take-le, take_more, map-append}
+use Rattle.std.proofs.lemmas.List.Elements.{filter-append, All-nil, All-cons}
+use Rattle.std.proofs.lemmas.List.FromFn.{length-enumerate_from, get_or-enumerate_from}
+use Rattle.std.specs.List.{list_any, list_all, enumerate_from, AllByRecursion}
+use Rattle.std.specs.Str.{bytes_eq}
+use Rattle.pep508_requirement_text.specs.FrontReading.{Front}
+use Rattle.reqtable_text.specs.declared.candidates.Candidate.{Candidate}
+use Rattle.reqtable_answer.specs.declared.answer.Outcome.TheVariants.{Direct}
+use Rattle.reqtable_answer.specs.declared.choosing.Numbered.{Numbered}
+use Rattle.reqtable_answer.specs.Asks.{is_of, has_url}
+use Rattle.reqtable_answer.specs.Answer.{Admits, RowRecord, IsRow, outcome_of, chosen, first_greatest, by_version}
+use Rattle.reqtable_answer.specs.declared.answer.Row.{Row}
+use Rattle.reqtable_answer.specs.Rows.{row_seen}
+use Rattle.reqtable_answer.specs.Says.{Asked, ask_seen, asks_seen}
+use Rattle.reqtable_answer.proofs.Tests.{same_bytes}
+use Rattle.reqtable_answer.specs.Groups.{IsRowOf, is_candidate, numbered_seen, passes, outcome_among}
+
+-- ---- filters
+
+kept_twice_by : {X : Type 0} (p q : X → Bool) (x : X) (xs : List X) (b : Bool) → p x ≡ b
+    → filter (λ y. p y && q y) xs ≡ filter q (filter p xs)
+    → cond (b && q x) (x ∷ filter (λ y. p y && q y) xs) (filter (λ y. p y && q y) xs) ≡ filter q (cond b (x ∷ filter p xs) (filter p xs))
+kept_twice_by p q x xs true h rest = ap (λ l. cond (q x) (x ∷ l) l) rest
+kept_twice_by p q x xs false h rest = rest
+
+pub kept_twice : {X : Type 0} (p q : X → Bool) (xs : List X) → filter (λ y. p y && q y) xs ≡ filter q (filter p xs)
+kept_twice p q [] = refl
+kept_twice p q (x ∷ xs) = kept_twice_by p q x xs (p x) refl (kept_twice p q xs)
+
+all_kept_by : {X : Type 0} (p : X → Bool) (x : X) (xs : List X) (b : Bool) → p x ≡ b → list_all p xs ≡ true
+    → list_all p (cond b (x ∷ xs) xs) ≡ true
+all_kept_by p x xs true h rest = λ i. h i && rest i
+all_kept_by p x xs false h rest = rest
+
+-- what a filter keeps passes
+pub all_pass : {X : Type 0} (p : X → Bool) (xs : List X) → list_all p (filter p xs) ≡ true
+all_pass p [] = refl
+all_pass p (x ∷ xs) = all_kept_by p x (filter p xs) (p x) refl (all_pass p xs)
+
+-- and where something passes, it keeps something
+some_in : {X : Type 0} (ys : List X) (p : X → Bool) → list_any p ys ≡ true → 0 < length ys
+some_in [] p h = absurd (cc)
+some_in (y ∷ ys) p h = omega arith
+
+any_in_kept_by : {X : Type 0} (p : X → Bool) (x : X) (xs : List X) (b : Bool) → p x ≡ b → list_any p (filter p xs) ≡ list_any p xs
+    → list_any p (cond b (x ∷ filter p xs) (filter p xs)) ≡ list_any p (x ∷ xs)
+any_in_kept_by p x xs true h rest = ap (λ b. p x || b) rest
+any_in_kept_by p x xs false h rest = rest ∙ sym (ap (λ b. b || list_any p xs) h)
+
+any_in_kept : {X : Type 0} (p : X → Bool) (xs : List X) → list_any p (filter p xs) ≡ list_any p xs
+any_in_kept p [] = refl
+any_in_kept p (x ∷ xs) = any_in_kept_by p x xs (p x) refl (any_in_kept p xs)
+
+pub some_kept : {X : Type 0} (p : X → Bool) (xs : List X) → list_any p xs ≡ true → 0 < length (filter p xs)
+some_kept p xs h = some_in (filter p xs) p (any_in_kept p xs ∙ h)
+
+-- ---- numbered candidates
+
+numbered_more : {X : Type 0} (n : ℕ) (xs : List X) (x : X) → enumerate_from n (xs ++ x ∷ []) ≡ enumerate_from n xs ++ (n + length xs, x) ∷ []
+numbered_more {X = X} n [] x =
+    let same : n ≡ n + 0 = omega arith in
+    let one : ℕ → List (ℕ × X) = λ m. (m, x) ∷ [] in
+    ap one same
+numbered_more {X = X} n (y ∷ ys) x =
+    let same : n + 1 + length ys ≡ n + length (y ∷ ys) = omega arith in
+    let behind : ℕ → List (ℕ × X) = λ m. (n, y) ∷ (enumerate_from (n + 1) ys ++ (m, x) ∷ []) in
+    ap (λ l. (n, y) ∷ l) (numbered_more (n + 1) ys x) ∙ ap behind same
+
+-- one more of a list
+pub numbered_taken : {X : Type 0} (xs : List X) (i : ℕ) (x : X) → i < length xs → x ≡ get_or xs i x
+    → enumerate_from 0 (take (i + 1) xs) ≡ enumerate_from 0 (take i xs) ++ (i, x) ∷ []
+numbered_taken {X = X} xs i x h is =
+    let within : i ≤ length xs = omega arith in
+    let before = take i xs in
+    let at : 0 + length before ≡ i = (let e = length-take-le i xs within in omega arith) in
+    let one : ℕ → List (ℕ × X) = λ m. enumerate_from 0 before ++ (m, x) ∷ [] in
+    ap (enumerate_from 0) (take_more xs i x h ∙ ap (λ y. before ++ y ∷ []) (sym is)) ∙ numbered_more 0 before x ∙ ap one at
+
+pub places_below : {X : Type 0} (xs : List X) → All (λ c. c.0 < length xs) (enumerate_from 0 xs)
+places_below xs = λ k d h.
+    let within : k < length xs = subst (λ n. k < n) (length-enumerate_from 0 xs) h in
+    let at : 0 + k < length xs = omega arith in
+    subst (λ c. c.0 < length xs) (sym (get_or-enumerate_from 0 xs k d within)) at
+
+-- the places of some of them
+pub below_of : (n : ℕ) (found : List Numbered) (ys : List (ℕ × Candidate)) → map numbered_seen found ≡ ys → All (λ c. c.0 < n) ys → All (λ c. c.place < n) found
+below_of n found ys same all = λ k d h.
+    let mapped : All (λ c. c.0 < n) (map numbered_seen found) = subst (All (λ c. c.0 < n)) (sym same) all in
+    subst (λ c. c.0 < n) (get_or-map numbered_seen found k d (numbered_seen d) h) (mapped k (numbered_seen d) (subst (λ m. k < m) (sym (length-map found numbered_seen)) h))
+
+-- ---- candidates of the packages that have a group
+
+and_false : (a : Bool) → (a && false) ≡ false
+and_false true = refl
+and_false false = refl
+
+has_its : (has : List ℕ → Bool) (q name : List ℕ) (b : Bool) → bytes_eq q name ≡ b → has name ≡ true → (has q && b) ≡ b
+has_its has q name true e h = ap (λ v. v && true) (ap has (same_bytes q name e) ∙ h)
+has_its has q name false e h = and_false (has q)
+
+has_none : (has : List ℕ → Bool) (q name : List ℕ) (b : Bool) → bytes_eq q name ≡ b → has name ≡ false → (has q && b) ≡ false
+has_none has q name true e h = ap (λ v. v && true) (ap has (same_bytes q name e) ∙ h)
+has_none has q name false e h = and_false (has q)
+
+module _ (has : List ℕ → Bool) (q : List ℕ) (xs : List Candidate) (i : ℕ) (x : Candidate) (within : i < length xs) (is : x ≡ get_or xs i x) where
+  abbrev kept : List (ℕ × Candidate) → List (ℕ × Candidate)
+  kept = filter (λ c. has q && is_candidate q c)
+
+  grown : kept (enumerate_from 0 (take (i + 1) xs)) ≡ kept (enumerate_from 0 (take i xs)) ++ kept ((i, x) ∷ [])
+  grown = ap kept (numbered_taken xs i x within is) ∙ filter-append (λ c. has q && is_candidate q c) (enumerate_from 0 (take i xs)) ((i, x) ∷ [])
+
+  pub candidate_added : has x.name ≡ true → (old new : List (ℕ × Candidate)) → old ≡ kept (enumerate_from 0 (take i xs))
+      → new ≡ old ++ filter (is_candidate q) ((i, x) ∷ []) → new ≡ kept (enumerate_from 0 (take (i + 1) xs))
+  candidate_added h old new before added =
+      let one : List (ℕ × Candidate) = (i, x) ∷ [] in
+      added ∙ ap (λ l. l ++ filter (is_candidate q) one) before
+      ∙ ap (λ b. kept (enumerate_from 0 (take i xs)) ++ cond b one []) (sym (has_its has q x.name (bytes_eq q x.name) refl h)) ∙ sym grown
+
+  pub candidate_left_out : has x.name ≡ false → (old : List (ℕ × Candidate)) → old ≡ kept (enumerate_from 0 (take i xs))
+      → old ≡ kept (enumerate_from 0 (take (i + 1) xs))
+  candidate_left_out h old before =
+      let one : List (ℕ × Candidate) = (i, x) ∷ [] in
+      before ∙ sym (append-nil (kept (enumerate_from 0 (take i xs))))
+      ∙ ap (λ b. kept (enumerate_from 0 (take i xs)) ++ cond b one []) (sym (has_none has q x.name (bytes_eq q x.name) refl h)) ∙ sym grown
+
+-- ---- what is asked of one package
+
+-- a package that has a group is asked for
+pub group_some : (p : Front → Bool) (all : List Front) (group given : List (Bor Asked)) → given ≡ group → asks_seen group ≡ filter p all
+    → list_any p all ≡ true → 0 < length given
+group_some p all group given same is h =
+    let seen : 0 < length (asks_seen group) = subst (λ l. 0 < length l) (sym is) (some_kept p all h) in
+    subst (λ l. 0 < length l) (sym same) (subst (λ n. 0 < n) (length-map group (λ r. ask_seen r.now)) seen)
+
+both_true : (a b : Bool) → (a && b) ≡ true → a ≡ true
+both_true true b h = refl
+both_true false b h = absurd (cc)
+
+-- the first of them has their name
+pub first_named : (q : List ℕ) (asks : List (Bor Asked)) (d : Bor Asked) → 0 < length asks
+    → list_all (is_of q) (asks_seen asks) ≡ true → (get_or asks 0 d).now.name ≡ q
+first_named q [] d h all = absurd (omega arith)
+first_named q (a ∷ asks) d h all =
+    sym (same_bytes q a.now.name (both_true (bytes_eq q a.now.name) (list_all (is_of q) (asks_seen asks)) all))
+
+-- ---- rows
+
+-- what becomes of a package goes by its own candidates alone
+pub outcome_by_its_own : (admits : Admits) (asks : List Front) (candidates : List Candidate) (name : List ℕ)
+    → outcome_of admits asks candidates name ≡ outcome_among admits asks (filter (is_candidate name) (enumerate_from 0 candidates))
+unfolding outcome_of
+outcome_by_its_own admits asks candidates name =
+    ap (λ found. cond (list_any has_url asks) Direct (chosen (option_map (λ c. c.0) (first_greatest by_version found))))
+    (kept_twice (is_candidate name) (passes admits asks) (enumerate_from 0 candidates))
+
+pub row_is : (admits : Admits) (all : List Front) (candidates : List Candidate) (group : List Front) (numbered : List (ℕ × Candidate)) (row : RowRecord)
+    → group ≡ filter (is_of row.name) all → numbered ≡ filter (is_candidate row.name) (enumerate_from 0 candidates)
+    → IsRowOf admits group numbered row → IsRow admits all candidates row
+row_is admits all candidates group numbered row g n is = record {
+  extras_rise = is.extras_rise;
+  extras_are = λ extra. is.extras_are extra ∙ ap (list_any (λ ask. list_any (bytes_eq extra) ask.extras)) g;
+  outcome =
+      is.outcome ∙ (λ i. outcome_among admits (g i) (n i))
+      ∙ sym (outcome_by_its_own admits (filter (is_of row.name) all) candidates row.name);
+}
+
+pub rows_more : (P : RowRecord → Type 0) (rows : List RowRecord) (row : RowRecord) → AllByRecursion P rows → P row → AllByRecursion P (rows ++ row ∷ [])
+rows_more P [] row all one = (one, tt)
+rows_more P (r ∷ rows) row all one = (all.0, rows_more P rows row all.1 one)
+
+-- ---- one more row
+
+pub more_names : {E : Type 0} (rows new : List RowRecord) (row : RowRecord) (named : E → List ℕ) (entries : List E) (entry : E) → new ≡ rows ++ row ∷ []
+    → map (λ r. r.name) rows ≡ map named entries → row.name ≡ named entry → map (λ r. r.name) new ≡ map named (entries ++ entry ∷ [])
+more_names rows new row named entries entry grown before one =
+    let name : RowRecord → List ℕ = λ r. r.name in
+    ap (map name) grown ∙ map-append name rows (row ∷ []) ∙ ap (λ l. l ++ row.name ∷ []) before ∙ ap (λ n. map named entries ++ n ∷ []) one
+    ∙ sym (map-append named entries (entry ∷ []))
+
+pub more_rows : (P : RowRecord → Type 0) (rows new : List RowRecord) (row : RowRecord) → new ≡ rows ++ row ∷ []
+    → AllByRecursion P rows → P row → AllByRecursion P new
+more_rows P rows new row grown all one = subst (AllByRecursion P) (sym grown) (rows_more P rows row all one)
+
+pub all_rows : (P : RowRecord → Type 0) (rows : List Row) → AllByRecursion P (map row_seen rows) → All (λ row. P (row_seen row)) rows
+all_rows P [] h = All-nil (λ row. P (row_seen row))
+all_rows P (row ∷ rows) h = All-cons (λ row. P (row_seen row)) row rows h.0 (all_rows P rows h.1)

@@ -1,0 +1,103 @@
+//! What is asked of a version, by all that asks for its package.
+
+ghost use Rattle.std.specs.Prelude.{◌≡◌, ◌&&◌, IfOk};
+ghost use Rattle.std.specs.List.{list_any, list_all};
+ghost use Rattle.pep440_version.specs.Changes.{is_prerelease};
+ghost use Rattle.reqtable_answer.specs.Admission.{Admits, AnswersBy};
+ghost use Rattle.reqtable_answer.specs.Asks.{has_url, has_prerelease, ask_takes};
+ghost use Rattle.reqtable_answer.specs.Says.{ask_seen};
+
+use crate::admission::Admission;
+use pep440_specifier_list::VersionSpecifiers;
+use pep440_version::Version;
+use pep508_requirement::{Requirement, VersionOrUrl};
+use pep508_url::VerbatimUrl;
+use std::alloc::{AllocError, Global};
+
+/// Whether some ask is of a URL.
+pub fn is_direct(asks: &[&Requirement<VerbatimUrl>]) -> bool
+    ensures { result ≡ list_any (λ ask. has_url (ask_seen ask.now)) asks.now }
+{
+    asks.iter().any(|ask| has_url(ask))
+}
+
+fn has_url(ask: &Requirement<VerbatimUrl>) -> bool
+    ensures { result ≡ has_url (ask_seen ask.now) }
+{
+    match &ask.version_or_url {
+        Some(VersionOrUrl::Url(_)) => true,
+        Some(VersionOrUrl::VersionSpecifier(_)) | None => false,
+    }
+}
+
+/// Whether some specifier names a pre-release.
+pub fn names_prerelease(asks: &[&Requirement<VerbatimUrl>]) -> bool
+    ensures { result ≡ list_any (λ ask. has_prerelease (ask_seen ask.now)) asks.now }
+{
+    asks.iter().any(|ask| has_prerelease(ask))
+}
+
+fn has_prerelease(ask: &Requirement<VerbatimUrl>) -> bool
+    ensures { result ≡ has_prerelease (ask_seen ask.now) }
+{
+    match &ask.version_or_url {
+        Some(VersionOrUrl::VersionSpecifier(list)) => has_prerelease_in(list),
+        Some(VersionOrUrl::Url(_)) | None => false,
+    }
+}
+
+fn has_prerelease_in(list: &VersionSpecifiers) -> bool
+    ensures { result ≡ list_any (λ s. is_prerelease s.version) list.now }
+{
+    list.as_slice()
+        .iter()
+        .any(|specifier| specifier.version().any_prerelease())
+}
+
+/// Whether all asks take the version, and it is admitted.
+pub fn may_be_taken<F: Fn(&Version, bool) -> bool>(
+    alloc: Global,
+    asks: &[&Requirement<VerbatimUrl>],
+    names_prerelease: bool,
+    admission: &Admission<F>,
+    version: &Version,
+) -> Result<bool, AllocError>
+    requires { F.IsAlwaysCallable admission.now }
+    ensures { IfOk result (λ taken. (admits : Admits) → AnswersBy (F.post admission.now) admits →
+        taken ≡ (list_all (λ ask. ask_takes version.now (ask_seen ask.now)) asks.now
+        && admits version.now names_prerelease)) }
+{
+    let taken = takes_all(alloc, asks, version)?;
+    Ok(taken && admission.admits(version, names_prerelease))
+}
+
+/// Whether all asks take the version.
+fn takes_all(
+    alloc: Global,
+    asks: &[&Requirement<VerbatimUrl>],
+    version: &Version,
+) -> Result<bool, AllocError>
+    ensures { IfOk result (λ taken.
+        taken ≡ list_all (λ ask. ask_takes version.now (ask_seen ask.now)) asks.now) }
+{
+    for ask in asks {
+        let taken = takes(alloc, ask, version)?;
+        if !taken {
+            return Ok(false);
+        }
+    }
+    Ok(true)
+}
+
+fn takes(
+    alloc: Global,
+    ask: &Requirement<VerbatimUrl>,
+    version: &Version,
+) -> Result<bool, AllocError>
+    ensures { IfOk result (λ taken. taken ≡ ask_takes version.now (ask_seen ask.now)) }
+{
+    match &ask.version_or_url {
+        Some(VersionOrUrl::VersionSpecifier(list)) => list.contains(alloc, version),
+        Some(VersionOrUrl::Url(_)) | None => Ok(true),
+    }
+}
