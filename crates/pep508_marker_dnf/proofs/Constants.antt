@@ -1,10 +1,10 @@
 -- Texts of trees by whether they are constant.
-use Rattle.std.proofs.Common.{◌≡◌, ◌↔◌, Bool, true, false, not, ◌==◌, List, [], ◌∷◌, Option, Some, None, inl, inr, refl, sym, ap, subst, ◌∙◌}
-use Rattle.std.specs.Prelude.{IsTrue, IfSome, codes}
-use Rattle.pep508_diagram.specs.Diagram.{Diagram, Leaf, Test, turned_by}
+use Rattle.std.proofs.Common.{◌≡◌, Bool, true, false, List, [], ◌∷◌, Option, Some, None, refl, sym, ap, subst, ◌∙◌}
+use Rattle.std.specs.Prelude.{IfSome, codes}
+use Rattle.pep508_diagram.specs.Diagram.{Diagram, Leaf}
 use Rattle.pep508_diagram.specs.Question.{Question}
 use Rattle.pep508_marker_text.specs.MarkerText.{disjunction, clauses_text, marker_text}
-use Rattle.pep508_tree.specs.Tree.{Tree, always, never, constant}
+use Rattle.pep508_tree.specs.Tree.{Tree, always, never}
 use Rattle.pep508_tree.specs.Meaning.{NodeOf, NodeRecord, Versions, Texts, Flagged, node_diagram, diagram_of, IsTree}
 use Rattle.pep508_tree.specs.Nodes.{AreSound, HasBoundary}
 use Rattle.pep508_tree.specs.Roots.{root_of, IsRoot}

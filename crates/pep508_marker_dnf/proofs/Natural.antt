@@ -1,5 +1,5 @@
 -- Groups of what stands between boundaries, before and after each thing is shown as another one.
-use Rattle.std.proofs.Common.{◌≡◌, Bool, true, false, not, cond, List, [], ◌∷◌, map, refl, sym, ap, ◌∙◌}
+use Rattle.std.proofs.Common.{◌≡◌, Bool, true, false, not, cond, List, [], ◌∷◌, map, refl, ap, ◌∙◌}
 use Rattle.std.specs.List.{AllByRecursion, filter}
 use Rattle.version_ranges.specs.Boundaries.{turns_of}
 use Rattle.version_ranges.specs.Turns.{flips}

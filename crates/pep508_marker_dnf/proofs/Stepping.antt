@@ -1,5 +1,5 @@
 -- The steps of a node lead to the clauses of its diagram.
-use Rattle.std.proofs.Common.{◌≡◌, ℕ, ◌==◌, ◌&&◌, Bool, true, false, not, cond, List, [], ◌∷◌, ◌++◌, map, Option, Some, None, inl, inr, refl, sym, ap, ap₂, subst, ◌<◌, ◌∙◌, append-nil, true≢false}
+use Rattle.std.proofs.Common.{◌≡◌, ℕ, ◌==◌, ◌&&◌, Bool, true, false, not, List, [], ◌∷◌, ◌++◌, map, Option, Some, None, inl, inr, refl, sym, ap, ap₂, subst, ◌<◌, ◌∙◌, append-nil, true≢false}
 use Rattle.std.proofs.lemmas.Bool.{cases_Bool}
 use Rattle.std.proofs.lemmas.Grind.{flat_map-append}
 use Rattle.std.proofs.lemmas.List.Folds.{flat_map-map}
@@ -20,7 +20,7 @@ use Rattle.pep508_marker_text.specs.SameDiagrams.{same_diagram}
 use Rattle.pep508_marker_text.specs.Saying.{Clause, Saying, set_clauses}
 use Rattle.pep508_marker_text.specs.Simplified.{has_some}
 use Rattle.pep508_marker_text.specs.Terms.{version_saying, text_saying, set_term, unset_term}
-use Rattle.pep508_marker_text.proofs.SameDiagrams.{same_are_one, one_are_same, same_itself}
+use Rattle.pep508_marker_text.proofs.SameDiagrams.{same_are_one, same_itself}
 use Rattle.pep508_marker_text.proofs.Walks.{walk_diagram}
 use Rattle.pep508_marker_text.proofs.Where.{standing_all, firsts_all}
 use Rattle.pep508_tree.specs.Tree.{Tree, always, never, negation}

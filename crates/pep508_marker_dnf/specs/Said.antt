@@ -6,7 +6,8 @@ use Rattle.pep508_marker.specs.Expression.{ExpressionRecord, expression_of}
 use Rattle.pep508_marker.specs.declared.expression.MarkerExpression.{MarkerExpression}
 use Rattle.pep508_marker_text.specs.Saying.{Saying}
 use Rattle.pep508_marker_dnf.specs.declared.says.Relation.{Relation}
-use Rattle.pep508_marker_dnf.specs.declared.says.Relation.TheVariants.{Equal, NotEqual, AtLeast, Above, AtMost, Below}
+use Rattle.pep508_marker_dnf.specs.declared.says.Relation.TheVariants.{Equal, NotEqual, AtLeast}
+use Rattle.pep508_marker_dnf.specs.declared.says.Relation.TheVariants.{Above, AtMost, Below}
 
 abbrev pub said : {T : Type 0} → Saying T → Relation → T → ExpressionRecord
 said say Equal = say.equal

@@ -17,14 +17,16 @@ use Rattle.pep508_marker_dnf.specs.Trees.{is_at}
 -- the intervals from a lower bound on, up to the first boundary
 abbrev pub begun : {T : Type 0} → Bound T → List (Boundary T) → List (Bound T × Bound T)
 begun lower [] = (lower, Unbounded) ∷ []
-begun lower (boundary ∷ later) = (lower, upper_bound_at (point_of boundary)) ∷ intervals (turns_of false later)
+begun lower (boundary ∷ later) =
+    (lower, upper_bound_at (point_of boundary)) ∷ intervals (turns_of false later)
 
 -- the intervals of where a tree stands, or any other one, from some branches on
 abbrev pub spans : {T : Type 0} → Tree → Bool → Bool → List (Branch T Tree) → List (Bound T × Bound T)
 spans tree outside held later = intervals (turns_of held (turning (is_at tree outside) held later))
 
 -- those from a lower bound on, behind which the branches stand
-abbrev pub spans_behind : {T : Type 0} → Tree → Bool → Bound T → List (Branch T Tree) → List (Bound T × Bound T)
+abbrev pub spans_behind : {T : Type 0} → Tree → Bool → Bound T → List (Branch T Tree)
+    → List (Bound T × Bound T)
 spans_behind tree outside lower later = begun lower (turning (is_at tree outside) true later)
 
 module _ {T : Type 0} where

@@ -1,8 +1,7 @@
 -- What leads from a tree to its subtrees: the terms that say for which answers a subtree stands.
-use Rattle.std.specs.Prelude.{Bool, true, false, List, [], ◌∷◌, ◌++◌, map, Option, Some, None}
+use Rattle.std.specs.Prelude.{Bool, List, [], ◌∷◌, ◌++◌, map, Option, Some, None}
 use Rattle.std.specs.List.{filter, flat_map}
 use Rattle.pep508_diagram.specs.declared.branch.Branch.{Branch}
-use Rattle.pep508_marker.specs.Expression.{expression_of}
 use Rattle.pep508_marker_print.specs.Terms.{clause_of}
 use Rattle.pep508_marker_text.specs.Groups.{firsts, standing, points_where}
 use Rattle.pep508_marker_text.specs.Saying.{Clause, Saying, set_clauses}
@@ -40,15 +39,16 @@ group_steps say first later tree =
 
 -- those between the boundaries of a key
 abbrev pub branch_steps : {T : Type 0} → Saying T → Tree → List (Branch T Tree) → List StepRecord
-branch_steps say first later = flat_map (group_steps say first later) (firsts same_tree (standing first later))
+branch_steps say first later =
+    flat_map (group_steps say first later) (firsts same_tree (standing first later))
 
 -- those of a node; a constant has none
 abbrev pub node_steps : NodeRecord → List StepRecord
 node_steps (Versions key first later) = branch_steps (version_saying key) first later
 node_steps (Texts key first later) = branch_steps (text_saying key) first later
 node_steps (Flagged flag set unset) =
-    record { clause = set_term flag ∷ []; tree = set } ∷ record { clause = unset_term flag ∷ []; tree = unset }
-    ∷ []
+    record { clause = set_term flag ∷ []; tree = set }
+    ∷ record { clause = unset_term flag ∷ []; tree = unset } ∷ []
 
 abbrev pub root_steps : Option NodeRecord → List StepRecord
 root_steps None = []

@@ -42,9 +42,9 @@ pub trait MarkerTreeText {
     /// The simplified clauses of the tree, of which one holds where the tree does, each in the order of the
     /// variables; none where the tree always holds or never.
     ///
-    /// Walks each path from the root to where the tree holds, and copies a comparison once for each clause that
-    /// it stands in. Between the boundaries of one key, and of the clauses for their simplification, each is
-    /// compared with each other one at most.
+    /// Walks each path from the root to where the tree holds, and copies a comparison once for each clause
+    /// that it stands in. Of the subtrees between the boundaries of one key, and of the clauses where they
+    /// are simplified, each is compared with each other one at most.
     fn to_dnf(
         self,
         alloc: Global,
@@ -56,8 +56,8 @@ pub trait MarkerTreeText {
         ensures grown { IfErr result (λ error. named self ≢ always) };
 
     /// The text of the tree, as `python_full_version >= '3.8' and os_name == 'nt'`: its clauses with `or`
-    /// between them. A tree that always holds has none; one that never does has a text that hardly any version
-    /// meets. Takes what `to_dnf` takes, and the text.
+    /// between them. A tree that always holds has none; one that never does has a text that hardly any
+    /// version meets. Takes what `to_dnf` takes, and the text.
     fn try_to_string(self, alloc: Global, interner: &Interner) -> Result<Option<String>, AllocError>
         requires { IsTree interner.now.nodes (named self) }
         ensures text { IfOk result (λ text. option_map string_bytes text
