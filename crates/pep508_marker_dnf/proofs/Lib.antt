@@ -1,0 +1,9 @@
+pub mod Turning
+pub mod Spanning
+pub mod Natural
+pub mod Grouping
+pub mod Chained
+pub mod Stepping
+pub mod Minor
+pub mod Adding
+pub mod Constants

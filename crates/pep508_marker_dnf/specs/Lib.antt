@@ -1,0 +1,4 @@
+pub mod Said
+pub mod Trees
+pub mod Spans
+pub mod Steps

@@ -1,0 +1,97 @@
+//! The clauses and the text of a marker tree.
+
+ghost use Rattle.std.specs.Prelude.{◌≡◌, ◌≢◌, IfOk, IfErr, option_map};
+ghost use Rattle.std.specs.String.{string_bytes};
+ghost use Rattle.pep508_marker_print.specs.Terms.{clauses_shown};
+ghost use Rattle.pep508_marker_text.specs.MarkerText.{disjunction, marker_text};
+ghost use Rattle.pep508_tree.specs.Meaning.{IsTree, diagram_of};
+ghost use Rattle.pep508_tree.specs.Tree.{always};
+
+use crate::walk::clauses_of;
+use pep508_marker::MarkerExpression;
+use pep508_marker_print::{clauses_text, simplified_clauses};
+use pep508_tree::{Interner, MarkerTree};
+use std::alloc::{AllocError, Global};
+
+/// The simplified clauses of a tree.
+#[tactic(auto, using(crate::proofs::Constants::no_clauses))]
+fn disjunction(
+    alloc: Global,
+    tree: MarkerTree,
+    interner: &Interner,
+) -> Result<Vec<Vec<MarkerExpression>>, AllocError>
+    requires { IsTree interner.now.nodes tree }
+    ensures clauses { IfOk result (λ clauses.
+        clauses_shown clauses.items ≡ disjunction (diagram_of interner.now.nodes tree)) }
+    ensures grown { IfErr result (λ error. tree ≢ always) }
+{
+    if tree.is_true() {
+        return Ok(Vec::new(alloc));
+    }
+    let clauses = clauses_of(alloc, tree, interner)?;
+    simplified_clauses(alloc, clauses)
+}
+
+/// Trees that have a text.
+pub trait MarkerTreeText {
+    ghost use Rattle.pep508_tree.specs.Tree.{Tree};
+
+    /// The tree that a value names.
+    ghost named: { Self → Tree };
+
+    /// The simplified clauses of the tree, of which one holds where the tree does, each in the order of the
+    /// variables; none where the tree always holds or never.
+    ///
+    /// Walks each path from the root to where the tree holds, and copies a comparison once for each clause
+    /// that it stands in. Of the subtrees between the boundaries of one key, and of the clauses where they
+    /// are simplified, each is compared with each other one at most.
+    fn to_dnf(
+        self,
+        alloc: Global,
+        interner: &Interner,
+    ) -> Result<Vec<Vec<MarkerExpression>>, AllocError>
+        requires { IsTree interner.now.nodes (named self) }
+        ensures clauses { IfOk result (λ clauses.
+            clauses_shown clauses.items ≡ disjunction (diagram_of interner.now.nodes (named self))) }
+        ensures grown { IfErr result (λ error. named self ≢ always) };
+
+    /// The text of the tree, as `python_full_version >= '3.8' and os_name == 'nt'`: its clauses with `or`
+    /// between them. A tree that always holds has none; one that never does has a text that hardly any
+    /// version meets. Takes what `to_dnf` takes, and the text.
+    fn try_to_string(self, alloc: Global, interner: &Interner) -> Result<Option<String>, AllocError>
+        requires { IsTree interner.now.nodes (named self) }
+        ensures text { IfOk result (λ text. option_map string_bytes text
+            ≡ marker_text (diagram_of interner.now.nodes (named self))) }
+        ensures grown { IfErr result (λ error. named self ≢ always) };
+}
+
+impl MarkerTreeText for MarkerTree {
+    ghost named = { λ tree. tree };
+
+    fn to_dnf(
+        self,
+        alloc: Global,
+        interner: &Interner,
+    ) -> Result<Vec<Vec<MarkerExpression>>, AllocError> {
+        disjunction(alloc, self, interner)
+    }
+
+    #[tactic(auto, using(crate::proofs::Constants::no_text, crate::proofs::Constants::text_of_never, crate::proofs::Constants::text_of_other))]
+    fn try_to_string(
+        self,
+        alloc: Global,
+        interner: &Interner,
+    ) -> Result<Option<String>, AllocError> {
+        interner.are_sound();
+        if self.is_true() {
+            return Ok(None);
+        }
+        if self.is_false() {
+            let text = String::from_str(alloc, "python_version < '0'")?;
+            return Ok(Some(text));
+        }
+        let clauses = disjunction(alloc, self, interner)?;
+        let text = clauses_text(alloc, &clauses)?;
+        Ok(Some(text))
+    }
+}
