@@ -8,4 +8,5 @@ pub mod Speaking
 pub mod Truths
 pub mod Fitting
 pub mod Disjunctions
+pub mod Spelled
 mod Examples

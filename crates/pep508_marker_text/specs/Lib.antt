@@ -9,3 +9,4 @@ pub mod ReleaseBounds
 pub mod Truth
 pub mod Raisable
 pub mod MarkerText
+pub mod Spelling

@@ -4,14 +4,19 @@ ghost use Rattle.pep508_marker.specs.Expression.{ExpressionRecord};
 ghost use Rattle.pep508_diagram.specs.Diagram.{Diagram, Leaf};
 ghost use Rattle.pep508_diagram.specs.Question.{Question, Valuation, truth, AreOne, IsCanonical};
 ghost use Rattle.pep508_expression.specs.Expressions.{expression_holds};
-ghost use Rattle.pep508_marker_text.specs.MarkerText.{disjunction};
+ghost use Rattle.pep508_tree.specs.Tree.{Tree};
+ghost use Rattle.pep508_tree.specs.Meaning.{IsTree, diagram_of, holds};
+ghost use Rattle.pep508_marker_text.specs.MarkerText.{disjunction, marker_text};
 ghost use Rattle.pep508_marker_text.specs.Raisable.{AllHavePoints};
 ghost use Rattle.pep508_marker_text.specs.ReleaseBounds.{HasReleasesAlone};
 ghost use Rattle.pep508_marker_text.specs.SameDiagrams.{same_diagram};
 ghost use Rattle.pep508_marker_text.specs.Saying.{Clause};
 ghost use Rattle.pep508_marker_text.specs.SameTerms.{same_term, opposite_term};
 ghost use Rattle.pep508_marker_text.specs.Simplified.{is_needless, is_covered, simplified};
+ghost use Rattle.pep508_marker_text.specs.Spelling.{HasShortVersions};
 ghost use Rattle.pep508_marker_text.specs.Truth.{one_holds, IsTruth};
+
+use pep508_tree::Interner;
 
 /// A needless term can be left out of its clause: one of the clauses holds where one did before.
 pub fn a_needless_term_can_go()
@@ -58,3 +63,27 @@ pub fn a_disjunction_means_its_diagram()
         diagram ≢ Leaf true → (v : Valuation) →
         one_holds (λ term. expression_holds term v) (disjunction diagram) ≡ truth diagram v }
 {}
+
+/// Diagrams that mean the same are the same, and print the same, where their versions have one spelling: no
+/// zeros at the end of a release, and no bound that no text has.
+#[tactic(auto, using(crate::proofs::Spelled::one_spelling))]
+pub fn one_meaning_has_one_text()
+    ensures diagram { (d e : Diagram Question) → IsCanonical d → IsCanonical e → HasShortVersions d →
+        HasShortVersions e → ((v : Valuation) → truth d v ≡ truth e v) → d ≡ e }
+    ensures clauses { (d e : Diagram Question) → IsCanonical d → IsCanonical e → HasShortVersions d →
+        HasShortVersions e → ((v : Valuation) → truth d v ≡ truth e v) → disjunction d ≡ disjunction e }
+    ensures text { (d e : Diagram Question) → IsCanonical d → IsCanonical e → HasShortVersions d →
+        HasShortVersions e → ((v : Valuation) → truth d v ≡ truth e v) → marker_text d ≡ marker_text e }
+{}
+
+/// So trees of any two interners that mean the same print the same.
+pub fn trees_of_one_meaning_have_one_text(interner: &Interner, other: &Interner)
+    ensures { (a b : Tree) → IsTree interner.now.nodes a → IsTree other.now.nodes b →
+        HasShortVersions (diagram_of interner.now.nodes a) →
+        HasShortVersions (diagram_of other.now.nodes b) →
+        ((v : Valuation) → holds interner.now.nodes a v ≡ holds other.now.nodes b v) →
+        marker_text (diagram_of interner.now.nodes a) ≡ marker_text (diagram_of other.now.nodes b) }
+{
+    interner.are_sound();
+    other.are_sound();
+}
