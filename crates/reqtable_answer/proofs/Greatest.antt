@@ -146,5 +146,9 @@ module _ {K : Type 0} {R : K → K → Ordering} (total : IsTotalOrder R) (p : K
   tested xs n best false false e h b = best_passed_over xs n best h b
 
   -- one more value
-  pub best_better : (xs : List K) (n : K) (best : Option K) → IsBest R (filter p xs) best → IsBest R (filter p (xs ++ n ∷ [])) (better_of R p n best)
-  best_better xs n best b = tested xs n best (exceeds R n best) (p n) refl refl b
+  pub best_better : (before after : List K) (n : K) (best next : Option K) → after ≡ before ++ n ∷ [] → next ≡ better_of R p n best
+      → IsBest R (filter p before) best → IsBest R (filter p after) next
+  best_better before after n best next grown is b =
+      let P : List K → Type 0 = λ l. IsBest R (filter p l) next in
+      let Q : Option K → Type 0 = λ o. IsBest R (filter p (before ++ n ∷ [])) o in
+      subst P {x = before ++ n ∷ []} (sym grown) (subst Q {x = better_of R p n best} (sym is) (tested before n best (exceeds R n best) (p n) refl refl b))

@@ -9,3 +9,4 @@ pub mod Passing
 pub mod Packages
 pub mod ByPackage
 pub mod Said
+pub mod Others

@@ -1,5 +1,6 @@
 -- What is asked, and candidates with their places, by the package that each is of.
-use Rattle.std.specs.Prelude.{◌≡◌, ℕ, ◌&&◌, Bool, true, List, [], map, filter, Option, Some, None, option_map, is_some, Vec}
+use Rattle.std.specs.Prelude.{◌≡◌, ℕ, ◌&&◌, Bool, true, List, [], map, filter, Option, Some, None}
+use Rattle.std.specs.Prelude.{option_map, is_some, Vec}
 use Rattle.std.specs.Prelude.{if◌then◌else◌}
 use Rattle.std.specs.List.{list_any, list_all}
 use Rattle.std.specs.List.Sorted.{IsStrictlySortedBy}

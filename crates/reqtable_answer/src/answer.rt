@@ -37,8 +37,8 @@ pub struct Answer {
 }
 
 impl Answer {
-    /// The rows as lines: a package's name, its extras in brackets with bare commas between them, where it has
-    /// any, a blank, and the version that is taken, `none` or `direct`.
+    /// The rows as lines: a package's name, its extras in brackets with bare commas between them, where it
+    /// has any, a blank, and the version that is taken, `none` or `direct`.
     ///
     /// The candidates are those among which was chosen. Linear in the text.
     pub fn text(&self, alloc: Global, candidates: &Candidates) -> Result<String, AllocError>

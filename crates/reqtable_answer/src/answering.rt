@@ -1,13 +1,15 @@
 //! The answer: what is asked and the candidates are put by package once, and each package is decided by its
 //! own alone.
 
-ghost use Rattle.std.specs.Prelude.{◌≡◌, ℕ, true, ◌<◌, ◌&&◌, List, [], ◌∷◌, ◌++◌, All, map, filter, length, IfOk, OnOk};
+ghost use Rattle.std.specs.Prelude.{◌≡◌, ℕ, true, ◌<◌, ◌&&◌, List, [], ◌∷◌, ◌++◌, All, map, filter, length};
+ghost use Rattle.std.specs.Prelude.{IfOk, OnOk};
 ghost use Rattle.std.specs.List.{list_any, list_all, enumerate_from};
 ghost use Rattle.pep508_requirement_text.specs.FrontReading.{Front};
 ghost use Rattle.reqtable_answer.specs.Admission.{Admits, AnswersBy};
 ghost use Rattle.reqtable_answer.specs.Asks.{is_of};
 ghost use Rattle.reqtable_answer.specs.Answer.{IsAnswer};
-ghost use Rattle.reqtable_answer.specs.Groups.{asks_for, has_group, candidates_for, numbered_seen, is_candidate, IsRowOf};
+ghost use Rattle.reqtable_answer.specs.Groups.{asks_for, has_group, candidates_for, IsRowOf};
+ghost use Rattle.reqtable_answer.specs.Groups.{numbered_seen, is_candidate};
 ghost use Rattle.reqtable_answer.specs.Rows.{row_seen, IsTakenBelow};
 ghost use Rattle.reqtable_answer.specs.Says.{SayAll, asks_seen};
 
@@ -25,17 +27,17 @@ use std::collections::BTreeMap;
 /// Some values, by the package that each is of.
 type Groups<'a, T> = BTreeMap<&'a str, Vec<T>>;
 
-/// The answer to these requirements, whose markers count for nothing: a row for each package that one of them
-/// is of.
+/// The answer to these requirements, whose markers count for nothing: a row for each package that one of
+/// them is of.
 ///
-/// A package is taken `Direct` where one of its requirements has a URL. Else the greatest candidate of its name
-/// is taken that all specifiers of its requirements take (PEP 440, "Version specifiers") and that is admitted,
-/// the first in the list among equals. The admission is told whether one of the specifiers has a pre-release or
-/// developmental release.
+/// A package is `Direct` where one of its requirements has a URL. Else the greatest candidate of its name is
+/// taken that all specifiers of its requirements take (PEP 440, "Version specifiers") and that is admitted,
+/// the first in the list among equals. The admission is told whether one of the specifiers has a
+/// pre-release or developmental release.
 ///
-/// With A requirements, C candidates and P packages that are O((A + C) log P) comparisons of names. Candidates
-/// of other packages are left out, and one is tested, against its own package's requirements, where it lies
-/// above the best before it. The order of the requirements doesn't count.
+/// With A requirements, C candidates and P packages that are O((A + C) log P) comparisons of names.
+/// Candidates of other packages are left out, and one is tested, against its own package's requirements,
+/// where it lies above the best before it. The order of the requirements doesn't count.
 pub fn answer_to<F: Fn(&Version, bool) -> bool>(
     alloc: Global,
     asks: &[&Requirement<VerbatimUrl>],

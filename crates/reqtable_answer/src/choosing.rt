@@ -3,7 +3,8 @@
 ghost use Rattle.std.specs.Prelude.{◌≡◌, ℕ, ◌<◌, All, map, filter, option_map, IfOk, IfSome};
 ghost use Rattle.reqtable_answer.specs.Admission.{Admits, AnswersBy};
 ghost use Rattle.reqtable_answer.specs.Answer.{by_version, chosen, first_greatest};
-ghost use Rattle.reqtable_answer.specs.Groups.{numbered_seen, passes, passes_by, outcome_among, exceeds, better_of};
+ghost use Rattle.reqtable_answer.specs.Groups.{numbered_seen, passes, passes_by, outcome_among};
+ghost use Rattle.reqtable_answer.specs.Groups.{exceeds, better_of};
 ghost use Rattle.reqtable_answer.specs.Rows.{IsTakenBelow};
 ghost use Rattle.reqtable_answer.specs.Says.{asks_seen};
 
@@ -98,7 +99,8 @@ fn better<'a, F: Fn(&Version, bool) -> bool>(
 
 /// Whether the candidate lies above the best before it.
 fn is_greater(candidate: &Numbered<'_>, best: Option<Numbered<'_>>) -> bool
-    ensures { result ≡ exceeds by_version (numbered_seen candidate.now) (option_map numbered_seen best.entry) }
+    ensures { result ≡
+        exceeds by_version (numbered_seen candidate.now) (option_map numbered_seen best.entry) }
 {
     match best {
         None => true,

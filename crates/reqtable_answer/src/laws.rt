@@ -2,14 +2,16 @@
 
 ghost use Rattle.std.specs.Prelude.{◌≡◌, ℕ, List, filter};
 ghost use Rattle.std.specs.List.Sorted.{IsPermutation};
+ghost use Rattle.std.specs.Str.{bytes_eq};
 ghost use Rattle.pep508_requirement_text.specs.FrontReading.{Front};
 ghost use Rattle.reqtable_text.specs.declared.candidates.Candidate.{Candidate};
 ghost use Rattle.reqtable_answer.specs.Asks.{is_of};
-ghost use Rattle.reqtable_answer.specs.Answer.{Admits, RowRecord, IsRow, IsAnswer, IsAnswerText};
+ghost use Rattle.reqtable_answer.specs.Answer.{Admits, RowRecord, IsRow, IsAnswer, IsAnswerText, row_text};
 
 /// What is asked has one answer.
 pub fn there_is_one_answer()
-    ensures { (admits : Admits) (asks : List Front) (candidates : List Candidate) (rows others : List RowRecord) →
+    ensures { (admits : Admits) (asks : List Front) (candidates : List Candidate)
+        (rows others : List RowRecord) →
         IsAnswer admits asks candidates rows → IsAnswer admits asks candidates others → rows ≡ others }
 {}
 
@@ -21,8 +23,9 @@ pub fn the_answer_has_one_text()
 
 /// The order in which things are asked doesn't count.
 pub fn order_of_asks_changes_nothing()
-    ensures { (admits : Admits) (asks others : List Front) (candidates : List Candidate) (rows : List RowRecord) →
-        IsPermutation asks others → IsAnswer admits asks candidates rows → IsAnswer admits others candidates rows }
+    ensures { (admits : Admits) (asks others : List Front) (candidates : List Candidate)
+        (rows : List RowRecord) → IsPermutation asks others →
+        IsAnswer admits asks candidates rows → IsAnswer admits others candidates rows }
 {}
 
 /// What is asked of other packages changes no row.
@@ -30,4 +33,13 @@ pub fn other_packages_change_no_row()
     ensures { (admits : Admits) (asks others : List Front) (candidates : List Candidate) (row : RowRecord) →
         filter (is_of row.name) asks ≡ filter (is_of row.name) others →
         IsRow admits asks candidates row → IsRow admits others candidates row }
+{}
+
+/// Candidates of other packages change nothing in a package's line.
+pub fn other_candidates_change_no_line()
+    ensures { (admits : Admits) (asks : List Front) (candidates others : List Candidate)
+        (row other : RowRecord) →
+        IsRow admits asks candidates row → IsRow admits asks others other → row.name ≡ other.name →
+        filter (λ c. bytes_eq row.name c.name) candidates ≡ filter (λ c. bytes_eq row.name c.name) others →
+        row_text candidates row ≡ row_text others other }
 {}

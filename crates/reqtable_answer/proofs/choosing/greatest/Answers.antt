@@ -1,10 +1,9 @@
-use Rattle.std.proofs.Common.{◌≡◌, ◌∙◌, ◌<◌, ◌+◌, ◌++◌, ◌∷◌, [], ℕ, List, Option, sym, ap, subst, map, filter, option_map, take}
+use Rattle.std.proofs.Common.{◌≡◌, ◌∙◌, ◌<◌, ◌+◌, ◌++◌, ◌∷◌, [], sym, ap, subst, map, filter, option_map, take}
 use Rattle.std.proofs.lemmas.List.{map_more, take_all}
 use Rattle.std.proofs.lemmas.List.Elements.{All-get_or}
-use Rattle.reqtable_text.specs.declared.candidates.Candidate.{Candidate}
 use Rattle.reqtable_answer.specs.Answer.{by_version, first_greatest}
 use Rattle.reqtable_answer.specs.Groups.{numbered_seen, passes_by}
-use Rattle.reqtable_answer.proofs.Greatest.{IsBest, best_better, first_greatest-best}
+use Rattle.reqtable_answer.proofs.Greatest.{best_better, first_greatest-best}
 use Rattle.reqtable_answer.proofs.Passing.{by_version_total, passes_same}
 use Rattle.reqtable_answer.proofs.choosing.greatest.Goals as goal
 
@@ -19,11 +18,8 @@ loop-candidate-preserved g c =
           let before = map numbered_seen (take at all) in
           let grown : map numbered_seen (take (at + 1) all) ≡ before ++ numbered_seen n ∷ [] =
           map_more numbered_seen all at n c.loop-candidate-test.true ∙ ap (λ x. before ++ numbered_seen x ∷ []) (sym c.candidate-item.is) in
-          let P : List (ℕ × Candidate) → Type 0 = λ l. IsBest by_version (filter p l) (option_map numbered_seen c.in_ok-best.best) in
-          let Q : Option (ℕ × Candidate) → Type 0 = λ b. IsBest by_version (filter p (before ++ numbered_seen n ∷ [])) b in
-          subst P (sym grown)
-          (subst Q (sym (c.in_ok-best.ensures.better admits by))
-          (best_better by_version_total p before (numbered_seen n) (option_map numbered_seen c.loop-candidate.best) (c.loop-candidate.invariant.best admits by)));
+          best_better by_version_total p before (map numbered_seen (take (at + 1) all)) (numbered_seen n) (option_map numbered_seen c.loop-candidate.best)
+          (option_map numbered_seen c.in_ok-best.best) grown (c.in_ok-best.ensures.better admits by) (c.loop-candidate.invariant.best admits by);
       below = λ count within.
           c.in_ok-best.ensures.below count
           (subst (λ x. x.place < count) (sym c.candidate-item.is) (All-get_or (λ x. x.place < count) all at n c.loop-candidate-test.true within))
