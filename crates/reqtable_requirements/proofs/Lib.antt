@@ -1,3 +1,5 @@
 pub mod OneLine
 pub mod Lines
 pub mod Grammar
+pub mod Asked
+pub mod Applying

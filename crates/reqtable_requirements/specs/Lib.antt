@@ -1,3 +1,4 @@
 pub mod LineReading
 pub mod LineText
 pub mod Requirements
+pub mod Asks

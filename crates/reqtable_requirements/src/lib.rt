@@ -1,6 +1,7 @@
 //! Requirements texts, as `pip freeze` and `pip-compile` write them: one requirement of PEP 508 on a line.
 #![tactic(auto)]
 
+mod judgement;
 pub mod laws;
 mod requirements;
 

@@ -1,0 +1,24 @@
+use Rattle.std.proofs.Common.{◌≡◌, ◌∙◌, map, sym, ap}
+use Rattle.std.proofs.lemmas.List.{map-append}
+use Rattle.pep508_evaluation.specs.Valuations.{valuation_of}
+use Rattle.reqtable_requirements.proofs.Applying.{one_more, passed_over}
+use Rattle.reqtable_requirements.proofs.judgement.applying.Goals as goal
+use Rattle.reqtable_requirements.proofs.judgement.applying.Goals.{then-evaluate_markers+in_ok-push, else-evaluate_markers}
+
+pub loop-line-preserved : goal.loop-line-preserved
+loop-line-preserved c =
+    let nodes = c.args.interner.now.nodes in
+    let v = valuation_of c.args.environment.now c.args.extras.now in
+    elim c.if-evaluate_markers.branch [
+      | then-evaluate_markers+in_ok-push w ↦
+          one_more nodes v c.args.lines.now c.loop-line.line-index c.line-item.result c.loop-line-test.true c.line-item.is
+          (map (λ ask. ask.now) c.loop-line.asks.items) (map (λ ask. ask.now) c.if-evaluate_markers.asks.items)
+          (sym c.evaluate_markers.ensures ∙ w.if-evaluate_markers.true) c.loop-line.invariant
+          (ap (λ asks. map (λ ask. ask.now) asks.items) w.asks-is ∙ ap (map (λ ask. ask.now)) w.in_ok-push.ensures.items
+          ∙ map-append (λ ask. ask.now) c.loop-line.asks.items _)
+      | else-evaluate_markers w ↦
+          passed_over nodes v c.args.lines.now c.loop-line.line-index c.line-item.result c.loop-line-test.true c.line-item.is
+          (map (λ ask. ask.now) c.loop-line.asks.items) (map (λ ask. ask.now) c.if-evaluate_markers.asks.items)
+          (sym c.evaluate_markers.ensures ∙ w.if-evaluate_markers.false) c.loop-line.invariant
+          (ap (λ asks. map (λ ask. ask.now) asks.items) w.asks-is)
+    ]

@@ -1,0 +1,30 @@
+-- What lines ask for under a valuation, as that of an environment with extras.
+use Rattle.std.specs.Prelude.{Bool, List, map, filter}
+use Rattle.std.specs.List.{AllByRecursion}
+use Rattle.pep508_url.specs.UrlTexts.{Verbatim}
+use Rattle.pep508_url.specs.declared.error.VerbatimUrlError.{VerbatimUrlError}
+use Rattle.pep508_diagram.specs.Question.{Valuation}
+use Rattle.pep508_tree.specs.Meaning.{NodeRecord, IsTree, holds}
+use Rattle.pep508_expression.specs.Expressions.{expression_holds}
+use Rattle.pep508_marker_read.specs.Formula.{formula_holds}
+use Rattle.pep508_requirement_text.specs.FrontReading.{Front}
+use Rattle.pep508_requirement.specs.declared.requirement.Requirement.{Requirement}
+use Rattle.reqtable_requirements.specs.declared.requirements.Line.{Line}
+use Rattle.reqtable_requirements.specs.LineReading.{LineRecord}
+
+-- the line's marker holds
+abbrev pub applies : Valuation → LineRecord → Bool
+applies v line = formula_holds (λ e. expression_holds e v) line.formula
+
+-- what the lines that apply ask for, in their order
+abbrev pub asks_of : Valuation → List LineRecord → List Front
+asks_of v lines = map (λ line. line.front) (filter (applies v) lines)
+
+-- the markers of lines are trees of these nodes
+abbrev pub AreOfNodes : List NodeRecord → List Line → Type 0
+AreOfNodes nodes lines = AllByRecursion (λ line. IsTree nodes line.requirement.marker) lines
+
+-- the requirements of those lines whose markers hold
+abbrev pub applying : List NodeRecord → Valuation → List Line → List (Requirement Verbatim VerbatimUrlError)
+applying nodes v lines =
+    map (λ line. line.requirement) (filter (λ line. holds nodes line.requirement.marker v) lines)

@@ -1,0 +1,73 @@
+//! The judge: what a requirements text asks for in an environment, and the answer to it.
+
+ghost use Rattle.std.specs.Prelude.{◌≡◌, List, length, map, All, IfOk};
+ghost use Rattle.std.specs.List.{AllZip};
+ghost use Rattle.pep508_url.specs.Vars.{Variables};
+ghost use Rattle.pep508_evaluation.specs.Valuations.{valuation_of};
+ghost use Rattle.reqtable_answer.specs.Admission.{Admits, AnswersBy};
+ghost use Rattle.reqtable_answer.specs.Answer.{IsAnswer};
+ghost use Rattle.reqtable_answer.specs.Rows.{row_seen, IsTakenBelow};
+ghost use Rattle.reqtable_requirements.specs.Asks.{AreOfNodes, applying, asks_of};
+ghost use Rattle.reqtable_requirements.specs.LineReading.{LineRecord};
+ghost use Rattle.reqtable_requirements.specs.Requirements.{StandsFor};
+
+use crate::{Line, Requirements};
+use pep440_version::Version;
+use pep508_environment::MarkerEnvironment;
+use pep508_name::ExtraName;
+use pep508_requirement::Requirement;
+use pep508_tree::Interner;
+use pep508_url::VerbatimUrl;
+use reqtable_answer::{Admission, Answer, answer_to};
+use reqtable_text::Candidates;
+use std::alloc::{AllocError, Global};
+
+impl Requirements {
+    /// The answer in an environment with extras: a row for each package that a line which applies there asks for.
+    ///
+    /// The interner is the one that the lines were read with. Evaluates each line's marker once, and answers as
+    /// `answer_to` does; takes memory for a list of the lines that apply and for the answer.
+    pub fn judge<F: Fn(&Version, bool) -> bool>(
+        &self,
+        alloc: Global,
+        interner: &Interner,
+        environment: &MarkerEnvironment,
+        extras: &[ExtraName],
+        candidates: &Candidates,
+        admission: &Admission<F>,
+    ) -> Result<Answer, AllocError>
+        requires trees { AreOfNodes interner.now.nodes self.now }
+        requires callable { F.IsAlwaysCallable admission.now }
+        ensures answered { IfOk result (λ answer. (vars : Variables) (said : List LineRecord) (admits : Admits) →
+            AllZip (StandsFor vars interner.now.nodes) self.now said → AnswersBy (F.post admission.now) admits →
+            IsAnswer admits (asks_of (valuation_of environment.now extras.now) said) candidates.now
+            (map row_seen answer.rows.items)) }
+        ensures places { IfOk result (λ answer.
+            All (λ row. IsTakenBelow (length candidates.now) row.outcome) answer.rows.items) }
+    {
+        let asks = applying(alloc, self.lines(), interner, environment, extras)?;
+        answer_to(alloc, &asks, candidates, admission)
+    }
+}
+
+/// The requirements whose markers hold in the environment with the extras, in the order of the lines.
+fn applying<'a>(
+    alloc: Global,
+    lines: &'a [Line],
+    interner: &Interner,
+    environment: &MarkerEnvironment,
+    extras: &[ExtraName],
+) -> Result<Vec<&'a Requirement<VerbatimUrl>>, AllocError>
+    requires { AreOfNodes interner.now.nodes lines.now }
+    ensures { IfOk result (λ asks. map (λ ask. ask.now) asks.items
+        ≡ applying interner.now.nodes (valuation_of environment.now extras.now) lines.now) }
+{
+    let mut asks = Vec::new(alloc);
+    for line in lines {
+        let requirement = &line.requirement;
+        if requirement.evaluate_markers(interner, environment, extras) {
+            asks.push(requirement)?;
+        }
+    }
+    Ok(asks)
+}
