@@ -19,6 +19,7 @@ pub use pep508_marker::{
     TracingReporter,
 };
 pub use pep508_marker_comparison::{parse_expression, parse_expression_reporter};
+pub use pep508_marker_dnf::MarkerTreeText;
 pub use pep508_marker_read::MarkerTreeReading;
 pub use pep508_name::{ExtraName, InvalidNameError, PackageName, RequirementOrigin};
 pub use pep508_requirement::{
