@@ -3,6 +3,7 @@
 use crate::environment::environment;
 use crate::pairs::pair;
 use crate::reading::{expression, marker, read, refused};
+use crate::simplified::{present, within};
 use crate::told::Told;
 use crate::views::view;
 use pep508_evaluation::MarkerTreeEvaluation;
@@ -25,6 +26,14 @@ pub fn answer(alloc: Global, environments: &str, question: &str) -> Result<Strin
         "expression" => expression(alloc, text),
         "view" => view(alloc, text),
         "same" | "disjoint" | "negation" => pair(alloc, asked, text, text_at(&question, 2)),
+        "simplified" | "complexified" => {
+            let bounds = (text_at(&question, 3), text_at(&question, 4));
+            within(alloc, asked, text, text_at(&question, 2), bounds)
+        }
+        "present" => {
+            let extras = extras_from(alloc, &question, 3)?;
+            present(alloc, text, text_at(&question, 2), &extras)
+        }
         "evaluate" => {
             let extras = extras_from(alloc, &question, 3)?;
             evaluate(alloc, environments, text, text_at(&question, 2), &extras)
