@@ -10,6 +10,7 @@ use Rattle.pep508_tree.specs.Nodes.{AreSound, HasBoundary}
 use Rattle.pep508_tree.specs.Roots.{root_of, IsRoot}
 use Rattle.pep508_tree.proofs.Diagrams.{diagram_top}
 use Rattle.pep508_tree.proofs.OneTree.{tree_is}
+use Rattle.pep508_marker_dnf.specs.TopExtra.{top_extra}
 use Rattle.pep508_evaluation.proofs.CanHold.{known_root, known_constant}
 use Rattle.pep508_evaluation.proofs.Rooted.{root_diagram}
 
@@ -21,6 +22,9 @@ no_clauses nodes tree is = sym (ap disjunction (always_leaf nodes tree is))
 
 pub no_text : (nodes : List NodeRecord) (tree : Tree) → tree ≡ always → None ≡ marker_text (diagram_of nodes tree)
 no_text nodes tree is = sym (ap marker_text (always_leaf nodes tree is))
+
+pub no_extra : (nodes : List NodeRecord) (tree : Tree) → tree ≡ always → None ≡ top_extra (diagram_of nodes tree)
+no_extra nodes tree is = sym (ap top_extra (always_leaf nodes tree is))
 
 pub text_of_never : (nodes : List NodeRecord) (tree : Tree) → tree ≡ never →
     Some (codes "python_version < '0'") ≡ marker_text (diagram_of nodes tree)

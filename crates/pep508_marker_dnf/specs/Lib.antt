@@ -2,3 +2,4 @@ pub mod Said
 pub mod Trees
 pub mod Spans
 pub mod Steps
+pub mod TopExtra

@@ -2,6 +2,7 @@
 //! the tree does, and their text. Contracts see a comparison as an `ExpressionRecord`.
 #![tactic(auto)]
 
+mod extra;
 mod intervals;
 mod says;
 mod sets;

@@ -2,13 +2,16 @@
 
 ghost use Rattle.std.specs.Prelude.{◌≡◌, ◌≢◌, IfOk, IfErr, option_map};
 ghost use Rattle.std.specs.String.{string_bytes};
+ghost use Rattle.pep508_marker.specs.Expression.{expression_of};
+ghost use Rattle.pep508_marker_dnf.specs.TopExtra.{extra_of_clauses, top_extra};
 ghost use Rattle.pep508_marker_print.specs.Terms.{clauses_shown};
 ghost use Rattle.pep508_marker_text.specs.MarkerText.{disjunction, marker_text};
 ghost use Rattle.pep508_tree.specs.Meaning.{IsTree, diagram_of};
 ghost use Rattle.pep508_tree.specs.Tree.{always};
 
+use crate::extra::common_extra;
 use crate::walk::clauses_of;
-use pep508_marker::MarkerExpression;
+use pep508_marker::{ExtraOperator, MarkerExpression};
 use pep508_marker_print::{clauses_text, simplified_clauses};
 use pep508_tree::{Interner, MarkerTree};
 use std::alloc::{AllocError, Global};
@@ -30,6 +33,23 @@ fn disjunction(
     }
     let clauses = clauses_of(alloc, tree, interner)?;
     simplified_clauses(alloc, clauses)
+}
+
+/// The comparison of the extra that all clauses ask for, in memory of its own.
+fn extra_term(
+    alloc: Global,
+    clauses: &[Vec<MarkerExpression>],
+) -> Result<Option<MarkerExpression>, AllocError>
+    ensures { IfOk result (λ extra.
+        option_map expression_of extra ≡ extra_of_clauses (clauses_shown clauses.now)) }
+{
+    match common_extra(clauses) {
+        None => Ok(None),
+        Some(extra) => Ok(Some(MarkerExpression::Extra {
+            operator: ExtraOperator::Equal,
+            name: extra.try_clone(alloc)?,
+        })),
+    }
 }
 
 /// Trees that have a text.
@@ -63,6 +83,18 @@ pub trait MarkerTreeText {
         ensures text { IfOk result (λ text. option_map string_bytes text
             ≡ marker_text (diagram_of interner.now.nodes (named self))) }
         ensures grown { IfErr result (λ error. named self ≢ always) };
+
+    /// The comparison `extra == '..'` that comes first among such ones in each clause of `to_dnf`, where each
+    /// clause has one and all are of one extra; else none. Takes what `to_dnf` takes.
+    fn top_level_extra(
+        self,
+        alloc: Global,
+        interner: &Interner,
+    ) -> Result<Option<MarkerExpression>, AllocError>
+        requires { IsTree interner.now.nodes (named self) }
+        ensures extra { IfOk result (λ extra. option_map expression_of extra
+            ≡ top_extra (diagram_of interner.now.nodes (named self))) }
+        ensures grown { IfErr result (λ error. named self ≢ always) };
 }
 
 impl MarkerTreeText for MarkerTree {
@@ -93,5 +125,18 @@ impl MarkerTreeText for MarkerTree {
         let clauses = disjunction(alloc, self, interner)?;
         let text = clauses_text(alloc, &clauses)?;
         Ok(Some(text))
+    }
+
+    #[tactic(auto, using(crate::proofs::Constants::no_extra))]
+    fn top_level_extra(
+        self,
+        alloc: Global,
+        interner: &Interner,
+    ) -> Result<Option<MarkerExpression>, AllocError> {
+        if !self.is_true() {
+            let clauses = disjunction(alloc, self, interner)?;
+            return extra_term(alloc, &clauses);
+        }
+        Ok(None)
     }
 }
