@@ -121,8 +121,19 @@ environment python_full_version | sed 's/}/, "python_full_version": " v3.12.0RC1
 printf "foo>=1.0 ; python_full_version >= '3.11'\nbar>=1.0 ; python_full_version >= '3.12'\n" >both
 run check both candidate empty
 wants "an interpreter's release candidate" 0 "foo none$n" ""
-run check R E C dev
-wants "an extra" 0 "foo-bar 1.19$n" ""
+printf 'foo-bar[a]\nfoo-bar[b] ; extra == "dev"\n' >extras
+run check extras E C dev
+wants "an extra" 0 "foo-bar[a,b] 2.0$n" ""
+run check extras E C
+wants "no extra" 0 "foo-bar[a] 2.0$n" ""
+printf 'foo @ https://${WHEELS_HOST}/foo.whl\n' >url
+WHEELS_HOST=example.org run check url E C
+wants "a variable in a URL" 0 "foo direct$n" ""
+WHEELS_HOST='a b' run check url E C
+wants "a variable that makes no URL" 2 "" SOMETHING
+printf 'foo @ ./foo.whl\n' >path
+run check path E C
+wants "a path beside the list" 0 "foo direct$n" ""
 run check R E C dev Other_Extra
 wants "two extras" 0 "foo-bar 1.19$n" ""
 
@@ -166,9 +177,16 @@ else
 fi
 
 # Inputs that are refused.
-printf 'foo-bar>=1.0\n\nfoo-bar ~= 1.0\n' >unread
+printf 'foo-bar>=1.0\n\nfoo- >=1\n' >unread
+no_name="line 3, byte 3, length 1${n}Package name must end with an alphanumeric character, not '-'${n}foo- >=1${n}   ^$n"
 run check unread E C
-wants "a line that isn't read yet" 2 "" "reqs: unread: line 3: not yet read$n"
+wants "a line that is no requirement" 2 "" "reqs: unread: $no_name"
+printf "foo-bar\nfoo-bar ; python_version > '3.18446744073709551615'\n" >end
+run check end E C
+wants "a version number that can't be raised" 2 "" "reqs: end: line 2: a version number can't be raised$n"
+printf 'foo @ ../../../../../../../../../../../../../../../foo.whl\n' >above
+run check above E C
+wants "a path above the root" 2 "" SOMETHING
 printf 'foo-bar 1.15\n\nfoo-bar\n' >shape
 run check R E shape
 wants "a candidate without a version" 2 "" "reqs: shape: line 3: shape$n"
@@ -257,7 +275,7 @@ status=$?
 wants "candidates from a pipe" 0 "foo-bar 1.19$n" ""
 "$program" check unread E - >out 2>err <C
 status=$?
-wants "a refused list beside standard input" 2 "" "reqs: unread: line 3: not yet read$n"
+wants "a refused list beside standard input" 2 "" "reqs: unread: $no_name"
 "$program" check - E C >out 2>err <unread
 status=$?
 wants "a refused list from standard input" 2 "" "reqs: -: line 3: not yet read$n"

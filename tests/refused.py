@@ -126,10 +126,10 @@ def commands(room):
     for it in files:
         with open(os.path.join(room, it), "wb") as file:
             file.write(read(os.path.join(example, it)))
-    for name, text in (("unread", b"foo>=1.0\n\nfoo @ x\n"), ("name", b"foo 1.0\nfoo- 1.0\n"), ("version", b"foo 1.0\nfoo 1.0+\n")):
+    for name, text in (("unread", b"foo>=1.0\n\nfoo- @ x\n"), ("name", b"foo 1.0\nfoo- 1.0\n"), ("version", b"foo 1.0\nfoo 1.0+\n")):
         with open(os.path.join(room, name), "wb") as file:
             file.write(text)
-    yield "a line that isn't read:", ["check", "unread", *files[1:]], room, None
+    yield "a line that is no requirement:", ["check", "unread", *files[1:]], room, None
     yield "a candidate's name:", ["check", *files[:2], "name"], room, None
     yield "a candidate's version:", ["check", *files[:2], "version"], room, None
     yield "no environment:", ["check", files[0], "absent", files[2]], room, None

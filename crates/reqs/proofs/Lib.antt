@@ -1,5 +1,5 @@
 pub mod Texts
 pub mod Extras
 pub mod Reading
-pub mod Causes
 pub mod Steps
+pub mod Answered

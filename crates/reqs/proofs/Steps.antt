@@ -1,152 +1,134 @@
--- Steps of a command: a fault of a step is that of the whole, and how the command ends at each of its exits.
-use Rattle.std.proofs.Common.{◌≡◌, ℕ, List, Option, Some, None, Result, Ok, Err, ap, refl, sym, subst}
+-- Steps of a command: a fault of a step is that of the whole, and how a command ends where an input is not read.
+use Rattle.std.proofs.Common.{◌≡◌, ◌<◌, ℕ, List, [], ◌∷◌, take, length, Option, Some, None, Result, Ok, Err, String, ap, refl, sym, subst}
 use Rattle.read_outcome.specs.Outcome.{Tells}
-use Rattle.reqs_io.specs.Front.{AreAsTold, WritesWhole, AppendsFront}
-use Rattle.reqtable_lines.specs.declared.requirements.RequirementsError.{RequirementsError}
-use Rattle.reqtable_lines.specs.declared.requirements.RequirementsError.TheVariants as requirements
+use Rattle.pep508_url.specs.Vars.{Variables}
+use Rattle.reqs_io.specs.declared.TheConstants.{INPUT_LIMIT}
+use Rattle.reqs_io.specs.Front.{AreAsTold}
 use Rattle.reqtable_text.specs.declared.candidates.CandidatesError.{CandidatesError}
 use Rattle.reqtable_text.specs.declared.candidates.CandidatesError.TheVariants as candidates
-use Rattle.reqtable_lines.specs.Requirements.{told_requirements}
 use Rattle.reqtable_text.specs.Candidates.{told_candidates}
+use Rattle.reqtable_requirements.specs.LineReading.{LineRecord, LinesFault}
+use Rattle.reqtable_requirements.specs.Requirements.{told_requirements, IsErrorIn}
+use Rattle.reqtable_requirements.specs.declared.requirements.RequirementsError.{RequirementsError}
+use Rattle.reqtable_requirements.specs.declared.requirements.RequirementsError.TheVariants as requirements
+use Rattle.reqtable_text.specs.TextLines.{text_lines}
 use Rattle.reqs.specs.declared.fault.RunFault.{RunFault}
-use Rattle.reqs.specs.declared.fault.RunFault.TheVariants.{Read, Write}
+use Rattle.reqs.specs.declared.fault.RunFault.TheVariants.{Read, Write, Memory, TooLong, Requirement}
 use Rattle.reqs.specs.declared.fault.Input.{Input}
 use Rattle.reqs.specs.declared.fault.Input.TheVariants.{First, Second, Third}
 use Rattle.reqs.specs.declared.fault.Status.{Status}
-use Rattle.reqs.specs.declared.fault.Status.TheVariants.{Answered}
-use Rattle.reqs.specs.Faults.{told_run, AnswersReading, of_requirements, of_candidates}
-use Rattle.reqs.specs.Inputs.{CheckInputs, ◌>>=◌, with_fault, input_of, ReadsInput, AreWithinBefore, texts_of, check_inputs}
-use Rattle.reqs.specs.Check.{EndsAs, RunsCheck, IsAnswerText}
-use Rattle.reqs.proofs.Reading.{some_bytes, as_told, within}
-use Rattle.reqs.proofs.Causes.{inputs_causes}
+use Rattle.reqs.specs.Faults.{Cause, Says, told_run, of_requirements, of_candidates, requirements_cause, Refuses, RefusesTexts, IsPlain, IsOfTexts}
+use Rattle.reqs.specs.Inputs.{◌>>=◌, with_cause, IsWithin, ReadsInput, extras_of, lines_from, behind_lines, texts_of}
+use Rattle.reqs.specs.Check.{AnswersBehind, AnswersText}
+use Rattle.reqs.specs.Ends.{Answering, Refusing, AreWithin, place_of, of_input, EndsAs, Runs}
+use Rattle.reqs.proofs.Reading.{some_bytes, as_told}
 
 -- a step's fault is that of all that follows
-pub tells_rest : {A B : Type 0} (told : Option RunFault) (step : Result A RunFault) (rest : A → Result B RunFault)
+tells_rest : {A B : Type 0} (told : Option Cause) (step : Result A Cause) (rest : A → Result B Cause)
     → Tells told step → Tells told (step >>= rest)
 tells_rest None step rest h = tt
-tells_rest (Some fault) step rest h = ap (λ r. r >>= rest) h
+tells_rest (Some cause) step rest h = ap (λ r. r >>= rest) h
+
+pub refuses_rest : {A B : Type 0} (fault : RunFault) (step : Result A Cause) (rest : A → Result B Cause)
+    → Refuses fault step → Refuses fault (step >>= rest)
+refuses_rest fault step rest h = (h.0, tells_rest (told_run fault) step rest h.1)
 
 -- a fault of a list is one of the command
-pub requirements_tell : {A : Type 0} (error : RequirementsError) (reading : Result A RequirementsError)
-    → Tells (told_requirements error) reading → Tells (told_run (of_requirements error)) (with_fault of_requirements reading)
-requirements_tell (requirements.NotText offset) reading h = ap (with_fault of_requirements) h
-requirements_tell (requirements.NotYet number) reading h = ap (with_fault of_requirements) h
-requirements_tell requirements.Memory reading h = tt
+pub requirements_refuse : {A : Type 0} (vars : Variables) (input : Input) (bytes : List ℕ) (error : RequirementsError)
+    (reading : Result A LinesFault) → Tells (told_requirements error) reading → IsErrorIn vars (text_lines bytes) error
+    → RefusesTexts vars bytes (of_requirements input error) (with_cause (requirements_cause input) reading)
+requirements_refuse vars input bytes (requirements.NotText offset) reading h said = (tt, ap (with_cause (requirements_cause input)) h)
+requirements_refuse vars input bytes (requirements.Line number error) reading h said = (said, ap (with_cause (requirements_cause input)) h)
+requirements_refuse vars input bytes (requirements.NumberAtEnd number) reading h said = (tt, ap (with_cause (requirements_cause input)) h)
+requirements_refuse vars input bytes requirements.Memory reading h said = (tt, tt)
 
-pub candidates_tell : {A : Type 0} (error : CandidatesError) (reading : Result A CandidatesError)
-    → Tells (told_candidates error) reading → Tells (told_run (of_candidates error)) (with_fault of_candidates reading)
-candidates_tell (candidates.NotText offset) reading h = ap (with_fault of_candidates) h
-candidates_tell (candidates.Line number cause) reading h = ap (with_fault of_candidates) h
-candidates_tell candidates.Memory reading h = tt
+is_of_texts : (vars : Variables) (bytes : List ℕ) (fault : RunFault) → IsPlain fault → IsOfTexts vars bytes fault
+is_of_texts vars bytes (Requirement input number error) h = absurd h
+is_of_texts vars bytes fault h = h
 
--- inputs that are read whole are what their texts are
-inputs_are : (extras : List (List ℕ)) (x y z first second third : List ℕ) → input_of First x ≡ Ok first
-    → input_of Second y ≡ Ok second → input_of Third z ≡ Ok third
-    → check_inputs extras x y z ≡ texts_of extras first second third
-unfolding check_inputs
-inputs_are extras x y z first second third h i j = rw (h, i, j) refl
+-- what refuses another text than a list of requirements
+pub refuses_texts : {A : Type 0} (vars : Variables) (bytes : List ℕ) (fault : RunFault) (reading : Result A Cause)
+    → Refuses fault reading → RefusesTexts vars bytes fault reading
+refuses_texts vars bytes fault reading h = (is_of_texts vars bytes fault h.0, h.1)
 
-module _ {W : Type 0} (extras : List (List ℕ)) (contents : W → Option (List ℕ)) (old new : W) where
-  -- a fault of the inputs ends the command so
-  tells_ends : (x y z : List ℕ) (fault : RunFault) → Tells (told_run fault) (check_inputs extras x y z)
-      → EndsAs extras x y z contents old new (Err fault)
-  tells_ends x y z (Read input) h = absurd (inputs_causes extras x y z (Read input) h)
-  tells_ends x y z Write h = absurd (inputs_causes extras x y z Write h)
-  tells_ends x y z fault h = h
+pub lines_rest : {A B : Type 0} (vars : Variables) (bytes : List ℕ) (fault : RunFault) (step : Result A Cause)
+    (rest : A → Result B Cause) → RefusesTexts vars bytes fault step → RefusesTexts vars bytes fault (step >>= rest)
+lines_rest vars bytes fault step rest h = (h.0, tells_rest (told_run fault) step rest h.1)
 
-  -- and so does one of an input that is read
-  reading_ends : {X : Type 0} (view : X → List ℕ) (step : Result (List ℕ) RunFault) (x y z : List ℕ) (input : Input)
-      (fault : RunFault) → AnswersReading input view (Err fault) step → AreWithinBefore input x y
-      → (Tells (told_run fault) step → Tells (told_run fault) (check_inputs extras x y z))
-      → EndsAs extras x y z contents old new (Err fault)
-  reading_ends view step x y z input (Read failed) h before whole =
-      let P : Input → Type 0 = λ i. AreWithinBefore i x y in
-      subst P (sym h) before
-  reading_ends view step x y z input fault h before whole = tells_ends x y z fault (whole h)
+-- the answer behind a list of requirements is that of all texts
+pub whole : {Y : Type 0} (vars : Variables) (extras : List (List ℕ)) (x y z : List ℕ) (names : List (List ℕ))
+    (said : List LineRecord) → extras_of extras ≡ Ok names → lines_from vars First x ≡ Ok said
+    → (result : Result (String Y) RunFault) → AnswersBehind result (behind_lines names said y z)
+    → AnswersText vars x result (texts_of vars extras x y z)
+unfolding texts_of
+whole vars extras x y z names said e l (Ok text) h = rw (e, l) h
+whole vars extras x y z names said e l (Err fault) h =
+    rw (e, l) (refuses_texts vars x fault (behind_lines names said y z) h)
 
-  -- how the command ends at each of its exits
-  module _ (a b c : Option (List ℕ)) where
+pub candidates_refuse : {A : Type 0} (input : Input) (error : CandidatesError) (reading : Result A CandidatesError)
+    → Tells (told_candidates error) reading
+    → Refuses (of_candidates input error) (with_cause (λ e. Says (of_candidates input e)) reading)
+candidates_refuse input (candidates.NotText offset) reading h = (tt, ap (with_cause (λ e. Says (of_candidates input e))) h)
+candidates_refuse input (candidates.Line number cause) reading h = (tt, ap (with_cause (λ e. Says (of_candidates input e))) h)
+candidates_refuse input candidates.Memory reading h = (tt, tt)
+
+module _ {W : Type 0} (Answers : Answering) (Refused : Refusing) (contents : W → Option (List ℕ)) (old new : W) where
+  -- where an input is not read, the command ends so for some bytes of it, whatever inputs stand behind it
+  pub unread : {X : Type 0} (view : X → List ℕ) (input : Input) (told : Option (List ℕ)) (fault : RunFault)
+      → ReadsInput input view told (Err fault) → (inputs : List ℕ → List (List ℕ))
+      → ((bytes : List ℕ) → AreWithin (take (place_of input) (inputs bytes)))
+      → ((bytes : List ℕ) → of_input (inputs bytes) input ≡ bytes)
+      → (bytes : List ℕ) × AreAsTold told bytes × EndsAs Answers Refused (inputs bytes) contents old new (Err fault)
+  unread view input told (Read failed) h inputs before there =
+      let bytes = some_bytes told in
+      let P : Input → Type 0 = λ i. AreWithin (take (place_of i) (inputs bytes)) in
+      (bytes, as_told told, subst P (sym h) (before bytes))
+  unread view input told (TooLong long) h inputs before there =
+      let bytes = h.1.0 in
+      let P : Input → Type 0 = λ i. AreWithin (take (place_of i) (inputs bytes)) × (INPUT_LIMIT < length (of_input (inputs bytes) i)) in
+      let Q : List ℕ → Type 0 = λ b. INPUT_LIMIT < length b in
+      (bytes, h.1.1, subst P (sym h.0) (before bytes, subst Q (sym (there bytes)) h.1.2))
+  unread view input told Memory h inputs before there = (some_bytes told, as_told told, tt)
+  unread view input told fault h inputs before there = absurd h
+
+  -- a fault of the texts ends it so
+  refused : (vars : Variables) (bytes : List ℕ) (inputs : List (List ℕ)) (fault : RunFault)
+      → IsOfTexts vars bytes fault → AreWithin inputs → Refused inputs fault
+      → EndsAs Answers Refused inputs contents old new (Err fault)
+  refused vars bytes inputs (Read input) h within r = absurd h
+  refused vars bytes inputs (TooLong input) h within r = absurd h
+  refused vars bytes inputs Write h within r = absurd h
+  refused vars bytes inputs Memory h within r = tt
+  refused vars bytes inputs fault h within r = (within, r)
+
+  -- a command of three inputs, of which one is not read
+  module _ (a b z : Option (List ℕ)) where
     pub first_unread : {X : Type 0} (view : X → List ℕ) (fault : RunFault) → ReadsInput First view a (Err fault)
-        → RunsCheck extras a b c contents old new (Err fault)
-    unfolding check_inputs
-    first_unread view fault (x, told, h) = record {
-      first = x;
-      second = some_bytes b;
-      third = some_bytes c;
-      first_told = told;
-      second_told = as_told b;
-      third_told = as_told c;
-      ends = reading_ends view (input_of First x) x _ _ First fault h tt (tells_rest (told_run fault) (input_of First x) _);
-    }
+        → Runs Answers Refused (a ∷ b ∷ z ∷ []) contents old new (Err fault)
+    first_unread view fault h =
+        let e = unread view First a fault h (λ x. x ∷ some_bytes b ∷ some_bytes z ∷ []) (λ x. tt) (λ x. refl) in
+        record { inputs = e.0 ∷ some_bytes b ∷ some_bytes z ∷ []; are_told = (e.1, (as_told b, (as_told z, tt))); ends = e.2 }
 
-    -- the first input was read whole, as these bytes
-    module _ (first : List ℕ) (read_first : (x : List ℕ) × AreAsTold a x × (input_of First x ≡ Ok first)) where
+    module _ (first : List ℕ) (read_first : AreAsTold a first × IsWithin first) where
       pub second_unread : {X : Type 0} (view : X → List ℕ) (fault : RunFault) → ReadsInput Second view b (Err fault)
-          → RunsCheck extras a b c contents old new (Err fault)
-      unfolding check_inputs
-      second_unread view fault (y, told, h) = record {
-        first = read_first.0;
-        second = y;
-        third = some_bytes c;
-        first_told = read_first.1;
-        second_told = told;
-        third_told = as_told c;
-        ends = reading_ends view (input_of Second y) read_first.0 y _ Second fault h
-            (within First read_first.0 first read_first.2)
-            (λ t. rw read_first.2 (tells_rest (told_run fault) (input_of Second y) _ t));
-      }
+          → Runs Answers Refused (a ∷ b ∷ z ∷ []) contents old new (Err fault)
+      second_unread view fault h =
+          let e = unread view Second b fault h (λ x. first ∷ x ∷ some_bytes z ∷ []) (λ x. (read_first.1, tt)) (λ x. refl) in
+          record { inputs = first ∷ e.0 ∷ some_bytes z ∷ []; are_told = (read_first.0, (e.1, (as_told z, tt))); ends = e.2 }
 
-      -- and the second
-      module _ (second : List ℕ) (read_second : (y : List ℕ) × AreAsTold b y × (input_of Second y ≡ Ok second)) where
-        pub third_unread : {X : Type 0} (view : X → List ℕ) (fault : RunFault) → ReadsInput Third view c (Err fault)
-            → RunsCheck extras a b c contents old new (Err fault)
-        unfolding check_inputs
-        third_unread view fault (z, told, h) = record {
-          first = read_first.0;
-          second = read_second.0;
-          third = z;
-          first_told = read_first.1;
-          second_told = read_second.1;
-          third_told = told;
-          ends = reading_ends view (input_of Third z) read_first.0 read_second.0 z Third fault h
-              (within First read_first.0 first read_first.2, within Second read_second.0 second read_second.2)
-              (λ t. rw (read_first.2, read_second.2) (tells_rest (told_run fault) (input_of Third z) _ t));
+      module _ (second : List ℕ) (read_second : AreAsTold b second × IsWithin second) where
+        pub third_unread : {X : Type 0} (view : X → List ℕ) (fault : RunFault) → ReadsInput Third view z (Err fault)
+            → Runs Answers Refused (a ∷ b ∷ z ∷ []) contents old new (Err fault)
+        third_unread view fault h =
+            let e = unread view Third z fault h (λ x. first ∷ second ∷ x ∷ []) (λ x. (read_first.1, (read_second.1, tt))) (λ x. refl) in
+            record { inputs = first ∷ second ∷ e.0 ∷ []; are_told = (read_first.0, (read_second.0, (e.1, tt))); ends = e.2 }
+
+        -- or whose texts are refused
+        pub texts_refused : (third : List ℕ) → AreAsTold z third × IsWithin third → (vars : Variables) (fault : RunFault)
+            → IsOfTexts vars first fault → Refused (first ∷ second ∷ third ∷ []) fault
+            → Runs Answers Refused (a ∷ b ∷ z ∷ []) contents old new (Err fault)
+        texts_refused third read_third vars fault h r = record {
+          inputs = first ∷ second ∷ third ∷ [];
+          are_told = (read_first.0, (read_second.0, (read_third.0, tt)));
+          ends = refused vars first (first ∷ second ∷ third ∷ []) fault h (read_first.1, (read_second.1, (read_third.1, tt))) r;
         }
-
-        -- and the third: the command ends as the texts do
-        module _ (third : List ℕ) (read_third : (z : List ℕ) × AreAsTold c z × (input_of Third z ≡ Ok third)) where
-          inputs : check_inputs extras read_first.0 read_second.0 read_third.0 ≡ texts_of extras first second third
-          inputs = inputs_are extras read_first.0 read_second.0 read_third.0 first second third read_first.2 read_second.2
-              read_third.2
-
-          ends_by : (result : Result Status RunFault)
-              → EndsAs extras read_first.0 read_second.0 read_third.0 contents old new result
-              → RunsCheck extras a b c contents old new result
-          ends_by result h = record {
-            first = read_first.0;
-            second = read_second.0;
-            third = read_third.0;
-            first_told = read_first.1;
-            second_told = read_second.1;
-            third_told = read_third.1;
-            ends = h;
-          }
-
-          pub refused : (fault : RunFault) → Tells (told_run fault) (texts_of extras first second third)
-              → RunsCheck extras a b c contents old new (Err fault)
-          refused fault h = ends_by (Err fault)
-              (tells_ends read_first.0 read_second.0 read_third.0 fault
-              (let P : Result CheckInputs RunFault → Type 0 = λ read. Tells (told_run fault) read in subst P (sym inputs) h))
-
-          answer_of : (text : List ℕ) → IsAnswerText (texts_of extras first second third) text
-              → IsAnswerText (check_inputs extras read_first.0 read_second.0 read_third.0) text
-          answer_of text h =
-              let P : Result CheckInputs RunFault → Type 0 = λ read. IsAnswerText read text in subst P (sym inputs) h
-
-          pub answered : (text : List ℕ) → IsAnswerText (texts_of extras first second third) text
-              → WritesWhole contents old new text → RunsCheck extras a b c contents old new (Ok Answered)
-          answered text h w = ends_by (Ok Answered) (refl, (text, answer_of text h, w))
-
-          pub cut_short : (text : List ℕ) → IsAnswerText (texts_of extras first second third) text
-              → AppendsFront (contents old) (contents new) text → RunsCheck extras a b c contents old new (Err Write)
-          cut_short text h w = ends_by (Err Write) (text, answer_of text h, w)

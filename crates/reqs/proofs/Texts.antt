@@ -1,5 +1,6 @@
 -- Bytes that are text, and bytes that are none.
-use Rattle.std.proofs.Common.{◌≡◌, ◌∙◌, ℕ, Bool, true, false, List, Result, Ok, Err, IfOk, String, string_bytes, refl}
+use Rattle.std.proofs.Common.{◌≡◌, ◌∙◌, ◌++◌, ℕ, Bool, true, false, List, Option, Some, None, Result, Ok, Err, IfOk, IfSome, String, string_bytes, ap, refl}
+use Rattle.std.specs.Fmt.{◌++?◌}
 use Rattle.std.proofs.lemmas.Str.{IsUtf8-from_is_utf8}
 use Rattle.std.specs.Str.{is_utf8, IsUtf8}
 
@@ -15,3 +16,11 @@ pub made : {Y E : Type 0} (made : Result (String Y) E) (given wanted : List ℕ)
     → IfOk made (λ text. string_bytes text ≡ given) → given ≡ wanted → IfOk made (λ text. string_bytes text ≡ wanted)
 made (Ok text) given wanted h e = h ∙ e
 made (Err error) given wanted h e = tt
+
+-- a text before one that may have any bytes
+pub said_behind : {Y E : Type 0} (made : Result (String Y) E) (front shown : List ℕ) (said : Option (List ℕ))
+    → IfSome said (λ wanted. shown ≡ wanted) → IfOk made (λ text. string_bytes text ≡ front ++ shown)
+    → IfOk made (λ text. IfSome (Some front ++? said) (λ wanted. string_bytes text ≡ wanted))
+said_behind (Ok text) front shown None e h = tt
+said_behind (Ok text) front shown (Some wanted) e h = h ∙ ap (λ l. front ++ l) e
+said_behind (Err error) front shown said e h = tt

@@ -1,19 +1,24 @@
--- Faults: which of them the inputs decide, and which may happen at any time.
-use Rattle.std.specs.Prelude.{◌≡◌, ℕ, Option, Some, None, Result, Ok, Err}
+-- Faults: which of them the texts of the inputs decide, and which may happen at any time.
+use Rattle.std.specs.Prelude.{◌≡◌, ℕ, List, Option, Some, None, Result, Ok, Err}
 use Rattle.read_outcome.specs.Outcome.{Tells}
+use Rattle.pep508_url.specs.Vars.{Variables}
 use Rattle.pep508_environment.specs.declared.EnvironmentError.{EnvironmentError}
 use Rattle.pep508_environment.specs.declared.EnvironmentError.TheVariants as environments
 use Rattle.reqs_io.specs.declared.ReadFault.{ReadFault}
 use Rattle.reqs_io.specs.declared.ReadFault.TheVariants as ends
-use Rattle.reqtable_lines.specs.declared.requirements.RequirementsError.{RequirementsError}
-use Rattle.reqtable_lines.specs.declared.requirements.RequirementsError.TheVariants as requirements
+use Rattle.reqtable_text.specs.TextLines.{text_lines}
 use Rattle.reqtable_text.specs.declared.candidates.CandidatesError.{CandidatesError}
 use Rattle.reqtable_text.specs.declared.candidates.CandidatesError.TheVariants as candidates
+use Rattle.reqtable_requirements.specs.LineReading as lines
+use Rattle.reqtable_requirements.specs.Requirements.{IsErrorIn}
+use Rattle.reqtable_requirements.specs.declared.requirements.RequirementsError.{RequirementsError}
+use Rattle.reqtable_requirements.specs.declared.requirements.RequirementsError.TheVariants as requirements
 use Rattle.reqs.specs.declared.fault.Input.{Input}
 use Rattle.reqs.specs.declared.fault.Input.TheVariants.{First, Second, Third}
 use Rattle.reqs.specs.declared.fault.RunFault.{RunFault}
-use Rattle.reqs.specs.declared.fault.RunFault.TheVariants.{Read, Write, Memory, TooLong, NotText, NotYet}
-use Rattle.reqs.specs.declared.fault.RunFault.TheVariants.{Float, Shape, Member, Version, Candidate}
+use Rattle.reqs.specs.declared.fault.RunFault.TheVariants.{Read, Write, Memory, TooLong, NotText}
+use Rattle.reqs.specs.declared.fault.RunFault.TheVariants.{Requirement, NumberAtEnd, Float, Shape, Member}
+use Rattle.reqs.specs.declared.fault.RunFault.TheVariants.{Version, Candidate}
 
 -- 3 for a reader, the writer and memory; 2 where an input or the command line is refused
 abbrev pub status_of : RunFault → ℕ
@@ -22,37 +27,78 @@ status_of Write = 3
 status_of Memory = 3
 status_of _ = 2
 
--- the faults by which each reader's own are reported
+-- what is at fault in texts: a line that is no requirement, whatever is said of it; or what this fault says
+pub data Cause : Type 0 where
+  NoRequirement : Input → ℕ → Cause
+  Says : RunFault → Cause
+
+-- ---- the faults by which those of readers are reported
+
 abbrev pub of_reading : Input → ReadFault → RunFault
 of_reading input ends.Read = Read input
 of_reading input ends.TooLong = TooLong input
 of_reading input ends.Memory = Memory
 
-abbrev pub of_requirements : RequirementsError → RunFault
-of_requirements (requirements.NotText offset) = NotText First offset
-of_requirements (requirements.NotYet number) = NotYet First number
-of_requirements requirements.Memory = Memory
+-- of a list of requirements, by its place on the command line
+abbrev pub of_requirements : Input → RequirementsError → RunFault
+of_requirements input (requirements.NotText offset) = NotText input offset
+of_requirements input (requirements.Line number error) = Requirement input number error
+of_requirements input (requirements.NumberAtEnd number) = NumberAtEnd input number
+of_requirements input requirements.Memory = Memory
 
--- the environment of `check` is the first of its input
-abbrev pub of_environment : EnvironmentError → RunFault
-of_environment environments.Float = Float Second
-of_environment environments.Shape = Shape Second
-of_environment (environments.Member name) = Member Second 1 name
-of_environment (environments.Version name) = Version Second 1 name
-of_environment environments.Memory = Memory
+-- of an environment, by its place on the command line and its number
+abbrev pub of_environment : Input → ℕ → EnvironmentError → RunFault
+of_environment input index environments.Float = Float input
+of_environment input index environments.Shape = Shape input
+of_environment input index (environments.Member name) = Member input index name
+of_environment input index (environments.Version name) = Version input index name
+of_environment input index environments.Memory = Memory
 
-abbrev pub of_candidates : CandidatesError → RunFault
-of_candidates (candidates.NotText offset) = NotText Third offset
-of_candidates (candidates.Line number cause) = Candidate Third number cause
-of_candidates candidates.Memory = Memory
+abbrev pub of_candidates : Input → CandidatesError → RunFault
+of_candidates input (candidates.NotText offset) = NotText input offset
+of_candidates input (candidates.Line number cause) = Candidate input number cause
+of_candidates input candidates.Memory = Memory
 
--- the fault of the inputs that an error of a run tells; one of memory may come whatever they are
-abbrev pub told_run : RunFault → Option RunFault
+-- ---- and what is at fault there
+
+abbrev pub requirements_cause : Input → lines.LinesFault → Cause
+requirements_cause input (lines.NotText offset) = Says (NotText input offset)
+requirements_cause input (lines.NoRequirement number) = NoRequirement input number
+requirements_cause input (lines.NumberAtEnd number) = Says (NumberAtEnd input number)
+
+-- what a fault says is at fault; want of memory says nothing
+abbrev pub told_run : RunFault → Option Cause
 told_run Memory = None
-told_run fault = Some fault
+told_run (Requirement input number error) = Some (NoRequirement input number)
+told_run fault = Some (Says fault)
 
--- the same where an input is read, whose own reader may fail
-abbrev pub AnswersReading : {X A : Type 0} → Input → (X → A) → Result X RunFault → Result A RunFault → Type 0
-AnswersReading input view (Ok x) reading = reading ≡ Ok (view x)
-AnswersReading input view (Err (Read failed)) reading = failed ≡ input
-AnswersReading input view (Err fault) reading = Tells (told_run fault) reading
+-- it is no fault of a reader or the writer, not of an input's length, and of no requirement line
+abbrev pub IsPlain : RunFault → Type 0
+IsPlain (Read input) = ⊥
+IsPlain Write = ⊥
+IsPlain (TooLong input) = ⊥
+IsPlain (Requirement input number error) = ⊥
+IsPlain fault = Unit {0}
+
+-- it is of texts of which the first is a list of requirements: what it says of a line that is no requirement is
+-- the error of some line with this number
+abbrev pub IsOfTexts : Variables → List ℕ → RunFault → Type 0
+IsOfTexts vars bytes (Read input) = ⊥
+IsOfTexts vars bytes Write = ⊥
+IsOfTexts vars bytes (TooLong input) = ⊥
+IsOfTexts vars bytes (Requirement input number error) =
+    IsErrorIn vars (text_lines bytes) (requirements.Line number error)
+IsOfTexts vars bytes fault = Unit {0}
+
+-- a text is refused for what the fault says; want of memory may come whatever the text is
+abbrev pub Refuses : {A : Type 0} → RunFault → Result A Cause → Type 0
+Refuses fault reading = IsPlain fault × Tells (told_run fault) reading
+
+-- texts are, of which the first is a list of requirements
+abbrev pub RefusesTexts : {A : Type 0} → Variables → List ℕ → RunFault → Result A Cause → Type 0
+RefusesTexts vars bytes fault reading = IsOfTexts vars bytes fault × Tells (told_run fault) reading
+
+-- what was returned is the reading, seen by `view`, or its fault
+abbrev pub AnswersRun : {X A : Type 0} → (X → A) → Result X RunFault → Result A Cause → Type 0
+AnswersRun view (Ok x) reading = reading ≡ Ok (view x)
+AnswersRun view (Err fault) reading = Refuses fault reading

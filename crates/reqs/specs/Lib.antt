@@ -1,4 +1,5 @@
 pub mod Faults
-pub mod FaultText
 pub mod Inputs
+pub mod Ends
+pub mod FaultText
 pub mod Check

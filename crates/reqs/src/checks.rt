@@ -1,34 +1,47 @@
 //! `check`: the answer for one environment.
 
-ghost use Rattle.std.specs.Prelude.{◌≡◌, ◌≢◌, map, IfErr, string_bytes};
-ghost use Rattle.reqs.specs.Check.{AnswersText, RunsCheck};
-ghost use Rattle.reqs.specs.Inputs.{texts_of};
+ghost use Rattle.std.specs.Prelude.{◌≡◌, ◌≢◌, List, map, IfErr, IfOk, string_bytes};
+ghost use Rattle.std.specs.List.{AllZip};
+ghost use Rattle.pep508_url.specs.Vars.{Variables};
+ghost use Rattle.pep508_evaluation.specs.Valuations.{valuation_of};
+ghost use Rattle.reqtable_answer.specs.Answer.{IsAnswerText};
+ghost use Rattle.reqtable_requirements.specs.Asks.{AreOfNodes, asks_of};
+ghost use Rattle.reqtable_requirements.specs.LineReading.{LineRecord};
+ghost use Rattle.reqtable_requirements.specs.Requirements.{StandsFor};
+ghost use Rattle.reqs.specs.Check.{any, AnswersBehind, AnswersText, RunsCheck};
+ghost use Rattle.reqs.specs.Inputs.{behind_lines, texts_of};
 
 use crate::fault::{Input, RunFault, Status};
-use crate::input::{Vars, read_environment, read_input, test_extras};
+use crate::input::{read_candidates, read_environment, read_extras, read_input, read_requirements};
+use pep508_environment::MarkerEnvironment;
+use pep508_name::ExtraName;
+use pep508_tree::Interner;
+use pep508_url::Vars;
 use reqs_io::write_whole;
-use reqtable::{Candidates, Requirements, judge};
-use std::alloc::Global;
+use reqtable_answer::Admission;
+use reqtable_requirements::Requirements;
+use reqtable_text::Candidates;
+use std::alloc::{AllocError, Global};
 use std::io::{Read, Write};
 
 /// Reads a list of requirements, an environment and a list of candidates, and writes for each
-/// package that a line which applies asks for the greatest candidate that all these lines match,
-/// the first among equals, or `none`, in the order of the names' bytes.
+/// package that a line which applies asks for, with the extras that these lines ask for, the greatest
+/// candidate that all of them take, the first among equals, or `none`; or `direct` where one of them has
+/// a URL. Rows stand in the order of the names' bytes.
 ///
 /// All inputs are read whole, in this order; then the extras are read as names, and then each
-/// input as what it is. The answer is made whole before the first write. With L lines, C
-/// candidates and P packages the work is linear in the bytes, with O((L + C) log P) comparisons of
-/// names.
+/// input as what it is. The answer is made whole before the first write, by one evaluation of each
+/// line's marker and what `Requirements::judge` costs.
 pub fn check<L: Read, E: Read, C: Read, W: Write>(
     alloc: Global,
     requirements: &mut L,
     environment: &mut E,
     candidates: &mut C,
     extras: &[&str],
-    _vars: &Vars,
+    vars: &Vars,
     output: &mut W,
 ) -> Result<Status, RunFault>
-    ensures runs { RunsCheck (map (λ e. e.now) extras.now)
+    ensures runs { RunsCheck vars.now (map (λ e. e.now) extras.now)
         (L.remaining requirements.old) (E.remaining environment.old) (C.remaining candidates.old)
         W.contents output.old output.new result }
     // A refused command has written nothing.
@@ -37,7 +50,14 @@ pub fn check<L: Read, E: Read, C: Read, W: Write>(
     let requirements = read_input(alloc, Input::First, requirements)?;
     let environment = read_input(alloc, Input::Second, environment)?;
     let candidates = read_input(alloc, Input::Third, candidates)?;
-    let text = check_text(alloc, &requirements, &environment, &candidates, extras)?;
+    let text = check_text(
+        alloc,
+        &requirements,
+        &environment,
+        &candidates,
+        extras,
+        vars,
+    )?;
     match write_whole(output, text.as_bytes()) {
         Ok(()) => Ok(Status::Answered),
         Err(_) => Err(RunFault::Write),
@@ -51,20 +71,69 @@ fn check_text(
     environment: &[u8],
     candidates: &[u8],
     extras: &[&str],
+    vars: &Vars,
 ) -> Result<String, RunFault>
-    ensures { AnswersText result
-        (texts_of (map (λ e. e.now) extras.now) requirements.now environment.now candidates.now) }
+    ensures { AnswersText vars.now requirements.now result
+        (texts_of vars.now (map (λ e. e.now) extras.now) requirements.now environment.now candidates.now) }
 {
-    test_extras(alloc, extras)?;
-    let requirements = match Requirements::parse(alloc, requirements) {
-        Ok(requirements) => requirements,
-        Err(fault) => return Err(RunFault::of_requirements(fault)),
-    };
+    let extras = read_extras(alloc, extras)?;
+    let mut interner = Interner::new(alloc);
+    let requirements = read_requirements(alloc, Input::First, requirements, &mut interner, vars)?;
+    text_behind(
+        alloc,
+        &requirements,
+        &interner,
+        &extras,
+        environment,
+        candidates,
+    )
+}
+
+/// The text of the answer for requirements and extras that are read.
+fn text_behind(
+    alloc: Global,
+    requirements: &Requirements,
+    interner: &Interner,
+    extras: &[ExtraName],
+    environment: &[u8],
+    candidates: &[u8],
+) -> Result<String, RunFault>
+    requires { AreOfNodes interner.now.nodes requirements.now }
+    ensures { (vars : Variables) (said : List LineRecord) →
+        AllZip (StandsFor vars interner.now.nodes) requirements.now said →
+        AnswersBehind result (behind_lines extras.now said environment.now candidates.now) }
+{
     let environment = read_environment(alloc, environment)?;
-    let candidates = match Candidates::parse(alloc, candidates) {
-        Ok(candidates) => candidates,
-        Err(fault) => return Err(RunFault::of_candidates(fault)),
-    };
-    let answer = judge(alloc, &requirements, &environment, &candidates)?;
-    Ok(answer.text(alloc)?)
+    let candidates = read_candidates(alloc, Input::Third, candidates)?;
+    match answer_text(
+        alloc,
+        requirements,
+        interner,
+        &environment,
+        extras,
+        &candidates,
+    ) {
+        Ok(text) => Ok(text),
+        Err(_) => Err(RunFault::Memory),
+    }
+}
+
+/// The text of what the requirements ask for in the environment with the extras.
+fn answer_text(
+    alloc: Global,
+    requirements: &Requirements,
+    interner: &Interner,
+    environment: &MarkerEnvironment,
+    extras: &[ExtraName],
+    candidates: &Candidates,
+) -> Result<String, AllocError>
+    requires { AreOfNodes interner.now.nodes requirements.now }
+    ensures { IfOk result (λ text. (vars : Variables) (said : List LineRecord) →
+        AllZip (StandsFor vars interner.now.nodes) requirements.now said →
+        IsAnswerText any (asks_of (valuation_of environment.now extras.now) said) candidates.now
+        (string_bytes text)) }
+{
+    let admission = Admission::new(|_, _| true);
+    let answer = requirements.judge(alloc, interner, environment, extras, candidates, &admission)?;
+    answer.text(alloc, candidates)
 }

@@ -1,14 +1,18 @@
 //! How a command ends: its statuses, its refusals and their texts.
 
-ghost use Rattle.std.specs.Prelude.{◌≡◌, length, map, string_bytes, IfOk};
+ghost use Rattle.std.specs.Prelude.{◌≡◌, map, string_bytes, IfOk, IfSome};
 ghost use Rattle.pep508_environment.specs.Environment.{member_name};
+ghost use Rattle.reqs.specs.Ends.{place_of, of_input};
 ghost use Rattle.reqs.specs.Faults.{status_of, of_reading, of_requirements, of_environment, of_candidates};
-ghost use Rattle.reqs.specs.FaultText.{path_of, cause_text, input_text, line_text, member_text, fault_text};
+ghost use Rattle.reqs.specs.FaultText.{cause_text, input_text, line_text, member_text, requirement_text, fault_text};
 
 use pep508_environment::{EnvironmentError, EnvironmentMember};
+use pep508_error::Pep508Error;
+use pep508_url::VerbatimUrl;
 use reqs_io::ReadFault;
-use reqtable::{CandidateFault, CandidatesError, RequirementsError};
-use std::alloc::{AllocError, Global};
+use reqtable_requirements::RequirementsError;
+use reqtable_text::{CandidateFault, CandidatesError};
+use std::alloc::{AllocError, AllocFailed, Global};
 use std::fmt;
 use std::marker::Model;
 
@@ -21,15 +25,24 @@ pub enum Input {
 }
 
 impl Input {
-    /// The path of this input among those of a command line.
-    fn path<'a>(self, paths: &[&'a str]) -> &'a str
-        requires { length paths.now ≡ 3 }
-        ensures { result.now ≡ path_of (map (λ p. p.now) paths.now) self }
+    /// The place on the command line, from 0.
+    fn place(self) -> usize
+        ensures { result ≡ place_of self }
     {
         match self {
-            Input::First => paths[0],
-            Input::Second => paths[1],
-            Input::Third => paths[2],
+            Input::First => 0,
+            Input::Second => 1,
+            Input::Third => 2,
+        }
+    }
+
+    /// The path of this input among those of a command line, empty where there is none.
+    fn path<'a>(self, paths: &[&'a str]) -> &'a str
+        ensures { result.now ≡ of_input (map (λ p. p.now) paths.now) self }
+    {
+        match paths.get(self.place()) {
+            Some(path) => path,
+            None => "",
         }
     }
 }
@@ -113,8 +126,14 @@ pub enum RunFault {
     Extra {
         text: RefusedWord,
     },
-    /// A requirement line of a kind that is not read yet.
-    NotYet {
+    /// The first line that is not taken is no requirement (PEP 508, "Grammar").
+    Requirement {
+        input: Input,
+        number: usize,
+        error: Pep508Error<VerbatimUrl>,
+    },
+    /// The first line that is not taken has a marker with a version number that can't be raised.
+    NumberAtEnd {
         input: Input,
         number: usize,
     },
@@ -158,6 +177,16 @@ impl From<AllocError> for RunFault {
     }
 }
 
+impl<T: Drop> From<AllocFailed<T>> for RunFault {
+    ghost use Rattle.reqs.specs.declared.fault.RunFault.TheVariants.{Memory};
+
+    ghost from_gives = { λ _ fault. fault ≡ Memory };
+
+    fn from(_: AllocFailed<T>) -> RunFault {
+        RunFault::Memory
+    }
+}
+
 impl RunFault {
     /// The fault of an input that was not read whole.
     pub fn of_reading(input: Input, fault: ReadFault) -> Self
@@ -170,50 +199,39 @@ impl RunFault {
         }
     }
 
-    /// The fault of a list of requirements, the first input.
-    pub fn of_requirements(fault: RequirementsError) -> Self
-        ensures { result ≡ of_requirements fault }
+    /// The fault of a list of requirements.
+    pub fn of_requirements(input: Input, fault: RequirementsError) -> Self
+        ensures { result ≡ of_requirements input fault }
     {
         match fault {
-            RequirementsError::NotText { offset } => RunFault::NotText {
-                input: Input::First,
-                offset,
-            },
-            RequirementsError::NotYet { number } => RunFault::NotYet {
-                input: Input::First,
+            RequirementsError::NotText { offset } => RunFault::NotText { input, offset },
+            RequirementsError::Line { number, error } => RunFault::Requirement {
+                input,
                 number,
+                error,
             },
+            RequirementsError::NumberAtEnd { number } => RunFault::NumberAtEnd { input, number },
             RequirementsError::Memory => RunFault::Memory,
         }
     }
 
-    /// The fault of an environment, the second input.
-    pub fn of_environment(fault: EnvironmentError) -> Self
-        ensures { result ≡ of_environment fault }
+    /// The fault of the environment of this number in an input.
+    pub fn of_environment(input: Input, index: usize, fault: EnvironmentError) -> Self
+        ensures { result ≡ of_environment input index fault }
     {
-        let input = Input::Second;
         match fault {
             EnvironmentError::Float => RunFault::Float { input },
             EnvironmentError::Shape => RunFault::Shape { input },
-            EnvironmentError::Member(name) => RunFault::Member {
-                input,
-                index: 1,
-                name,
-            },
-            EnvironmentError::Version(name) => RunFault::Version {
-                input,
-                index: 1,
-                name,
-            },
+            EnvironmentError::Member(name) => RunFault::Member { input, index, name },
+            EnvironmentError::Version(name) => RunFault::Version { input, index, name },
             EnvironmentError::Memory => RunFault::Memory,
         }
     }
 
-    /// The fault of a candidate list, the third input.
-    pub fn of_candidates(fault: CandidatesError) -> Self
-        ensures { result ≡ of_candidates fault }
+    /// The fault of a candidate list.
+    pub fn of_candidates(input: Input, fault: CandidatesError) -> Self
+        ensures { result ≡ of_candidates input fault }
     {
-        let input = Input::Third;
         match fault {
             CandidatesError::NotText { offset } => RunFault::NotText { input, offset },
             CandidatesError::Line { number, cause } => RunFault::Candidate {
@@ -239,9 +257,8 @@ impl RunFault {
     /// What is said of the fault, without a line end. The paths are those of the inputs, in the
     /// order of the command line. Linear in the text.
     pub fn text(&self, alloc: Global, paths: &[&str]) -> Result<String, AllocError>
-        requires { length paths.now ≡ 3 }
-        ensures { IfOk result (λ text.
-            string_bytes text ≡ fault_text (map (λ p. p.now) paths.now) self.now) }
+        ensures { IfOk result (λ text. IfSome (fault_text (map (λ p. p.now) paths.now) self.now)
+            (λ wanted. string_bytes text ≡ wanted)) }
     {
         match self {
             RunFault::Read { input } => at(alloc, input.path(paths), "read fault"),
@@ -255,8 +272,18 @@ impl RunFault {
                 format!(in alloc; "{path}: not UTF-8 at byte {offset}")
             }
             RunFault::Extra { text } => format!(in alloc; "extra {text} is no name"),
-            RunFault::NotYet { input, number } => {
-                at_line(alloc, input.path(paths), *number, "not yet read")
+            RunFault::Requirement {
+                input,
+                number,
+                error,
+            } => { at_requirement(alloc, input.path(paths), *number, error) }
+            RunFault::NumberAtEnd { input, number } => {
+                at_line(
+                    alloc,
+                    input.path(paths),
+                    *number,
+                    "a version number can't be raised",
+                )
             }
             RunFault::Json { input } => at(alloc, input.path(paths), "not JSON"),
             RunFault::Float { input } => at(alloc, input.path(paths), "a number is a float"),
@@ -294,6 +321,22 @@ fn at_line(alloc: Global, path: &str, number: usize, fault: &str) -> Result<Stri
     ensures { IfOk result (λ text. string_bytes text ≡ line_text path.now number fault.now) }
 {
     format!(in alloc; "{path}: line {number}: {fault}")
+}
+
+/// A line that is no requirement.
+fn at_requirement(
+    alloc: Global,
+    path: &str,
+    number: usize,
+    error: &Pep508Error<VerbatimUrl>,
+) -> Result<String, AllocError>
+    ensures { IfOk result (λ text. IfSome (requirement_text path.now number error.now)
+        (λ wanted. string_bytes text ≡ wanted)) }
+{
+    let text = error.to_string(alloc)?;
+    let start = error.start();
+    let len = error.len();
+    format!(in alloc; "{path}: line {number}, byte {start}, length {len}\n{text}")
 }
 
 /// A fault of a member of an environment.

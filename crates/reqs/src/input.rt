@@ -1,25 +1,25 @@
 //! The inputs of a command: each read whole, and then read as what it is.
 
-ghost use Rattle.std.specs.Prelude.{◌≡◌, map, IfOk, IfErr, IsErr, true, false};
+ghost use Rattle.std.specs.Prelude.{◌≡◌, map, IfOk, IfErr};
+ghost use Rattle.std.specs.Prelude.{true, false};
 ghost use Rattle.std.specs.Str.{is_utf8};
 ghost use Rattle.std.specs.Str.Lossy.{utf8_valid_len};
 ghost use Rattle.serde_json.specs.Read.{read};
-ghost use Rattle.read_outcome.specs.Outcome.{Answers};
-ghost use Rattle.reqs.specs.Faults.{told_run};
-ghost use Rattle.reqs.specs.Inputs.{ReadsInput, extras_of, environment_in, environment_from};
+ghost use Rattle.reqs.specs.Faults.{AnswersRun};
+ghost use Rattle.reqs.specs.Inputs.{ReadsInput, extra_of, extras_of, AnswersLines};
+ghost use Rattle.reqs.specs.Inputs.{environment_in, environment_from, candidates_from};
 
 use crate::fault::{Input, RefusedWord, RunFault};
 use pep508_environment::MarkerEnvironment;
-use pep508_name::is_name;
+use pep508_name::{ExtraName, InvalidNameError};
+use pep508_tree::Interner;
+use pep508_url::Vars;
 use reqs_io::{ASK_LIMIT, INPUT_LIMIT, read_whole};
+use reqtable_requirements::Requirements;
+use reqtable_text::Candidates;
 use serde_json::Value;
-use std::alloc::{AllocError, Global};
+use std::alloc::Global;
 use std::io::Read;
-
-/// The environment variables by which URLs are expanded. No line that is read today has a URL, so
-/// none of them is kept yet.
-#[derive(Clone, Copy, Debug)]
-pub struct Vars;
 
 /// Reads an input to its end.
 pub fn read_input<R: Read>(alloc: Global, input: Input, reader: &mut R) -> Result<Vec<u8>, RunFault>
@@ -31,28 +31,44 @@ pub fn read_input<R: Read>(alloc: Global, input: Input, reader: &mut R) -> Resul
     }
 }
 
-/// Tests that each extra is a name, and takes memory only for one that is none. Nothing more is
-/// made of them yet, since no line that is read today asks for an extra.
-pub fn test_extras(alloc: Global, extras: &[&str]) -> Result<(), RunFault>
-    ensures answered { let words = map (λ e. e.now) extras.now in
-        Answers (λ _. words) told_run result (extras_of words) }
-    ensures grown { result ≡ Err RunFault.Memory → IsErr (extras_of (map (λ e. e.now) extras.now)) }
+/// Reads extras as names, in order.
+pub fn read_extras(alloc: Global, extras: &[&str]) -> Result<Vec<ExtraName>, RunFault>
+    ensures { AnswersRun (λ names. names.items) result (extras_of (map (λ e. e.now) extras.now)) }
 {
+    let mut names = Vec::new(alloc);
     for extra in extras {
-        if !is_name(extra) {
-            return Err(refused_extra(alloc, extra)?);
-        }
+        names.push(read_extra(alloc, extra)?)?;
     }
-    Ok(())
+    Ok(names)
 }
 
-/// The fault for an extra that is no name.
-fn refused_extra(alloc: Global, extra: &str) -> Result<RunFault, AllocError>
-    ensures { IfOk result (λ fault. fault ≡ RunFault.Extra extra.now) }
+/// Reads an extra as a name.
+fn read_extra(alloc: Global, extra: &str) -> Result<ExtraName, RunFault>
+    ensures { AnswersRun (λ name. name) result (extra_of extra.now) }
 {
-    Ok(RunFault::Extra {
-        text: RefusedWord::new(String::from_str(alloc, extra)?),
-    })
+    match ExtraName::from_str(alloc, extra) {
+        Ok(name) => Ok(name),
+        Err(InvalidNameError::InvalidName(text)) => Err(RunFault::Extra {
+            text: RefusedWord::new(text),
+        }),
+        Err(InvalidNameError::Memory) => Err(RunFault::Memory),
+    }
+}
+
+/// Reads a list of requirements.
+pub fn read_requirements(
+    alloc: Global,
+    input: Input,
+    bytes: &[u8],
+    interner: &mut Interner,
+    vars: &Vars,
+) -> Result<Requirements, RunFault>
+    ensures { AnswersLines vars.now interner.new.nodes input bytes.now result }
+{
+    match Requirements::parse(alloc, bytes, interner, vars) {
+        Ok(requirements) => Ok(requirements),
+        Err(fault) => Err(RunFault::of_requirements(input, fault)),
+    }
 }
 
 /// The text that an input's bytes are.
@@ -72,29 +88,38 @@ fn text_of(input: Input, bytes: &[u8]) -> Result<&str, RunFault>
 
 /// The environment that a JSON text is.
 fn environment_of(alloc: Global, text: &str) -> Result<MarkerEnvironment, RunFault>
-    ensures { Answers (λ e. e) told_run result (environment_in (read text.now)) }
+    ensures { AnswersRun (λ e. e) result (environment_in (read text.now)) }
 {
+    let input = Input::Second;
     let value = match Value::from_str(alloc, text) {
         Ok(value) => value,
         Err(error) => {
             if error.is_memory() {
                 return Err(RunFault::Memory);
             }
-            return Err(RunFault::Json {
-                input: Input::Second,
-            });
+            return Err(RunFault::Json { input });
         }
     };
     match MarkerEnvironment::from_value(alloc, &value) {
         Ok(environment) => Ok(environment),
-        Err(fault) => Err(RunFault::of_environment(fault)),
+        Err(fault) => Err(RunFault::of_environment(input, 1, fault)),
     }
 }
 
 /// Reads an environment from its bytes, JSON in UTF-8.
 #[tactic(auto, unfolding(crate::specs::Inputs::environment_from))]
 pub fn read_environment(alloc: Global, bytes: &[u8]) -> Result<MarkerEnvironment, RunFault>
-    ensures { Answers (λ e. e) told_run result (environment_from bytes.now) }
+    ensures { AnswersRun (λ e. e) result (environment_from bytes.now) }
 {
     environment_of(alloc, text_of(Input::Second, bytes)?)
+}
+
+/// Reads a candidate list.
+pub fn read_candidates(alloc: Global, input: Input, bytes: &[u8]) -> Result<Candidates, RunFault>
+    ensures { AnswersRun (λ candidates. candidates) result (candidates_from input bytes.now) }
+{
+    match Candidates::parse(alloc, bytes) {
+        Ok(candidates) => Ok(candidates),
+        Err(fault) => Err(RunFault::of_candidates(input, fault)),
+    }
 }

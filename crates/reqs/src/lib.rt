@@ -7,4 +7,4 @@ mod input;
 
 pub use checks::check;
 pub use fault::{Input, RefusedWord, RunFault, Status};
-pub use input::Vars;
+pub use pep508_url::Vars;

@@ -3,10 +3,11 @@
 ghost use Rattle.std.specs.Prelude.{◌≡◌, length};
 
 use crate::source::Source;
+use crate::variables::variables;
 use crate::words::{WordsFault, words};
 use clap::error::ErrorKind;
 use clap::{Arg, ArgMatches, Command, Error};
-use reqs::{Input, RunFault, Status, Vars, check};
+use reqs::{Input, RunFault, Status, check};
 use std::alloc::Global;
 use std::fs::File;
 use std::io;
@@ -45,7 +46,7 @@ pub fn run<R: Runtime + AllocGlobal>(rt: &R) -> ExitCode {
 fn matches<'a>(alloc: Global, words: &'a [String]) -> Result<ArgMatches<'a>, Error> {
     let requirements = Arg::new(alloc, "REQS")
         .help(
-            "The requirement lines, a file; - is standard input, here or in place of another file",
+            "The requirements, one a line, a file; - is standard input, here or in place of another file",
         )
         .required(true);
     let environment = Arg::new(alloc, "ENV")
@@ -127,13 +128,14 @@ fn check_files<R: Runtime + AllocGlobal>(
     let mut requirements = open(rt, Input::First, paths[0])?;
     let mut environment = open(rt, Input::Second, paths[1])?;
     let mut candidates = open(rt, Input::Third, paths[2])?;
+    let vars = variables(rt, rt.alloc())?;
     check(
         rt.alloc(),
         &mut requirements,
         &mut environment,
         &mut candidates,
         extras,
-        &Vars,
+        &vars,
         &mut io::writer(rt),
     )
 }

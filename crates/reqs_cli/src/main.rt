@@ -3,6 +3,7 @@
 
 mod command;
 mod source;
+mod variables;
 mod words;
 
 use std::process::ExitCode;

@@ -3,7 +3,7 @@
 use std::alloc::{AllocError, AllocFailed, Global};
 use std::env::{Env, FillError};
 
-/// How many bytes a word is first looked for in.
+/// How many bytes a word or a variable is first looked for in.
 const FIRST_SIZE: usize = 256;
 
 /// Why the words of the command line were not read.
@@ -32,7 +32,7 @@ pub fn words<E: Env>(env: &E, alloc: Global) -> Result<Vec<String>, WordsFault> 
     let mut words = Vec::new(alloc);
     words.push(String::from_str(alloc, "reqs")?)?;
     for place in 1..usize::MAX {
-        match bytes_of(env, alloc, place)? {
+        match filled(alloc, |buffer| env.arg(place, buffer))? {
             Some(bytes) => words.push(text_of(alloc, &bytes)?)?,
             None => break,
         }
@@ -48,13 +48,18 @@ fn text_of(alloc: Global, bytes: &[u8]) -> Result<String, WordsFault> {
     }
 }
 
-/// The bytes of the word at this place, if there are so many.
-fn bytes_of<E: Env>(env: &E, alloc: Global, place: usize) -> Result<Option<Vec<u8>>, AllocError> {
+/// The bytes that are written into a buffer where it is long enough, if there are any to be had.
+pub fn filled<F: Fn(&mut [u8]) -> Result<usize, FillError>>(
+    alloc: Global,
+    fill: F,
+) -> Result<Option<Vec<u8>>, AllocError>
+    requires { F.IsAlwaysCallable fill }
+{
     let mut size = FIRST_SIZE;
     for _ in 0..u64::MAX {
         let mut bytes = Vec::new(alloc);
         bytes.resize(size, 0)?;
-        match env.arg(place, &mut bytes) {
+        match fill(&mut bytes) {
             Ok(count) => {
                 bytes.truncate(count);
                 return Ok(Some(bytes));

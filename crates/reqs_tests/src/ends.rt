@@ -171,13 +171,14 @@ fn write_to<W: Write>(alloc: Global, output: &mut W) -> Result<Status, RunFault>
     let mut requirements = REQUIREMENTS;
     let mut environment = ENVIRONMENT.as_bytes();
     let mut candidates = CANDIDATES;
+    let vars = Vars::new(alloc, &[], "/")?;
     check(
         alloc,
         &mut requirements,
         &mut environment,
         &mut candidates,
         &[],
-        &Vars,
+        &vars,
         output,
     )
 }
@@ -187,13 +188,14 @@ fn read_from<R: Read>(alloc: Global, requirements: &mut R) -> Result<String, All
     let mut output = Vec::new(alloc);
     let mut environment = ENVIRONMENT.as_bytes();
     let mut candidates = CANDIDATES;
+    let vars = Vars::new(alloc, &[], "/")?;
     let result = check(
         alloc,
         requirements,
         &mut environment,
         &mut candidates,
         &[],
-        &Vars,
+        &vars,
         &mut output,
     );
     told(alloc, &output, result)
@@ -213,13 +215,14 @@ fn with_failing(alloc: Global, failing: usize) -> Result<String, AllocError> {
     let mut requirements = hesitantly(REQUIREMENTS, failing == 1);
     let mut environment = hesitantly(ENVIRONMENT.as_bytes(), failing == 2);
     let mut candidates = hesitantly(CANDIDATES, failing == 3);
+    let vars = Vars::new(alloc, &[], "/")?;
     let result = check(
         alloc,
         &mut requirements,
         &mut environment,
         &mut candidates,
         &[],
-        &Vars,
+        &vars,
         &mut output,
     );
     told(alloc, &output, result)

@@ -1,45 +1,63 @@
-use reqtable_lines::{Comparator, RequirementLine, Requirements, RequirementsError};
+use pep508_tree::Interner;
+use pep508_url::Vars;
+use reqtable_requirements::{Line, Requirements, RequirementsError};
 use reqtable_text::{CandidateFault, Candidates, CandidatesError};
 use std::alloc::Global;
 use std::fmt;
 use std::test::Fail;
 
-/// A line as `2 foo>=1.0 ; >=3.11`.
-fn shown(alloc: Global, line: &RequirementLine) -> Result<String, fmt::Error> {
-    let mut text = format!(in alloc; "{} {}{}", line.number, line.name, line.specifier)?;
-    if let Some(marker) = &line.marker {
-        let sign = match marker.comparator {
-            Comparator::Equal => "==",
-            Comparator::GreaterThanEqual => ">=",
-        };
-        write!(text, " ; {sign}{}", marker.version)?;
+/// A line as `2 foo[a]>=1.0`, with `; ..` behind it where it has a marker that may fail.
+fn shown(alloc: Global, line: &Line) -> Result<String, fmt::Error> {
+    let requirement = &line.requirement;
+    let mut text = format!(in alloc; "{} {}", line.number, requirement.name)?;
+    for extra in &requirement.extras {
+        write!(text, "[{extra}]")?;
+    }
+    if let Some(wanted) = &requirement.version_or_url {
+        write!(text, "{wanted}")?;
+    }
+    if !requirement.marker.is_true() {
+        text.push_str(" ; ..")?;
+    }
+    Ok(text)
+}
+
+/// The lines of a text as they are shown, or what is wrong with it.
+fn read(alloc: Global, text: &str) -> Result<String, fmt::Error> {
+    let vars = Vars::new(alloc, &[], "/w")?;
+    let mut interner = Interner::new(alloc);
+    match Requirements::parse(alloc, text.as_bytes(), &mut interner, &vars) {
+        Ok(read) => shown_lines(alloc, &read),
+        Err(RequirementsError::Line { number, error }) => format!(in alloc; "{number}: {error}"),
+        Err(error) => format!(in alloc; "{error:?}"),
+    }
+}
+
+fn shown_lines(alloc: Global, read: &Requirements) -> Result<String, fmt::Error> {
+    let mut text = String::new(alloc);
+    for line in read.lines() {
+        text.push_str(shown(alloc, line)?.as_str())?;
+        text.push('\n')?;
     }
     Ok(text)
 }
 
 #[test]
 fn reads_requirement_lines(rt: HostRuntime) -> Result<(), Fail> {
-    let alloc = rt.alloc();
     let text = "# a list\r\n\
         Foo_Bar>=1.16\n\
-        foo-bar == 1.19 \r\n\
+        foo-bar [b, a] ~= 1.19 \r\n\
         \u{3000}\n\
         \n\
         \x20\x20foo  >=  1.0;python_full_version >= '3.11'  # why\n\
-        a.b==2.0 ; python_full_version==\"3\" \n\
-        last==1\r";
-    let read = Requirements::parse(alloc, text.as_bytes()).expect(&rt, "a requirements text");
-    let want = [
-        "2 foo-bar>=1.16",
-        "3 foo-bar==1.19",
-        "6 foo>=1.0 ; >=3.11",
-        "7 a-b==2.0 ; ==3",
-        "8 last==1",
-    ];
-    assert_eq!(rt; read.lines().len(), want.len());
-    for (line, want) in read.lines().iter().zip(want) {
-        assert_eq!(rt; shown(alloc, line)?.as_str(), want);
-    }
+        a.b @ ./c ; 'x' == 'y'\n\
+        last\r";
+    let want = "2 foo-bar>=1.16\n\
+        3 foo-bar[b][a]~=1.19\n\
+        6 foo>=1.0 ; ..\n\
+        7 a-bfile:///w/c\n\
+        8 last\n";
+    assert_eq!(rt; read(rt.alloc(), text)?.as_str(), want);
     Ok(())
 }
 
@@ -70,25 +88,34 @@ fn reads_candidates_by_the_whole_grammar(rt: HostRuntime) -> Result<(), Fail> {
     Ok(())
 }
 
+/// Whether the answer for a text is the wanted one, or want of memory.
+fn is_so(alloc: Global, text: &str, wanted: &str) -> bool {
+    match read(alloc, text) {
+        Ok(text) => text.as_str() == wanted || text.as_str() == "Memory",
+        Err(_) => true,
+    }
+}
+
 // Passes whichever allocation fails: none may turn into another answer.
 #[test]
 fn want_of_memory_is_no_answer(rt: HostRuntime) {
     let alloc = rt.alloc();
-    let lines = Requirements::parse(alloc, b"a==1.2 ; python_full_version>='3'\nb>=2\nc>=4.5");
-    let refused = Requirements::parse(alloc, b"a==1.2\nb[x]>=2");
+    let fault =
+        "2: Missing closing bracket (expected ']', found end of dependency specification)\nb[x\n   ^";
+    assert!(rt;
+        is_so(
+            alloc,
+            "a==1.2 ; os_name == 'a'\nb>=2",
+            "1 a==1.2 ; ..\n2 b>=2\n"
+        )
+    );
+    assert!(rt; is_so(alloc, "a==1.2\nb[x", fault));
     let items = Candidates::parse(alloc, b"a 1.2\nb 2\nc 3");
     let faulty = Candidates::parse(alloc, b"a 1.2\nb! 2").err();
     let fault = CandidatesError::Line {
         number: 2,
         cause: CandidateFault::Name,
     };
-    assert!(rt; matches!(lines, Ok(_) | Err(RequirementsError::Memory)));
-    assert!(rt;
-        matches!(
-            refused,
-            Err(RequirementsError::NotYet { number: 2 } | RequirementsError::Memory)
-        )
-    );
     assert!(rt; matches!(items, Ok(_) | Err(CandidatesError::Memory)));
     assert!(rt; faulty == Some(fault) || faulty == Some(CandidatesError::Memory));
 }

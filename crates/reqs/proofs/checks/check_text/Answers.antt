@@ -1,38 +1,29 @@
-use Rattle.std.proofs.Common.{map, refl}
+use Rattle.std.proofs.Common.{◌∙◌, Ok, ap, sym}
 use Rattle.std.proofs.lemmas.Result.{err_from_is_err_and}
-use Rattle.reqtable.specs.Rows.{row_seen}
 use Rattle.reqs.specs.Inputs.{texts_of}
-use Rattle.reqs.proofs.Steps.{tells_rest, requirements_tell, candidates_tell}
+use Rattle.reqtable_requirements.proofs.Asked.{are_of_nodes}
+use Rattle.reqs.proofs.Steps.{refuses_rest, refuses_texts, lines_rest, whole}
 use Rattle.reqs.proofs.checks.check_text.Goals as goal
 
-pub returns-in_err-test_extras : goal.returns-in_err-test_extras
+pub returns-in_err-extras : goal.returns-in_err-extras
 unfolding texts_of
-returns-in_err-test_extras c =
+returns-in_err-extras c =
     let p = err_from_is_err_and c.from_residual.result c.from_residual.ensures.1 in
-    rw (p.1, p.2) (tells_rest _ _ _ c.in_err-test_extras.ensures.answered)
+    rw (p.1, p.2) (refuses_texts _ _ _ _ (refuses_rest _ _ _ c.in_err-extras.ensures))
 
-pub returns-in-Err : goal.returns-in-Err
+pub returns-in_err-requirements : goal.returns-in_err-requirements
 unfolding texts_of
-returns-in-Err c =
-    rw (c.of_requirements.ensures, c.in_ok-test_extras.ensures.answered)
-    (tells_rest _ _ _ (requirements_tell _ _ c.in-Err.ensures))
+returns-in_err-requirements c =
+    let p = err_from_is_err_and c.from_residual-in_err-requirements.result c.from_residual-in_err-requirements.ensures.1 in
+    rw (p.1, p.2, c.in_ok-extras.ensures) (lines_rest _ _ _ _ _ c.in_err-requirements.ensures)
 
-pub returns-in_err-environment : goal.returns-in_err-environment
-unfolding texts_of
-returns-in_err-environment c =
-    let p = err_from_is_err_and c.from_residual-in_err-environment.result c.from_residual-in_err-environment.ensures.1 in
-    rw (p.1, p.2, c.in_ok-test_extras.ensures.answered, c.in-Ok.ensures) (tells_rest _ _ _ c.in_err-environment.ensures)
-
-pub returns-in-Err-parse : goal.returns-in-Err-parse
-unfolding texts_of
-returns-in-Err-parse c =
-    rw (c.of_candidates.ensures, c.in_ok-test_extras.ensures.answered, c.in-Ok.ensures, c.in_ok-environment.ensures)
-    (tells_rest _ _ _ (candidates_tell _ _ c.in-Err-parse.ensures.answered))
+pub text_behind-requires : goal.text_behind-requires
+text_behind-requires c =
+    are_of_nodes c.args.vars.now _ _ c.in_ok-requirements.ensures.0 c.in_ok-requirements.ensures.2
 
 pub returns : goal.returns
-unfolding texts_of
-returns c = record {
-  read = record { lines = c.in-Ok.requirements; environment = c.in_ok-environment.environment; candidates = c.in-Ok-parse.candidates };
-  is_read = rw (c.in_ok-test_extras.ensures.answered, c.in-Ok.ensures, c.in_ok-environment.ensures, c.in-Ok-parse.ensures.answered) refl;
-  is_text = (map row_seen c.in_ok-answer.answer.rows.items, c.in_ok-answer.ensures, c.in_ok-text.ensures);
-}
+returns c =
+    whole c.args.vars.now _ c.args.requirements.now c.args.environment.now c.args.candidates.now c.deref.result.now
+    c.in_ok-requirements.ensures.0 (c.in_ok-extras.ensures ∙ ap (λ l. Ok l) (sym c.deref.ensures.value))
+    c.in_ok-requirements.ensures.1 c.text_behind.result
+    (c.text_behind.ensures c.args.vars.now c.in_ok-requirements.ensures.0 c.in_ok-requirements.ensures.2)

@@ -1,0 +1,55 @@
+//! The variables of the program's environment, whose values stand in URLs.
+
+ghost use Rattle.pep508_url.specs.Vars.{IsAbsolute};
+
+use crate::words::filled;
+use reqs::Vars;
+use std::alloc::{AllocError, Global};
+use std::env::Env;
+
+/// The project's directory where the environment tells none.
+const ROOT: &str = "/";
+
+/// The variables that are text. The project's directory is the value of `PWD`, where that is an absolute path.
+pub fn variables<E: Env>(env: &E, alloc: Global) -> Result<Vars, AllocError> {
+    let entries = entries(env, alloc)?;
+    let pairs = pairs(alloc, &entries)?;
+    Vars::new(alloc, &pairs, project_root(&pairs))
+}
+
+/// The entries of the environment that are text, as `NAME=value`.
+fn entries<E: Env>(env: &E, alloc: Global) -> Result<Vec<String>, AllocError> {
+    let mut entries = Vec::new(alloc);
+    for place in 0..usize::MAX {
+        let Some(bytes) = filled(alloc, |buffer| env.var_at(place, buffer))? else {
+            break;
+        };
+        if let Ok(text) = str::from_utf8(&bytes) {
+            entries.push(String::from_str(alloc, text)?)?;
+        }
+    }
+    Ok(entries)
+}
+
+/// Names with their values.
+fn pairs<'a>(alloc: Global, entries: &'a [String]) -> Result<Vec<(&'a str, &'a str)>, AllocError> {
+    let mut pairs = Vec::new(alloc);
+    for entry in entries {
+        if let Some(pair) = entry.as_str().split_once('=') {
+            pairs.push(pair)?;
+        }
+    }
+    Ok(pairs)
+}
+
+/// The project's directory.
+fn project_root<'a>(pairs: &[(&'a str, &'a str)]) -> &'a str
+    ensures { IsAbsolute result.now }
+{
+    for (name, value) in pairs {
+        if *name == "PWD" && value.starts_with('/') {
+            return value;
+        }
+    }
+    ROOT
+}
