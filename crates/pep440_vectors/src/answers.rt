@@ -22,54 +22,60 @@ pub fn answer(alloc: Global, question: &str) -> Result<String, AllocError> {
         Err(_) => return String::from_str(alloc, "no question"),
     };
     let kind = text_at(&question, 0);
-    let first = text_at(&question, 1);
-    match kind {
-        "print" => print(alloc, first),
-        "parts" => parts(alloc, first),
-        "order" => order(alloc, first, text_at(&question, 2)),
-        "specifier" => specifier(alloc, first),
-        "list" => list(alloc, first),
-        "contains" => contains(alloc, first, text_at(&question, 2)),
-        "range" => in_range(alloc, first, text_at(&question, 2)),
-        "intervals" => intervals(alloc, first),
-        "union" | "intersection" => in_both(alloc, kind, &question),
-        "takes" => takes(alloc, first, text_at(&question, 2)),
-        "version fault" => faults::version_fault(alloc, first),
-        "pattern" => faults::pattern(alloc, first),
-        "list fault" => faults::list_fault(alloc, first),
-        "set" | "release set" | "list set" | "release list set" | "end" => {
-            sets::answer(alloc, kind, first)
-        }
-        "want of memory"
-        | "operators"
-        | "operator"
-        | "specifiers"
-        | "specifier copy"
-        | "specifier parts"
-        | "specifier value"
-        | "specifiers of 1"
-        | "below"
-        | "up to"
-        | "included"
-        | "excluded"
-        | "unbounded" => { said::answer(alloc, kind, first, text_at(&question, 2)) }
-        "counted"
-        | "list of"
-        | "list of one"
-        | "list prints"
-        | "list value"
-        | "lists"
-        | "empty list"
-        | "list picture"
-        | "but from"
-        | "but up to"
-        | "around"
-        | "no intervals" => {
-            let (second, third) = (text_at(&question, 2), text_at(&question, 3));
-            lists::answer(alloc, kind, first, second, third)
-        }
-        _ => calls::answer(alloc, kind, first, text_at(&question, 2)),
+    let (first, second) = (text_at(&question, 1), text_at(&question, 2));
+    match told(alloc, kind, first, second, text_at(&question, 3))? {
+        Some(answer) => Ok(answer),
+        None => String::from_str(alloc, "no question"),
     }
+}
+
+/// The answer to a question of three texts, none for a kind that there isn't.
+fn told(
+    alloc: Global,
+    kind: &str,
+    first: &str,
+    second: &str,
+    third: &str,
+) -> Result<Option<String>, AllocError> {
+    if let Some(answer) = read(alloc, kind, first, second, third)? {
+        return Ok(Some(answer));
+    }
+    if let Some(answer) = faults::answer(alloc, kind, first)? {
+        return Ok(Some(answer));
+    }
+    if let Some(answer) = sets::answer(alloc, kind, first)? {
+        return Ok(Some(answer));
+    }
+    if let Some(answer) = said::answer(alloc, kind, first, second)? {
+        return Ok(Some(answer));
+    }
+    if let Some(answer) = lists::answer(alloc, kind, first, second, third)? {
+        return Ok(Some(answer));
+    }
+    calls::answer(alloc, kind, first, second)
+}
+
+/// The answer to a question on what texts are read as, none for another kind.
+fn read(
+    alloc: Global,
+    kind: &str,
+    first: &str,
+    second: &str,
+    third: &str,
+) -> Result<Option<String>, AllocError> {
+    Ok(Some(match kind {
+        "print" => print(alloc, first)?,
+        "parts" => parts(alloc, first)?,
+        "order" => order(alloc, first, second)?,
+        "specifier" => specifier(alloc, first)?,
+        "list" => list(alloc, first)?,
+        "contains" => contains(alloc, first, second)?,
+        "range" => in_range(alloc, first, second)?,
+        "intervals" => intervals(alloc, first)?,
+        "union" | "intersection" => in_both(alloc, kind, first, second, third)?,
+        "takes" => takes(alloc, first, second)?,
+        _ => return Ok(None),
+    }))
 }
 
 /// The text at a place of a list, empty where there is none.
@@ -221,10 +227,16 @@ fn intervals(alloc: Global, list: &str) -> Result<String, AllocError> {
 }
 
 /// Whether the union or the intersection of two lists' sets holds a version.
-fn in_both(alloc: Global, kind: &str, question: &Value) -> Result<String, AllocError> {
-    let left = range(alloc, text_at(question, 1))?;
-    let right = range(alloc, text_at(question, 2))?;
-    let candidate = version(alloc, text_at(question, 3))?;
+fn in_both(
+    alloc: Global,
+    kind: &str,
+    left: &str,
+    right: &str,
+    candidate: &str,
+) -> Result<String, AllocError> {
+    let left = range(alloc, left)?;
+    let right = range(alloc, right)?;
+    let candidate = version(alloc, candidate)?;
     let (Some(left), Some(right), Some(candidate)) = (left, right, candidate) else {
         return String::from_str(alloc, REFUSED);
     };

@@ -10,22 +10,27 @@ use std::alloc::{AllocError, Global};
 use std::cmp::Ordering;
 use std::hash::{DefaultHasher, Hash, Hasher};
 
-/// The answer to a question of two texts; `no question` for another kind.
-pub fn answer(alloc: Global, kind: &str, first: &str, second: &str) -> Result<String, AllocError> {
-    match kind {
-        "compare" => compare(alloc, first, second),
-        "traits" => traits(alloc, first),
-        "copy" | "release" | "trimmed" | "public" => turned(alloc, kind, first),
-        "raised" => raised(alloc, first),
-        "changed" => changed(alloc),
-        "early" => early(alloc, first),
-        "low" | "high" => marked(alloc, kind, first),
-        "value" => value(alloc, first),
-        "patterns" => patterns(alloc, first, second),
-        "pattern copy" => pattern_copy(alloc, first),
-        "pattern of 1.2" => pattern_made(alloc),
-        _ => String::from_str(alloc, "no question"),
-    }
+/// The answer to a question of two texts; none for another kind.
+pub fn answer(
+    alloc: Global,
+    kind: &str,
+    first: &str,
+    second: &str,
+) -> Result<Option<String>, AllocError> {
+    Ok(Some(match kind {
+        "compare" => compare(alloc, first, second)?,
+        "traits" => traits(alloc, first)?,
+        "copy" | "release" | "trimmed" | "public" => turned(alloc, kind, first)?,
+        "raised" => raised(alloc, first)?,
+        "changed" => changed(alloc)?,
+        "early" => early(alloc, first)?,
+        "low" | "high" => marked(alloc, kind, first)?,
+        "value" => value(alloc, first)?,
+        "patterns" => patterns(alloc, first, second)?,
+        "pattern copy" => pattern_copy(alloc, first)?,
+        "pattern of 1.2" => pattern_made(alloc)?,
+        _ => return Ok(None),
+    }))
 }
 
 pub fn sign(ordering: Ordering) -> &'static str {

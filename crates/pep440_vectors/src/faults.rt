@@ -6,8 +6,18 @@ use pep440_rs::{
 };
 use std::alloc::{AllocError, Global};
 
+/// The answer to a question on a text that may be none of its kind; none for another kind.
+pub fn answer(alloc: Global, kind: &str, text: &str) -> Result<Option<String>, AllocError> {
+    Ok(Some(match kind {
+        "version fault" => version_fault(alloc, text)?,
+        "pattern" => pattern(alloc, text)?,
+        "list fault" => list_fault(alloc, text)?,
+        _ => return Ok(None),
+    }))
+}
+
 /// What is wrong with a version's text.
-pub fn version_fault(alloc: Global, text: &str) -> Result<String, AllocError> {
+fn version_fault(alloc: Global, text: &str) -> Result<String, AllocError> {
     match Version::from_str(alloc, text) {
         Ok(version) => format!(in alloc; "read {version}"),
         Err(VersionParseError::Memory) => Err(AllocError),
@@ -16,7 +26,7 @@ pub fn version_fault(alloc: Global, text: &str) -> Result<String, AllocError> {
 }
 
 /// A pattern's version, and whether a star follows it.
-pub fn pattern(alloc: Global, text: &str) -> Result<String, AllocError> {
+fn pattern(alloc: Global, text: &str) -> Result<String, AllocError> {
     match VersionPattern::from_str(alloc, text) {
         Ok(pattern) => {
             let star = if pattern.is_wildcard() {
@@ -33,7 +43,7 @@ pub fn pattern(alloc: Global, text: &str) -> Result<String, AllocError> {
 }
 
 /// The first piece between commas that is none, its place in bytes, and what is wrong with it.
-pub fn list_fault(alloc: Global, text: &str) -> Result<String, AllocError> {
+fn list_fault(alloc: Global, text: &str) -> Result<String, AllocError> {
     match VersionSpecifiers::from_str(alloc, text) {
         Ok(list) => format!(in alloc; "read {list}"),
         Err(VersionSpecifiersParseError::Memory) => Err(AllocError),

@@ -13,28 +13,28 @@ use serde_json::Value;
 use std::alloc::{AllocError, Global};
 use std::ops::Bound;
 
-/// The answer to a question of three texts; `no question` for another kind.
+/// The answer to a question of three texts; none for another kind.
 pub fn answer(
     alloc: Global,
     kind: &str,
     first: &str,
     second: &str,
     third: &str,
-) -> Result<String, AllocError> {
-    match kind {
-        "counted" => counted(alloc, first, second),
-        "list of" => list_of(alloc, first, second, third),
-        "list of one" => list_of_one(alloc, first),
-        "list prints" => prints(alloc, first),
-        "list value" => value(alloc, first),
-        "lists" => compared(alloc, first, second),
-        "empty list" => empty(alloc, first),
-        "list picture" => picture(alloc, first),
-        "but from" | "but up to" => but(alloc, kind, first, second),
-        "around" => around(alloc, first, second, third),
-        "no intervals" => no_intervals(alloc),
-        _ => String::from_str(alloc, "no question"),
-    }
+) -> Result<Option<String>, AllocError> {
+    Ok(Some(match kind {
+        "counted" => counted(alloc, first, second)?,
+        "list of" => list_of(alloc, first, second, third)?,
+        "list of one" => list_of_one(alloc, first)?,
+        "list prints" => prints(alloc, first)?,
+        "list value" => value(alloc, first)?,
+        "lists" => compared(alloc, first, second)?,
+        "empty list" => empty(alloc, first)?,
+        "list picture" => picture(alloc, first)?,
+        "but from" | "but up to" => but(alloc, kind, first, second)?,
+        "around" => around(alloc, first, second, third)?,
+        "no intervals" => no_intervals(alloc)?,
+        _ => return Ok(None),
+    }))
 }
 
 /// Whether a counted list takes a version, asked twice, and how many of its members were asked by then.

@@ -16,21 +16,26 @@ use serde_json::Value;
 use std::alloc::{AllocError, Global};
 use std::ops::Bound;
 
-/// The answer to a question of two texts; `no question` for another kind.
-pub fn answer(alloc: Global, kind: &str, first: &str, second: &str) -> Result<String, AllocError> {
-    match kind {
-        "want of memory" => want_of_memory(alloc, first),
-        "operators" => operators(alloc),
-        "operator" => operator(alloc, first),
-        "specifiers" => specifiers(alloc, first, second),
-        "specifier copy" => copy(alloc, first),
-        "specifier parts" => parts(alloc, first),
-        "specifier value" => value(alloc, first),
-        "specifiers of 1" => made_of_operators(alloc),
-        "below" | "up to" => interval(alloc, kind, first, second),
-        "included" | "excluded" | "unbounded" => bounds(alloc, kind, first),
-        _ => String::from_str(alloc, "no question"),
-    }
+/// The answer to a question of two texts; none for another kind.
+pub fn answer(
+    alloc: Global,
+    kind: &str,
+    first: &str,
+    second: &str,
+) -> Result<Option<String>, AllocError> {
+    Ok(Some(match kind {
+        "want of memory" => want_of_memory(alloc, first)?,
+        "operators" => operators(alloc)?,
+        "operator" => operator(alloc, first)?,
+        "specifiers" => specifiers(alloc, first, second)?,
+        "specifier copy" => copy(alloc, first)?,
+        "specifier parts" => parts(alloc, first)?,
+        "specifier value" => value(alloc, first)?,
+        "specifiers of 1" => made_of_operators(alloc)?,
+        "below" | "up to" => interval(alloc, kind, first, second)?,
+        "included" | "excluded" | "unbounded" => bounds(alloc, kind, first)?,
+        _ => return Ok(None),
+    }))
 }
 
 /// What an error says of want of memory.

@@ -10,16 +10,16 @@ use std::fmt::Write;
 use std::ops::Bound;
 use version_ranges::Ranges;
 
-/// The answer to a question on a set; `no question` for another kind.
-pub fn answer(alloc: Global, kind: &str, text: &str) -> Result<String, AllocError> {
-    match kind {
-        "set" => set(alloc, text, false),
-        "release set" => set(alloc, text, true),
-        "list set" => list_set(alloc, text, false),
-        "release list set" => list_set(alloc, text, true),
-        "end" => end(alloc, text),
-        _ => String::from_str(alloc, "no question"),
-    }
+/// The answer to a question on a set; none for another kind.
+pub fn answer(alloc: Global, kind: &str, text: &str) -> Result<Option<String>, AllocError> {
+    Ok(Some(match kind {
+        "set" => set(alloc, text, false)?,
+        "release set" => set(alloc, text, true)?,
+        "list set" => list_set(alloc, text, false)?,
+        "release list set" => list_set(alloc, text, true)?,
+        "end" => end(alloc, text)?,
+        _ => return Ok(None),
+    }))
 }
 
 /// The intervals, with brackets for bounds that are held, as `[1.2.dev0, 1.3.dev0)`.
