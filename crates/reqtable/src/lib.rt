@@ -1,17 +1,10 @@
-//! The judge of requirement lists: which packages an environment asks for, and the greatest
-//! candidate that each of them may have.
+//! Requirement lists and candidate lists, and their judge: which packages an environment asks for, and the
+//! greatest candidate that each of them may have.
+//!
+//! The crates below hold the code; this one passes on what they offer, and requirements as `pep508_rs`.
 #![tactic(auto)]
 
-pub mod answer;
-mod judgement;
-pub mod laws;
-
-pub use answer::{Answer, Outcome, Row};
-pub use judgement::judge;
-pub use pep440_rs;
-pub use pep508_environment::{EnvironmentError, EnvironmentMember, MarkerEnvironment};
-pub use pep508_name::{ExtraName, InvalidNameError, PackageName};
-pub use reqtable_lines::{
-    Comparator, Comparison, RequirementLine, Requirements, RequirementsError,
-};
+pub use pep508_rs;
+pub use reqtable_answer::{Admission, Answer, Outcome, Row, answer_to};
+pub use reqtable_requirements::{Line, Requirements, RequirementsError};
 pub use reqtable_text::{Candidate, CandidateFault, Candidates, CandidatesError};

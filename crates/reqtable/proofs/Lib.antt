@@ -1,3 +1,0 @@
-pub mod Greatest
-pub mod Packages
-pub mod OneText

@@ -1,5 +1,0 @@
-pub mod Runs
-pub mod Spaced
-pub mod Releases
-pub mod Grammar
-pub mod Whole

@@ -1,3 +1,0 @@
-pub mod RequirementLine
-pub mod Reading
-pub mod Requirements
