@@ -97,9 +97,8 @@ pub trait MarkerTreeDisjointness {
     /// Whether no environment and no extras make both trees hold. Makes no tree and counts nothing; the only
     /// refusal is want of memory for the pairs that were looked at.
     ///
-    /// Looks at each pair of a node of the one and a node of the other at most once, and never further down than
-    /// to the first that holds: no more pairs than `MarkerTree::and` takes steps. No recursion, however deep the
-    /// trees are.
+    /// Looks at each pair of a node of the one and a node of the other at most once, the pairs of the highest
+    /// places first, and ends at the first that meets. No recursion, however deep the trees are.
     fn is_disjoint(
         self,
         alloc: Global,

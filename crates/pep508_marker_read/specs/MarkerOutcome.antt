@@ -13,7 +13,8 @@ use Rattle.pep508_marker_read.specs.Formula.{Formula, formula_holds}
 use Rattle.pep508_marker_read.specs.MarkerReading.{Marker}
 
 -- a tree of these nodes that holds where the formula does
-pub record IsTreeOf (nodes : List NodeRecord) (tree : Tree) (formula : Formula ExpressionRecord) : Type 0 where
+pub record IsTreeOf (nodes : List NodeRecord) (tree : Tree) (formula : Formula ExpressionRecord)
+    : Type 0 where
   pub made : IsTree nodes tree
   pub truth : (v : Valuation) → holds nodes tree v ≡ formula_holds (λ e. expression_holds e v) formula
 

@@ -18,7 +18,8 @@ pub(crate) fn cmp_trees(
 ) -> Ordering
     requires tree { IsTree interner.now.nodes tree }
     requires other { IsTree other_interner.now.nodes other }
-    ensures { result ≡ diagram_cmp (diagram_of interner.now.nodes tree) (diagram_of other_interner.now.nodes other) }
+    ensures { result ≡ diagram_cmp (diagram_of interner.now.nodes tree)
+        (diagram_of other_interner.now.nodes other) }
 {
     interner.are_sound();
     other_interner.are_sound();

@@ -34,8 +34,8 @@ abbrev pub member_text : List ℕ → ℕ → List ℕ → List ℕ → List ℕ
 member_text path index name what =
     path ++ codes ": environment " ++ decimal index ++ codes ": member " ++ name ++ codes " is " ++ what
 
--- a line that is no requirement, with the place in bytes of what is at fault, and below it what is said of it;
--- where that is the text of the crate `url`, nothing is claimed
+-- a line that is no requirement, with the place in bytes of what is at fault, and below it what is said of
+-- it; where that is the text of the crate `url`, nothing is claimed
 abbrev pub requirement_text : List ℕ → ℕ → Pep508Error Verbatim VerbatimUrlError → Option (List ℕ)
 requirement_text path number error =
     Some (path ++ codes ": line " ++ decimal number ++ codes ", byte " ++ decimal error.excerpt.start

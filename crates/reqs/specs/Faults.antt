@@ -80,8 +80,8 @@ IsPlain (TooLong input) = ⊥
 IsPlain (Requirement input number error) = ⊥
 IsPlain fault = Unit {0}
 
--- it is of texts of which the first is a list of requirements: what it says of a line that is no requirement is
--- the error of some line with this number
+-- it is of texts of which the first is a list of requirements: what it says of a line that is no requirement
+-- is the error of some line with this number
 abbrev pub IsOfTexts : Variables → List ℕ → RunFault → Type 0
 IsOfTexts vars bytes (Read input) = ⊥
 IsOfTexts vars bytes Write = ⊥

@@ -62,7 +62,8 @@ lines_from vars input bytes = with_cause (requirements_cause input) (requirement
 -- what reading a list of requirements returned, with these nodes afterwards
 abbrev pub AnswersLines : Variables → List NodeRecord → Input → List ℕ → Result (List Line) RunFault → Type 0
 AnswersLines vars nodes input bytes (Ok lines) =
-    (said : List LineRecord) × (lines_from vars input bytes ≡ Ok said) × AllZip (StandsFor vars nodes) lines said
+    (said : List LineRecord) × (lines_from vars input bytes ≡ Ok said)
+    × AllZip (StandsFor vars nodes) lines said
 AnswersLines vars nodes input bytes (Err fault) =
     RefusesTexts vars bytes fault (lines_from vars input bytes)
 

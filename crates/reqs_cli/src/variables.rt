@@ -10,7 +10,8 @@ use std::env::Env;
 /// The project's directory where the environment tells none.
 const ROOT: &str = "/";
 
-/// The variables that are text. The project's directory is the value of `PWD`, where that is an absolute path.
+/// The variables that are text. The project's directory is the value of `PWD`, where that is an absolute
+/// path.
 pub fn variables<E: Env>(env: &E, alloc: Global) -> Result<Vars, AllocError> {
     let entries = entries(env, alloc)?;
     let pairs = pairs(alloc, &entries)?;

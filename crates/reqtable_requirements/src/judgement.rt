@@ -23,10 +23,11 @@ use reqtable_text::Candidates;
 use std::alloc::{AllocError, Global};
 
 impl Requirements {
-    /// The answer in an environment with extras: a row for each package that a line which applies there asks for.
+    /// The answer in an environment with extras: a row for each package that a line which applies there asks
+    /// for.
     ///
-    /// The interner is the one that the lines were read with. Evaluates each line's marker once, and answers as
-    /// `answer_to` does; takes memory for a list of the lines that apply and for the answer.
+    /// The interner is the one that the lines were read with. Evaluates each line's marker once, and answers
+    /// as `answer_to` does; takes memory for a list of the lines that apply and for the answer.
     pub fn judge<F: Fn(&Version, bool) -> bool>(
         &self,
         alloc: Global,
@@ -38,8 +39,10 @@ impl Requirements {
     ) -> Result<Answer, AllocError>
         requires trees { AreOfNodes interner.now.nodes self.now }
         requires callable { F.IsAlwaysCallable admission.now }
-        ensures answered { IfOk result (λ answer. (vars : Variables) (said : List LineRecord) (admits : Admits) →
-            AllZip (StandsFor vars interner.now.nodes) self.now said → AnswersBy (F.post admission.now) admits →
+        ensures answered { IfOk result (λ answer.
+            (vars : Variables) (said : List LineRecord) (admits : Admits) →
+            AllZip (StandsFor vars interner.now.nodes) self.now said →
+            AnswersBy (F.post admission.now) admits →
             IsAnswer admits (asks_of (valuation_of environment.now extras.now) said) candidates.now
             (map row_seen answer.rows.items)) }
         ensures places { IfOk result (λ answer.
