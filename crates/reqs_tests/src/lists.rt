@@ -28,8 +28,10 @@ fn read(alloc: Global, text: &str) -> Result<String, fmt::Error> {
     let mut interner = Interner::new(alloc);
     match Requirements::parse(alloc, text.as_bytes(), &mut interner, &vars) {
         Ok(read) => shown_lines(alloc, &read),
-        Err(RequirementsError::Line { number, error }) => format!(in alloc; "{number}: {error}"),
-        Err(error) => format!(in alloc; "{error:?}"),
+        Err(RequirementsError::Line { number, error }) => {
+            Ok(format!(in alloc; "{number}: {error}")?)
+        }
+        Err(error) => Ok(format!(in alloc; "{error:?}")?),
     }
 }
 
@@ -101,7 +103,7 @@ fn is_so(alloc: Global, text: &str, wanted: &str) -> bool {
 fn want_of_memory_is_no_answer(rt: HostRuntime) {
     let alloc = rt.alloc();
     let fault =
-        "2: Missing closing bracket (expected ']', found end of dependency specification)\nb[x\n   ^";
+        "2: Missing closing bracket (expected ']', found end of dependency specification)\nb[x\n ^";
     assert!(rt;
         is_so(
             alloc,
