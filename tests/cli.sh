@@ -278,7 +278,7 @@ status=$?
 wants "a refused list beside standard input" 2 "" "reqs: unread: $no_name"
 "$program" check - E C >out 2>err <unread
 status=$?
-wants "a refused list from standard input" 2 "" "reqs: -: line 3: not yet read$n"
+wants "a refused list from standard input" 2 "" "reqs: -: $no_name"
 run check - E -
 wants "standard input twice" 2 "" "reqs: standard input (-) can be one input alone$n"
 run check R - - dev
