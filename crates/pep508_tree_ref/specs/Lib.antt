@@ -1,4 +1,5 @@
 pub mod TreeOrder
 pub mod TreeIn
 pub mod TreeOrderLaws
+pub mod TreeText
 pub mod Sides

@@ -1,26 +1,34 @@
 //! Marker trees with their interners.
 
-ghost use Rattle.std.specs.Prelude.{◌≡◌, refl};
+ghost use Rattle.std.specs.Prelude.{◌≡◌, refl, Some};
 ghost use Rattle.std.specs.Cmp.{partial_equiv_from_equiv, eq_by_cmp_equiv, partial_order_from_total};
 ghost use Rattle.std.specs.Ordering.{eq_by_cmp, as_partial_cmp};
 ghost use Rattle.pep508_diagram.specs.Question.{IsCanonical};
 ghost use Rattle.pep508_tree.specs.Meaning.{IsTree};
 ghost use Rattle.pep508_tree_ref.specs.TreeIn.{diagram_in, tree_in_cmp};
 ghost use Rattle.pep508_tree_ref.specs.TreeOrderLaws.{trees_in_total};
+ghost use Rattle.pep508_tree_ref.specs.TreeText.{tree_text};
 
 use crate::order::cmp_trees;
+use pep508_marker_dnf::MarkerTreeText;
 use pep508_tree::{Interner, MarkerTree};
+use std::alloc::Global;
 use std::cmp::Ordering;
+use std::fmt;
 use std::marker::Model;
 
 /// A marker tree with the interner that it was made with, so that trees of different interners can be compared
-/// (PEP 508, "Environment Markers"). Contracts see it as the tree with the interner's nodes.
+/// and printed (PEP 508, "Environment Markers"). Contracts see it as the tree with the interner's nodes.
 ///
 /// Two of them are equal exactly where their trees mean the same (`laws::equal_trees_mean_the_same`). A
 /// comparison takes no memory and ends at the first difference; trees that are equal are walked along each path
 /// from the root, of which there can be many more than nodes.
+///
+/// It prints as the tree's text, `true` where the tree always holds. The text is made while it is printed, and
+/// where memory for it is refused, printing fails with `fmt::Error`.
 #[derive(Drop)]
 pub struct MarkerTreeRef<'a> {
+    alloc: Global,
     interner: &'a Interner,
     tree: MarkerTree,
 }
@@ -37,13 +45,17 @@ impl<'a> Model for MarkerTreeRef<'a> {
 }
 
 impl<'a> MarkerTreeRef<'a> {
-    /// A tree with its interner. Takes no memory.
-    pub fn new(interner: &'a Interner, tree: MarkerTree) -> MarkerTreeRef<'a>
+    /// A tree with its interner, and what gives memory for its text where it is printed. Takes none.
+    pub fn new(alloc: Global, interner: &'a Interner, tree: MarkerTree) -> MarkerTreeRef<'a>
         requires { IsTree interner.now.nodes tree }
         ensures nodes { result.nodes ≡ interner.now.nodes }
         ensures tree { result.tree ≡ tree }
     {
-        MarkerTreeRef { interner, tree }
+        MarkerTreeRef {
+            alloc,
+            interner,
+            tree,
+        }
     }
 
     /// No question is asked in vain in it. Does nothing.
@@ -90,5 +102,17 @@ impl PartialOrd for MarkerTreeRef<'_> {
 
     fn partial_cmp(&self, other: &Self) -> Option<Ordering> {
         Some(self.cmp(other))
+    }
+}
+
+impl fmt::Display for MarkerTreeRef<'_> {
+    ghost output = { λ r. Some (tree_text (diagram_in r)) };
+
+    fn fmt<W: fmt::Write>(&self, f: &mut fmt::Formatter<W>) -> fmt::Result {
+        match self.tree.try_to_string(self.alloc, self.interner) {
+            Ok(Some(text)) => f.write_str(&text),
+            Ok(None) => f.write_str("true"),
+            Err(_) => Err(fmt::Error),
+        }
     }
 }
