@@ -30,6 +30,7 @@ pub struct MarkerTreeRef<'a> {
 impl<'a> MarkerTreeRef<'a> {
     ghost use Rattle.std.specs.Prelude.{◌≡◌};
     ghost use Rattle.pep508_diagram.specs.Question.{IsCanonical};
+    ghost use Rattle.pep508_diagram.specs.Shortened.{HasShortVersions};
     ghost use Rattle.pep508_tree.specs.Meaning.{IsTree};
     ghost use Rattle.pep508_tree_ref.specs.Lent.{tree_in};
     ghost use Rattle.pep508_tree_ref.specs.TreeIn.{diagram_in};
@@ -46,10 +47,11 @@ impl<'a> MarkerTreeRef<'a> {
         }
     }
 
-    /// No question is asked in vain in it. Does nothing.
-    #[tactic(auto, using(pep508_tree::proofs::OneTree::canonical_trees))]
+    /// No question is asked in vain in it, and each version is in its shortest spelling. Does nothing.
+    #[tactic(auto, using(pep508_tree::proofs::OneTree::canonical_trees, pep508_tree::proofs::Shortened::short_trees))]
     pub fn is_canonical(&self)
-        ensures { IsCanonical (diagram_in (tree_in self.now)) }
+        ensures canonical { IsCanonical (diagram_in (tree_in self.now)) }
+        ensures short { HasShortVersions (diagram_in (tree_in self.now)) }
     {
         self.interner.are_sound()
     }
