@@ -70,8 +70,11 @@ branches_tied (branch ∷ later) =
 short_tied : (n : NodeRecord) → node_cmp (short_node n) n ≡ Equal
 unfolding node_cmp
 short_tied (Versions key first later) =
-    rw (tied_itself trees_total first, tied_itself nat_list_cmp_total (node_place (Versions key first later)),
-    branches_tied later) refl
+    rw (
+      tied_itself trees_total first,
+      tied_itself nat_list_cmp_total (node_place (Versions key first later)),
+      branches_tied later,
+    ) refl
 short_tied (Texts key first later) = tied_itself nodes_total (Texts key first later)
 short_tied (Flagged flag set unset) = tied_itself nodes_total (Flagged flag set unset)
 
