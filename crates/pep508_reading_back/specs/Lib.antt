@@ -1,4 +1,4 @@
 pub mod Readable
 pub mod Clauses
 pub mod Diagrams
-pub mod RequirementPrint
+pub mod ReadableRequirements

@@ -1,9 +1,11 @@
 //! Marker trees with their interners.
 
-ghost use Rattle.std.specs.Prelude.{◌≡◌, refl, Some};
+ghost use Rattle.std.specs.Prelude.{◌≡◌, refl, Some, IfOk, option_map};
 ghost use Rattle.std.specs.Cmp.{partial_equiv_from_equiv, eq_by_cmp_equiv, partial_order_from_total};
 ghost use Rattle.std.specs.Ordering.{eq_by_cmp, as_partial_cmp};
+ghost use Rattle.std.specs.String.{string_bytes};
 ghost use Rattle.pep508_diagram.specs.Question.{IsCanonical};
+ghost use Rattle.pep508_marker_text.specs.MarkerText.{marker_text};
 ghost use Rattle.pep508_tree.specs.Meaning.{IsTree};
 ghost use Rattle.pep508_tree_ref.specs.TreeIn.{diagram_in, tree_in_cmp};
 ghost use Rattle.pep508_tree_ref.specs.TreeOrderLaws.{trees_in_total};
@@ -12,7 +14,7 @@ ghost use Rattle.pep508_tree_ref.specs.TreeText.{tree_text};
 use crate::order::cmp_trees;
 use pep508_marker_dnf::MarkerTreeText;
 use pep508_tree::{Interner, MarkerTree};
-use std::alloc::Global;
+use std::alloc::{AllocError, Global};
 use std::cmp::Ordering;
 use std::fmt;
 use std::marker::Model;
@@ -56,6 +58,14 @@ impl<'a> MarkerTreeRef<'a> {
             interner,
             tree,
         }
+    }
+
+    /// The text of the tree, made by the allocator of `new`; none where the tree always holds. Takes memory as
+    /// `MarkerTreeText::try_to_string`.
+    pub fn try_to_string(&self) -> Result<Option<String>, AllocError>
+        ensures { IfOk result (λ text. option_map string_bytes text ≡ marker_text (diagram_in self.now)) }
+    {
+        self.tree.try_to_string(self.alloc, self.interner)
     }
 
     /// No question is asked in vain in it. Does nothing.
