@@ -2,3 +2,4 @@ pub mod Readable
 pub mod Clauses
 pub mod Diagrams
 pub mod ReadableRequirements
+pub mod Views
