@@ -29,6 +29,7 @@ use Rattle.pep508_reading_back.specs.Views.{AsksAgain, IsReadableAsked, IsReadab
 use Rattle.pep508_reading_back.proofs.ReadRequirements.{WrittenIsRead, one_answer, printed_read}
 use Rattle.pep508_reading_back.proofs.Requirements.{requirement_read}
 use Rattle.pep508_tree.specs.Meaning.{NodeRecord, holds}
+use Rattle.pep508_tree_ref.specs.Lent.{tree_in}
 use Rattle.pep508_tree_ref.specs.TreeIn.{diagram_in}
 use Rattle.pep508_url.specs.Vars.{Variables}
 
@@ -90,28 +91,28 @@ abbrev SaysAt : {T E : Type 0} → List NodeRecord → RequirementRef T E → Op
     → Result (Requirement T E) (Pep508Error T E) → Type 0
 SaysAt nodes shown what (Ok r) =
     (r.name ≡ shown.name.now) × (r.extras.items ≡ shown.extras.now) × AsksAgain what r.version_or_url
-    × ((v : Valuation) → holds nodes r.marker v ≡ truth (diagram_in shown.marker) v)
+    × ((v : Valuation) → holds nodes r.marker v ≡ truth (diagram_in (tree_in shown.marker)) v)
 SaysAt nodes shown what (Err error) = IsWantOfMemory error.message
 
 by_front : {T E : Type 0} (Reads : List ℕ → Result T E → Type 0) (lacks : E → Bool) (vars : Variables)
     (nodes : List NodeRecord) (written : WrittenIsRead) (taken : WrittenIsTaken Reads lacks vars)
     (shown : RequirementRef T E) (what : Option (VersionOrUrl T E)) (source : Source) →
     ((other : Option (VersionOrUrl T E)) → AsksFor Reads source other → AsksAgain what other) →
-    IsReadableFront (shown_front shown source) → IsCanonical (diagram_in shown.marker) →
-    IsReadableDiagram (diagram_in shown.marker) → diagram_in shown.marker ≢ Leaf false →
-    (text : List ℕ) → requirement_text (shown_front shown source) (marker_text (diagram_in shown.marker)) ≡ text →
+    IsReadableFront (shown_front shown source) → IsCanonical (diagram_in (tree_in shown.marker)) →
+    IsReadableDiagram (diagram_in (tree_in shown.marker)) → diagram_in (tree_in shown.marker) ≢ Leaf false →
+    (text : List ℕ) → requirement_text (shown_front shown source) (marker_text (diagram_in (tree_in shown.marker))) ≡ text →
     (result : Result (Requirement T E) (Pep508Error T E)) →
     ReadsRequirement Reads lacks vars nodes text result → SaysAt nodes shown what result
 by_front Reads lacks vars nodes written taken shown what source same good canonical readable k text e (Ok r) h =
     let front = shown_front shown source in
-    let d = diagram_in shown.marker in
+    let d = diagram_in (tree_in shown.marker) in
     let whole = requirement_read front d good canonical readable k in
     let said = printed_read written Reads nodes (requirement_text front (marker_text d)) front d r whole
     (subst (λ t. IsRead Reads nodes t r) (sym e) h) in
     (said.0, said.1, same r.version_or_url said.2, said.3)
 by_front Reads lacks vars nodes written taken shown what source same good canonical readable k text e (Err error) h =
     let front = shown_front shown source in
-    let d = diagram_in shown.marker in
+    let d = diagram_in (tree_in shown.marker) in
     let whole = requirement_read front d good canonical readable k in
     wants_memory Reads lacks vars written taken text front whole.0 good.is_source
     (subst (λ t. IsMarkedText t front whole.0) e whole.1) error.message h.cause
@@ -124,9 +125,9 @@ by_asked : {T E : Type 0} (Reads : List ℕ → Result T E → Type 0) (lacks : 
     (output : T → Option (List ℕ)) (shown : RequirementRef T E) (what : Option (VersionOrUrl T E)) →
     name_of shown.name.now ≡ Some shown.name.now →
     AllByRecursion (λ name. name_of name ≡ Some name) shown.extras.now → IsReadableAsked what →
-    IsCanonical (diagram_in shown.marker) → IsReadableDiagram (diagram_in shown.marker) →
-    diagram_in shown.marker ≢ Leaf false → (text : List ℕ) →
-    option_map (λ front. requirement_text front (marker_text (diagram_in shown.marker)))
+    IsCanonical (diagram_in (tree_in shown.marker)) → IsReadableDiagram (diagram_in (tree_in shown.marker)) →
+    diagram_in (tree_in shown.marker) ≢ Leaf false → (text : List ℕ) →
+    option_map (λ front. requirement_text front (marker_text (diagram_in (tree_in shown.marker))))
     (option_map (shown_front shown) (source_of output what)) ≡ Some text →
     (result : Result (Requirement T E) (Pep508Error T E)) →
     ReadsRequirement Reads lacks vars nodes text result → SaysAt nodes shown what result
@@ -149,7 +150,7 @@ said_back nodes shown (Err error) h = h
 
 pub view_reads_back : {T E : Type 0} (Reads : List ℕ → Result T E → Type 0) (lacks : E → Bool) (vars : Variables)
     (nodes : List NodeRecord) (written : WrittenIsRead) (taken : WrittenIsTaken Reads lacks vars)
-    (output : T → Option (List ℕ)) (shown : RequirementRef T E) → IsCanonical (diagram_in shown.marker) →
+    (output : T → Option (List ℕ)) (shown : RequirementRef T E) → IsCanonical (diagram_in (tree_in shown.marker)) →
     IsReadableView shown → (text : List ℕ) → printed output shown ≡ Some text →
     (result : Result (Requirement T E) (Pep508Error T E)) →
     ReadsRequirement Reads lacks vars nodes text result → ReadsBack nodes shown result

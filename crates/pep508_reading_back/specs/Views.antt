@@ -9,6 +9,7 @@ use Rattle.pep508_error.specs.declared.error.Pep508Error.{Pep508Error}
 use Rattle.pep508_error.specs.declared.error.Pep508ErrorSource.{Pep508ErrorSource}
 use Rattle.pep508_error.specs.declared.error.Pep508ErrorSource.TheVariants.{Memory}
 use Rattle.pep508_tree.specs.Meaning.{NodeRecord, holds}
+use Rattle.pep508_tree_ref.specs.Lent.{tree_in}
 use Rattle.pep508_tree_ref.specs.TreeIn.{diagram_in}
 use Rattle.pep508_requirement.specs.declared.requirement.Requirement.{Requirement}
 use Rattle.pep508_requirement.specs.declared.version_or_url.VersionOrUrl.{VersionOrUrl}
@@ -29,8 +30,8 @@ pub record IsReadableView {T E : Type 0} (shown : RequirementRef T E) : Type 0 w
   pub name : name_of shown.name.now ≡ Some shown.name.now
   pub extras : AllByRecursion (λ name. name_of name ≡ Some name) shown.extras.now
   pub asked : IsReadableAsked shown.version_or_url.now
-  pub marker : IsReadableDiagram (diagram_in shown.marker)
-  pub sometimes : diagram_in shown.marker ≢ Leaf false
+  pub marker : IsReadableDiagram (diagram_in (tree_in shown.marker))
+  pub sometimes : diagram_in (tree_in shown.marker) ≢ Leaf false
 
 -- nothing where nothing was asked for, and the same specifiers by version
 abbrev pub AsksAgain : {T E : Type 0} → Option (VersionOrUrl T E) → Option (VersionOrUrl T E) → Type 0
@@ -44,7 +45,7 @@ pub record SaysShown {T E : Type 0} (nodes : List NodeRecord) (shown : Requireme
   pub name : r.name ≡ shown.name.now
   pub extras : r.extras.items ≡ shown.extras.now
   pub asks : AsksAgain shown.version_or_url.now r.version_or_url
-  pub marker : (v : Valuation) → holds nodes r.marker v ≡ truth (diagram_in shown.marker) v
+  pub marker : (v : Valuation) → holds nodes r.marker v ≡ truth (diagram_in (tree_in shown.marker)) v
 
 abbrev pub IsWantOfMemory : {T E : Type 0} → Pep508ErrorSource T E → Type 0
 IsWantOfMemory Memory = Unit {0}

@@ -11,7 +11,7 @@ use Rattle.pep508_name.specs.Origin.{Origin, File, Project, Workspace, origin_of
 use Rattle.pep508_requirement.specs.declared.version_or_url.VersionOrUrl.{VersionOrUrl}
 use Rattle.pep508_requirement.specs.declared.version_or_url.VersionOrUrl.TheVariants as asked
 use Rattle.pep508_requirement_ref.specs.declared.requirement_ref.RequirementRef.{RequirementRef}
-use Rattle.pep508_tree_ref.specs.TreeIn.{tree_in_cmp}
+use Rattle.pep508_tree_ref.specs.Lent.{tree_ref_cmp}
 
 -- specifiers before URLs
 abbrev pub asked_cmp : {T E : Type 0} → (T → T → Ordering) → VersionOrUrl T E → VersionOrUrl T E → Ordering
@@ -39,5 +39,5 @@ requirement_cmp url_cmp a b =
     ordering_then (name_cmp a.name.now b.name.now)
     (ordering_then (slice_cmp name_cmp a.extras.now b.extras.now)
     (ordering_then (option_cmp (asked_cmp url_cmp) a.version_or_url.now b.version_or_url.now)
-    (ordering_then (tree_in_cmp a.marker b.marker)
+    (ordering_then (tree_ref_cmp a.marker b.marker)
     (option_cmp (λ x y. origin_cmp (origin_of x) (origin_of y)) a.origin.now b.origin.now))))

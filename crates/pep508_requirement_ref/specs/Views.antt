@@ -1,7 +1,9 @@
 -- What views of requirements show, and what they print. `output` says what a URL prints, if it says anything.
 use Rattle.std.specs.Prelude.{◌≡◌, ℕ, List, Option, Some, None, option_map}
 use Rattle.pep508_tree.specs.Meaning.{NodeRecord}
-use Rattle.pep508_tree_ref.specs.TreeIn.{TreeIn, diagram_in}
+use Rattle.pep508_tree_ref.specs.declared.tree_ref.MarkerTreeRef.{MarkerTreeRef}
+use Rattle.pep508_tree_ref.specs.Lent.{tree_in}
+use Rattle.pep508_tree_ref.specs.TreeIn.{diagram_in}
 use Rattle.pep508_marker_text.specs.MarkerText.{marker_text}
 use Rattle.pep508_requirement_text.specs.FrontReading.{Front, Source}
 use Rattle.pep508_requirement_text.specs.FrontReading.Source.{Any, Specifiers, Url}
@@ -19,18 +21,18 @@ pub record IsViewOf {T E : Type 0} (nodes : List NodeRecord) (r : Requirement T 
   pub name : shown.name.now ≡ r.name
   pub extras : shown.extras.now ≡ r.extras.items
   pub version_or_url : shown.version_or_url.now ≡ r.version_or_url
-  pub marker : shown.marker ≡ record { nodes = nodes; tree = r.marker }
+  pub marker : tree_in shown.marker ≡ record { nodes = nodes; tree = r.marker }
   pub origin : shown.origin.now ≡ r.origin
 
 pub record IsUnnamedViewOf {T E : Type 0} (nodes : List NodeRecord) (r : UnnamedRequirement T E)
     (shown : UnnamedRequirementRef T E) : Type 0 where
   pub url : shown.url.now ≡ r.url
   pub extras : shown.extras.now ≡ r.extras.items
-  pub marker : shown.marker ≡ record { nodes = nodes; tree = r.marker }
+  pub marker : tree_in shown.marker ≡ record { nodes = nodes; tree = r.marker }
 
 -- the text of a marker, where it doesn't always hold
-abbrev pub marker_text_in : TreeIn → Option (List ℕ)
-marker_text_in marker = marker_text (diagram_in marker)
+abbrev pub marker_text_in : MarkerTreeRef → Option (List ℕ)
+marker_text_in marker = marker_text (diagram_in (tree_in marker))
 
 -- what is asked for, a URL by its print
 abbrev pub source_of : {T E : Type 0} → (T → Option (List ℕ)) → Option (VersionOrUrl T E) → Option Source

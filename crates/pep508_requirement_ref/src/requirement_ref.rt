@@ -5,6 +5,7 @@ ghost use Rattle.serde_json.specs.View.{view};
 ghost use Rattle.serde_json.specs.Find.{as_str};
 ghost use Rattle.pep508_diagram.specs.Question.{IsCanonical};
 ghost use Rattle.pep508_tree.specs.Meaning.{IsTree};
+ghost use Rattle.pep508_tree_ref.specs.Lent.{tree_in};
 ghost use Rattle.pep508_tree_ref.specs.TreeIn.{diagram_in};
 ghost use Rattle.pep508_requirement_ref.specs.Views.{IsViewOf, printed};
 
@@ -56,7 +57,7 @@ impl<'a, T: Pep508Url> RequirementRef<'a, T> {
 
     /// No question is asked in vain in the marker. Does nothing.
     pub fn is_canonical(&self)
-        ensures { IsCanonical (diagram_in self.now.marker) }
+        ensures { IsCanonical (diagram_in (tree_in self.now.marker)) }
     {
         self.marker.is_canonical()
     }

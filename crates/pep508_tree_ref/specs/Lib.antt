@@ -2,4 +2,5 @@ pub mod TreeOrder
 pub mod TreeIn
 pub mod TreeOrderLaws
 pub mod TreeText
+pub mod Lent
 pub mod Sides
