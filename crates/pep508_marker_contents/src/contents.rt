@@ -6,6 +6,7 @@ ghost use Rattle.pep508_tree.specs.Tree.{Tree, always};
 ghost use Rattle.pep508_tree.specs.Meaning.{IsTree, holds};
 
 use pep508_tree::{Interner, MarkerTree};
+use pep508_tree_laws::constants_are_named;
 use std::marker::Model;
 
 /// A marker tree that doesn't always hold, and so has a text. Contracts see it as the tree.
@@ -68,7 +69,7 @@ impl MarkerTreeWithContents for MarkerTree {
     ghost named = { λ tree. tree };
 
     fn contents(self, interner: &Interner) -> Option<MarkerTreeContents> {
-        interner.are_sound();
+        constants_are_named(interner);
         if self.is_true() {
             return None;
         }

@@ -7,6 +7,7 @@ mod answers;
 mod environment;
 mod pairs;
 mod reading;
+mod shown;
 mod simplified;
 mod told;
 mod views;

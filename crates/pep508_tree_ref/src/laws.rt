@@ -5,7 +5,6 @@ ghost use Rattle.std.specs.Cmp.{IsTotalOrder};
 ghost use Rattle.std.specs.Ordering.{eq_by_cmp};
 ghost use Rattle.pep508_diagram.specs.Diagram.{Diagram};
 ghost use Rattle.pep508_diagram.specs.Question.{Question, Valuation, truth, IsCanonical};
-ghost use Rattle.pep508_marker_text.specs.Spelling.{HasShortVersions};
 ghost use Rattle.pep508_tree_ref.specs.Lent.{tree_in, tree_ref_cmp};
 ghost use Rattle.pep508_tree_ref.specs.TreeIn.{diagram_in};
 ghost use Rattle.pep508_tree_ref.specs.TreeOrder.{diagram_cmp};
@@ -37,12 +36,12 @@ pub fn equal_trees_mean_the_same(tree: &MarkerTreeRef, other: &MarkerTreeRef)
     other.is_canonical();
 }
 
-/// And they then print the same, where their versions have one spelling.
-#[tactic(auto, using(crate::proofs::Printed::tied_print_the_same))]
+/// So equal trees have one diagram, and print the same.
+#[tactic(auto, using(crate::proofs::Printed::tied_are_same, crate::proofs::Printed::tied_print_the_same))]
 pub fn equal_trees_print_the_same(tree: &MarkerTreeRef, other: &MarkerTreeRef)
-    ensures { HasShortVersions (diagram_in (tree_in tree.now)) →
-        HasShortVersions (diagram_in (tree_in other.now)) →
-        IsTrue (eq_by_cmp tree_ref_cmp tree.now other.now) →
+    ensures diagram { IsTrue (eq_by_cmp tree_ref_cmp tree.now other.now) →
+        diagram_in (tree_in tree.now) ≡ diagram_in (tree_in other.now) }
+    ensures text { IsTrue (eq_by_cmp tree_ref_cmp tree.now other.now) →
         tree_text (diagram_in (tree_in tree.now)) ≡ tree_text (diagram_in (tree_in other.now)) }
 {
     tree.is_canonical();

@@ -31,6 +31,7 @@ impl<'a> MarkerTreeRef<'a> {
     ghost use Rattle.std.specs.Prelude.{◌≡◌, IfOk, option_map};
     ghost use Rattle.std.specs.String.{string_bytes};
     ghost use Rattle.pep508_diagram.specs.Question.{IsCanonical};
+    ghost use Rattle.pep508_diagram.specs.Shortened.{HasShortVersions};
     ghost use Rattle.pep508_marker_text.specs.MarkerText.{marker_text};
     ghost use Rattle.pep508_tree.specs.Meaning.{IsTree};
     ghost use Rattle.pep508_tree_ref.specs.Lent.{tree_in};
@@ -51,15 +52,17 @@ impl<'a> MarkerTreeRef<'a> {
     /// The text of the tree, made by the allocator of `new`; none where the tree always holds. Takes memory as
     /// `MarkerTreeText::try_to_string`.
     pub fn try_to_string(&self) -> Result<Option<String>, AllocError>
-        ensures { IfOk result (λ text. option_map string_bytes text ≡ marker_text (diagram_in (tree_in self.now))) }
+        ensures { IfOk result (λ text.
+            option_map string_bytes text ≡ marker_text (diagram_in (tree_in self.now))) }
     {
         self.tree.try_to_string(self.alloc, self.interner)
     }
 
-    /// No question is asked in vain in it. Does nothing.
-    #[tactic(auto, using(pep508_tree::proofs::OneTree::canonical_trees))]
+    /// No question is asked in vain in it, and each version is in its shortest spelling. Does nothing.
+    #[tactic(auto, using(pep508_tree::proofs::OneTree::canonical_trees, pep508_tree::proofs::Shortened::short_trees))]
     pub fn is_canonical(&self)
-        ensures { IsCanonical (diagram_in (tree_in self.now)) }
+        ensures canonical { IsCanonical (diagram_in (tree_in self.now)) }
+        ensures short { HasShortVersions (diagram_in (tree_in self.now)) }
     {
         self.interner.are_sound()
     }
