@@ -1,5 +1,4 @@
 -- The order of requirements: the first of their fields that differ decides. No place in an interner is in it.
-use Rattle.std.specs.Prelude.{◌≡◌, List}
 use Rattle.std.specs.Ordering.{nat_cmp, ordering_then}
 use Rattle.std.specs.Option.{option_cmp}
 use Rattle.std.specs.Cmp.Lexicographic.{slice_cmp}

@@ -1,5 +1,6 @@
 -- What views of requirements show, and what they print. `output` says what a URL prints, if it says anything.
 use Rattle.std.specs.Prelude.{◌≡◌, ℕ, List, Option, Some, None, option_map}
+use Rattle.pep508_diagram.specs.Question.{Valuation, truth}
 use Rattle.pep508_tree.specs.Meaning.{NodeRecord}
 use Rattle.pep508_tree_ref.specs.declared.tree_ref.MarkerTreeRef.{MarkerTreeRef}
 use Rattle.pep508_tree_ref.specs.Lent.{tree_in}
@@ -54,3 +55,11 @@ abbrev pub printed_unnamed : {T E : Type 0} → (T → Option (List ℕ)) → Un
     → Option (List ℕ)
 printed_unnamed output shown =
     option_map (λ url. unnamed_text url shown.extras.now (marker_text_in shown.marker)) (output shown.url.now)
+
+-- they have the same name, extras and specifiers or URL, and markers of one meaning; origins are not looked at
+pub record SayTheSame {T E : Type 0} (a b : RequirementRef T E) : Type 0 where
+  pub name : a.name.now ≡ b.name.now
+  pub extras : a.extras.now ≡ b.extras.now
+  pub version_or_url : a.version_or_url.now ≡ b.version_or_url.now
+  pub marker : (v : Valuation)
+      → truth (diagram_in (tree_in a.marker)) v ≡ truth (diagram_in (tree_in b.marker)) v

@@ -4,6 +4,7 @@ ghost use Rattle.std.specs.Prelude.{IfOk, IfSome, ◌≡◌, Some};
 ghost use Rattle.serde_json.specs.View.{view};
 ghost use Rattle.serde_json.specs.Find.{as_str};
 ghost use Rattle.pep508_diagram.specs.Question.{IsCanonical};
+ghost use Rattle.pep508_diagram.specs.Shortened.{HasShortVersions};
 ghost use Rattle.pep508_tree.specs.Meaning.{IsTree};
 ghost use Rattle.pep508_tree_ref.specs.Lent.{tree_in};
 ghost use Rattle.pep508_tree_ref.specs.TreeIn.{diagram_in};
@@ -55,9 +56,10 @@ impl<'a, T: Pep508Url> RequirementRef<'a, T> {
         }
     }
 
-    /// No question is asked in vain in the marker. Does nothing.
+    /// No question is asked in vain in the marker, and each version is in its shortest spelling. Does nothing.
     pub fn is_canonical(&self)
-        ensures { IsCanonical (diagram_in (tree_in self.now.marker)) }
+        ensures canonical { IsCanonical (diagram_in (tree_in self.now.marker)) }
+        ensures short { HasShortVersions (diagram_in (tree_in self.now.marker)) }
     {
         self.marker.is_canonical()
     }
