@@ -26,6 +26,7 @@ pub use pep508_name::{ExtraName, InvalidNameError, PackageName, RequirementOrigi
 pub use pep508_requirement::{
     Extras, Requirement, UnnamedRequirement, VersionOrUrl, VersionOrUrlRef,
 };
+pub use pep508_requirement_ref::{RequirementRef, UnnamedRequirementRef};
 pub use pep508_simplification::MarkerTreeSimplification;
 pub use pep508_tree::{Interner, MarkerTree};
 pub use pep508_tree_ref::MarkerTreeRef;

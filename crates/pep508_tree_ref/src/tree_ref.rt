@@ -5,7 +5,7 @@ ghost use Rattle.pep508_tree.specs.Meaning.{IsTree};
 use crate::order::cmp_trees;
 use pep508_marker_dnf::MarkerTreeText;
 use pep508_tree::{Interner, MarkerTree};
-use std::alloc::Global;
+use std::alloc::{AllocError, Global};
 use std::cmp::Ordering;
 use std::fmt;
 
@@ -28,9 +28,11 @@ pub struct MarkerTreeRef<'a> {
 }
 
 impl<'a> MarkerTreeRef<'a> {
-    ghost use Rattle.std.specs.Prelude.{◌≡◌};
+    ghost use Rattle.std.specs.Prelude.{◌≡◌, IfOk, option_map};
+    ghost use Rattle.std.specs.String.{string_bytes};
     ghost use Rattle.pep508_diagram.specs.Question.{IsCanonical};
     ghost use Rattle.pep508_diagram.specs.Shortened.{HasShortVersions};
+    ghost use Rattle.pep508_marker_text.specs.MarkerText.{marker_text};
     ghost use Rattle.pep508_tree.specs.Meaning.{IsTree};
     ghost use Rattle.pep508_tree_ref.specs.Lent.{tree_in};
     ghost use Rattle.pep508_tree_ref.specs.TreeIn.{diagram_in};
@@ -45,6 +47,15 @@ impl<'a> MarkerTreeRef<'a> {
             interner,
             tree,
         }
+    }
+
+    /// The text of the tree, made by the allocator of `new`; none where the tree always holds. Takes memory as
+    /// `MarkerTreeText::try_to_string`.
+    pub fn try_to_string(&self) -> Result<Option<String>, AllocError>
+        ensures { IfOk result (λ text.
+            option_map string_bytes text ≡ marker_text (diagram_in (tree_in self.now))) }
+    {
+        self.tree.try_to_string(self.alloc, self.interner)
     }
 
     /// No question is asked in vain in it, and each version is in its shortest spelling. Does nothing.
