@@ -5,7 +5,7 @@ use Rattle.reqtable_answer.specs.Answer.{by_version, first_greatest}
 use Rattle.reqtable_answer.specs.Groups.{numbered_seen, passes_by}
 use Rattle.reqtable_answer.proofs.Greatest.{best_better, first_greatest-best}
 use Rattle.reqtable_answer.proofs.Passing.{by_version_total, passes_same}
-use Rattle.reqtable_answer.proofs.choosing.greatest.Goals as goal
+use Rattle.reqtable_answer.proofs.choosing.greatest_by.Goals as goal
 
 pub loop-candidate-preserved : goal.loop-candidate-preserved
 loop-candidate-preserved g c =

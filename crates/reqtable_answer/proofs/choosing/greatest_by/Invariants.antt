@@ -3,7 +3,7 @@ use Rattle.reqtable_answer.specs.Admission.{Admits, AnswersBy}
 use Rattle.reqtable_answer.specs.Answer.{by_version}
 use Rattle.reqtable_answer.specs.Groups.{passes_by, numbered_seen}
 use Rattle.reqtable_answer.proofs.Greatest.{IsBest}
-use Rattle.reqtable_answer.proofs.choosing.greatest.Given as goal
+use Rattle.reqtable_answer.proofs.choosing.greatest_by.Given as goal
 
 abbrev pub invariant-loop-candidate : goal.invariant-loop-candidate
 invariant-loop-candidate g l = record {
