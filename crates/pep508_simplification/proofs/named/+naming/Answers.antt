@@ -122,7 +122,7 @@ with_named-remember-requires-clause-found g t c =
           (joined_named R old now root c.deref-3.result.now new simple o is keeps made
           (meet_by (IsNamed R old now) c.deref-2.result.now (children_of o) c.in_ok-trees.trees.items c.deref-3.result.now
           (c.deref-2.ensures.value ∙ c.in_ok-children.ensures
-    ∙ ap (λ at. children_of (record_of at)) c.deref.ensures) c.deref-3.ensures.value
+          ∙ ap (λ at. children_of (record_of at)) c.deref.ensures) c.deref-3.ensures.value
           c.in_ok-trees.ensures.named) c.in_ok-simple.ensures.made));
     }
 
@@ -150,7 +150,7 @@ with_named-returns-clause-found g t c =
           (joined_named R old now root c.deref-3.result.now new simple o is keeps made
           (meet_by (IsNamed R old now) c.deref-2.result.now (children_of o) c.in_ok-trees.trees.items c.deref-3.result.now
           (c.deref-2.ensures.value ∙ c.in_ok-children.ensures
-    ∙ ap (λ at. children_of (record_of at)) c.deref.ensures) c.deref-3.ensures.value
+          ∙ ap (λ at. children_of (record_of at)) c.deref.ensures) c.deref-3.ensures.value
           c.in_ok-trees.ensures.named) c.in_ok-simple.ensures.made)));
       kept = c.in_ok-remember.ensures;
     }
