@@ -1,3 +1,4 @@
+pub mod Near
 pub mod Sifting
 pub mod Natural
 pub mod Texts

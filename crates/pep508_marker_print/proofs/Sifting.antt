@@ -1,12 +1,11 @@
 -- Sifting a list step by step.
 use Rattle.std.proofs.Common.{◌≡◌, ℕ, zero, suc, ◌+◌, ◌<◌, Bool, true, false, ◌&&◌, ◌||◌, cond, List, [], ◌∷◌, ◌++◌, map, take, drop, length, add-one, refl, sym, ap, ◌∙◌, arith}
-use Rattle.std.specs.Prelude.{reverse, Vec}
+use Rattle.std.specs.Prelude.{reverse}
 use Rattle.std.specs.List.{list_any, list_all, remove}
-use Rattle.std.proofs.lemmas.List.{reverse-append, map-append}
+use Rattle.std.proofs.lemmas.List.{reverse-append}
 use Rattle.std.proofs.lemmas.List.Folds.{list_any-append}
 use Rattle.std.proofs.lemmas.List.Sorted.{list_any-IsPermutation, IsPermutation-reverse}
 use Rattle.pep508_marker_text.specs.Simplified.{sifted, has_some, spares, is_needless, is_covered, stands_in, shortened_behind}
-use Rattle.pep508_marker_print.specs.Terms.{lists_of}
 use Rattle.pep508_marker_print.specs.Places.{first_dropped}
 
 -- a list around one of its places
@@ -89,25 +88,17 @@ module _ {A : Type 0} (drops : A → List A → Bool) where
 
 -- ---- the order of others doesn't matter
 
-any_map : {A B : Type 0} (p : B → Bool) (f : A → B) (xs : List A) →
-    list_any p (map f xs) ≡ list_any (λ x. p (f x)) xs
-any_map p f [] = refl
-any_map p f (x ∷ xs) = ap (λ b. p (f x) || b) (any_map p f xs)
-
-module _ {T Y : Type 0} (done later : List (Vec T Y)) where
-  pub any_turned : (p : List T → Bool) →
-      list_any p (lists_of done ++ lists_of later) ≡ list_any p (lists_of done ++ lists_of (reverse later))
+module _ {T : Type 0} (done later : List (List T)) where
+  pub any_turned : (p : List T → Bool) → list_any p (done ++ later) ≡ list_any p (done ++ reverse later)
   any_turned p =
-      list_any-append p (lists_of done) (lists_of later)
-      ∙ ap (λ b. list_any p (lists_of done) || b)
-      (any_map p (λ clause. clause.items) later
-      ∙ list_any-IsPermutation (λ clause. p clause.items) later (reverse later) (IsPermutation-reverse later)
-      ∙ sym (any_map p (λ clause. clause.items) (reverse later)))
-      ∙ sym (list_any-append p (lists_of done) (lists_of (reverse later)))
+      list_any-append p done later
+      ∙ ap (λ b. list_any p done || b)
+      (list_any-IsPermutation p later (reverse later) (IsPermutation-reverse later))
+      ∙ sym (list_any-append p done (reverse later))
 
   module _ (same opposite : T → T → Bool) where
-    pub needless_turned : is_needless same opposite (lists_of done ++ lists_of later)
-        ≡ is_needless same opposite (lists_of done ++ lists_of (reverse later))
+    pub needless_turned : is_needless same opposite (done ++ later)
+        ≡ is_needless same opposite (done ++ reverse later)
     needless_turned = λ i term rest. has_some rest && any_turned (spares same opposite term rest) i
 
 pub popped : {A : Type 0} (xs : List A) (x : A) → reverse (xs ++ x ∷ []) ≡ x ∷ reverse xs
@@ -119,64 +110,48 @@ pub stands_beside : {T : Type 0} (same opposite : T → T → Bool) (front behin
     ≡ (stands_in same opposite front term || stands_in same opposite behind term)
 stands_beside same opposite front behind term = list_any-append (same term) front behind
 
-module _ {T Y : Type 0} (same opposite : T → T → Bool) where
-  pub spared_beside : (done later : List (Vec T Y)) (term : T) (rest : List T) →
-      list_any (spares same opposite term rest) (lists_of done ++ lists_of later)
-      ≡ (list_any (spares same opposite term rest) (lists_of done)
-      || list_any (spares same opposite term rest) (lists_of later))
-  spared_beside done later term rest =
-      list_any-append (spares same opposite term rest) (lists_of done) (lists_of later)
-
-  pub covered_beside : (clause : List T) (done later : List (Vec T Y)) →
-      is_covered same opposite clause (lists_of done ++ lists_of later)
-      ≡ (is_covered same opposite clause (lists_of done) || is_covered same opposite clause (lists_of later))
+module _ {T : Type 0} (same opposite : T → T → Bool) where
+  pub covered_beside : (clause : List T) (done later : List (List T)) →
+      is_covered same opposite clause (done ++ later)
+      ≡ (is_covered same opposite clause done || is_covered same opposite clause later)
   covered_beside clause done later =
-      list_any-append (λ other. list_all (stands_in same opposite clause) other) (lists_of done) (lists_of later)
+      list_any-append (λ other. list_all (stands_in same opposite clause) other) done later
 
   -- one clause is shortened
-  pub shorten_step : (all : List (List T)) (whole done later : List (Vec T Y)) (x y : Vec T Y)
-      (new : List (Vec T Y)) →
-      all ≡ shortened_behind same opposite (lists_of done) (lists_of (reverse whole)) →
-      whole ≡ later ++ x ∷ [] →
-      y.items ≡ sifted (is_needless same opposite (lists_of done ++ lists_of later)) [] x.items →
-      new ≡ done ++ y ∷ [] →
-      all ≡ shortened_behind same opposite (lists_of new) (lists_of (reverse later))
+  pub shorten_step : (all whole done later : List (List T)) (x y : List T) (new : List (List T)) →
+      all ≡ shortened_behind same opposite done (reverse whole) → whole ≡ later ++ x ∷ [] →
+      y ≡ sifted (is_needless same opposite (done ++ later)) [] x → new ≡ done ++ y ∷ [] →
+      all ≡ shortened_behind same opposite new (reverse later)
   shorten_step all whole done later x y new known is short pushed =
-      let behind = lists_of (reverse later) in
       known
-      ∙ ap (λ w. shortened_behind same opposite (lists_of done) (lists_of (reverse w))) is
-      ∙ ap (λ w. shortened_behind same opposite (lists_of done) (lists_of w)) (popped later x)
-      ∙ ap (λ terms. shortened_behind same opposite (lists_of done ++ terms ∷ []) behind)
-      (ap (λ drops. sifted drops [] x.items) (sym (needless_turned done later same opposite)) ∙ sym short)
-      ∙ ap (λ front. shortened_behind same opposite front behind)
-      (sym (map-append (λ clause. clause.items) done (y ∷ [])))
-      ∙ ap (λ w. shortened_behind same opposite (lists_of w) behind) (sym pushed)
+      ∙ ap (λ w. shortened_behind same opposite done (reverse w)) is
+      ∙ ap (shortened_behind same opposite done) (popped later x)
+      ∙ ap (λ terms. shortened_behind same opposite (done ++ terms ∷ []) (reverse later))
+      (ap (λ drops. sifted drops [] x) (sym (needless_turned done later same opposite)) ∙ sym short)
+      ∙ ap (λ w. shortened_behind same opposite w (reverse later)) (sym pushed)
 
   -- one clause is kept or not
-  module _ (all : List (List T)) (whole kept later : List (Vec T Y)) (x : Vec T Y)
-      (known : all ≡ sifted (is_covered same opposite) (lists_of kept) (lists_of (reverse whole)))
+  module _ (all whole kept later : List (List T)) (x : List T)
+      (known : all ≡ sifted (is_covered same opposite) kept (reverse whole))
       (is : whole ≡ later ++ x ∷ []) where
     abbrev next_by : Bool → List (List T)
     next_by covered =
-        cond covered (sifted (is_covered same opposite) (lists_of kept) (lists_of (reverse later)))
-        (sifted (is_covered same opposite) (lists_of kept ++ x.items ∷ []) (lists_of (reverse later)))
+        cond covered (sifted (is_covered same opposite) kept (reverse later))
+        (sifted (is_covered same opposite) (kept ++ x ∷ []) (reverse later))
 
-    next_is : all ≡ next_by (is_covered same opposite x.items (lists_of kept ++ lists_of later))
+    next_is : all ≡ next_by (is_covered same opposite x (kept ++ later))
     next_is =
         known
-        ∙ ap (λ w. sifted (is_covered same opposite) (lists_of kept) (lists_of (reverse w))) is
-        ∙ ap (λ w. sifted (is_covered same opposite) (lists_of kept) (lists_of w)) (popped later x)
-        ∙ ap next_by (sym (any_turned kept later (λ other. list_all (stands_in same opposite x.items) other)))
+        ∙ ap (λ w. sifted (is_covered same opposite) kept (reverse w)) is
+        ∙ ap (sifted (is_covered same opposite) kept) (popped later x)
+        ∙ ap next_by (sym (any_turned kept later (λ other. list_all (stands_in same opposite x) other)))
 
-    pub drop_step : is_covered same opposite x.items (lists_of kept ++ lists_of later) ≡ true →
-        all ≡ sifted (is_covered same opposite) (lists_of kept) (lists_of (reverse later))
+    pub drop_step : is_covered same opposite x (kept ++ later) ≡ true →
+        all ≡ sifted (is_covered same opposite) kept (reverse later)
     drop_step covered = next_is ∙ ap next_by covered
 
-    pub keep_step : (new : List (Vec T Y)) →
-        is_covered same opposite x.items (lists_of kept ++ lists_of later) ≡ false → new ≡ kept ++ x ∷ [] →
-        all ≡ sifted (is_covered same opposite) (lists_of new) (lists_of (reverse later))
+    pub keep_step : (new : List (List T)) → is_covered same opposite x (kept ++ later) ≡ false →
+        new ≡ kept ++ x ∷ [] → all ≡ sifted (is_covered same opposite) new (reverse later)
     keep_step new uncovered pushed =
         next_is ∙ ap next_by uncovered
-        ∙ ap (λ front. sifted (is_covered same opposite) front (lists_of (reverse later)))
-        (sym (map-append (λ clause. clause.items) kept (x ∷ [])))
-        ∙ ap (λ w. sifted (is_covered same opposite) (lists_of w) (lists_of (reverse later))) (sym pushed)
+        ∙ ap (λ front. sifted (is_covered same opposite) front (reverse later)) (sym pushed)

@@ -1,9 +1,11 @@
 -- Terms of the program, and its lists of them, as records.
-use Rattle.std.specs.Prelude.{Bool, List, map, Vec}
+use Rattle.std.specs.Prelude.{ℕ, Bool, List, map, Vec}
+use Rattle.std.specs.Borrow.{Bor}
 use Rattle.pep508_marker.specs.declared.expression.MarkerExpression.{MarkerExpression}
 use Rattle.pep508_marker.specs.Expression.{expression_of}
 use Rattle.pep508_marker_text.specs.Saying.{Clause}
 use Rattle.pep508_marker_text.specs.SameTerms.{same_term, opposite_term}
+use Rattle.pep508_marker_print.specs.Words.{term_word}
 
 abbrev pub clause_of : List MarkerExpression → Clause
 clause_of terms = map expression_of terms
@@ -11,6 +13,10 @@ clause_of terms = map expression_of terms
 -- lists of terms as lists
 abbrev pub lists_of : {T Y : Type 0} → List (Vec T Y) → List (List T)
 lists_of clauses = map (λ clause. clause.items) clauses
+
+-- lent lists as lists
+abbrev pub lent_lists : {T : Type 0} → List (Bor (List T)) → List (List T)
+lent_lists clauses = map (λ clause. clause.now) clauses
 
 abbrev pub clauses_shown : {Y : Type 0} → List (Vec MarkerExpression Y) → List Clause
 clauses_shown clauses = map (λ clause. clause_of clause.items) clauses
@@ -21,3 +27,6 @@ same_expression a b = same_term (expression_of a) (expression_of b)
 
 abbrev pub opposite_expression : MarkerExpression → MarkerExpression → Bool
 opposite_expression a b = opposite_term (expression_of a) (expression_of b)
+
+abbrev pub expression_word : MarkerExpression → ℕ
+expression_word term = term_word (expression_of term)

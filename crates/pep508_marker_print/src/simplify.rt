@@ -1,12 +1,14 @@
 //! Clauses without needless terms, and without needless clauses.
 
-ghost use Rattle.std.specs.Prelude.{◌≡◌, [], ◌∷◌, ◌++◌, ◌&&◌, ◌||◌, not, length, ◌<◌, IfOk};
-ghost use Rattle.std.specs.List.{list_any, list_all};
+ghost use Rattle.std.specs.Prelude.{◌≡◌, [], ◌∷◌, ◌++◌, ◌&&◌, ◌||◌, not, length, map, ◌<◌, IfOk, OnOk};
+ghost use Rattle.std.specs.List.{list_any, list_all, filter};
 ghost use Rattle.pep508_marker_text.specs.Simplified.{sifted, stands_in, spares, is_needless, is_covered};
 ghost use Rattle.pep508_marker_text.specs.Simplified.{shortened_behind, simplified};
-ghost use Rattle.pep508_marker_print.specs.Terms.{lists_of};
+ghost use Rattle.pep508_marker_print.specs.Terms.{lists_of, lent_lists};
 ghost use Rattle.pep508_marker_print.specs.Places.{needless_at};
+ghost use Rattle.pep508_marker_print.specs.Words.{is_near};
 
+use crate::clause::{Clause, words};
 use crate::term::Term;
 use std::alloc::{AllocError, Global};
 
@@ -52,38 +54,22 @@ fn spares<T: Term>(term: &T, front: &[T], behind: &[T], clause: &[T]) -> bool
 }
 
 /// Whether one of some clauses spares a term.
-fn one_spares<T: Term>(term: &T, front: &[T], behind: &[T], clauses: &[Vec<T>]) -> bool
+fn one_spares<T: Term>(term: &T, front: &[T], behind: &[T], clauses: &[&Clause<T>]) -> bool
     ensures { result
-        ≡ list_any (spares T.same T.opposite term.now (front.now ++ behind.now)) (lists_of clauses.now) }
+        ≡ list_any (spares T.same T.opposite term.now (front.now ++ behind.now)) (lent_lists clauses.now) }
 {
     for clause in clauses {
-        if spares(term, front, behind, clause) {
+        if spares(term, front, behind, clause.terms()) {
             return true;
         }
     }
     false
 }
 
-/// Whether one of the clauses in front and behind spares a term.
-#[tactic(auto, using(crate::proofs::Sifting::spared_beside))]
-fn other_spares<T: Term>(
-    term: &T,
-    front: &[T],
-    behind: &[T],
-    done: &[Vec<T>],
-    later: &[Vec<T>],
-) -> bool
-    ensures { result ≡ list_any (spares T.same T.opposite term.now (front.now ++ behind.now))
-        (lists_of done.now ++ lists_of later.now) }
-{
-    one_spares(term, front, behind, done) || one_spares(term, front, behind, later)
-}
-
 /// Whether the term at a place of a clause is needless beside other clauses.
-fn is_needless<T: Term>(clause: &[T], place: usize, done: &[Vec<T>], later: &[Vec<T>]) -> bool
+fn is_needless<T: Term>(clause: &[T], place: usize, others: &[&Clause<T>]) -> bool
     requires { place < length clause.now }
-    ensures { result
-        ≡ needless_at T.same T.opposite (lists_of done.now ++ lists_of later.now) clause.now place }
+    ensures { result ≡ needless_at T.same T.opposite (lent_lists others.now) clause.now place }
 {
     let (front, from) = clause.split_at(place);
     match from.split_first() {
@@ -92,20 +78,19 @@ fn is_needless<T: Term>(clause: &[T], place: usize, done: &[Vec<T>], later: &[Ve
             if front.is_empty() && behind.is_empty() {
                 return false;
             }
-            other_spares(term, front, behind, done, later)
+            one_spares(term, front, behind, others)
         }
     }
 }
 
 /// Takes out of a clause what is needless beside other clauses.
-fn shorten<T: Term>(clause: &mut Vec<T>, done: &[Vec<T>], later: &[Vec<T>])
+fn shorten<T: Term>(clause: &mut Vec<T>, others: &[&Clause<T>])
     ensures { clause.new.items
-        ≡ sifted (is_needless T.same T.opposite (lists_of done.now ++ lists_of later.now)) []
-        clause.old.items }
+        ≡ sifted (is_needless T.same T.opposite (lent_lists others.now)) [] clause.old.items }
 {
     let mut place = 0;
     while place < clause.len() {
-        if is_needless(clause, place, done, later) {
+        if is_needless(clause, place, others) {
             clause.remove(place);
         } else {
             place += 1;
@@ -113,40 +98,70 @@ fn shorten<T: Term>(clause: &mut Vec<T>, done: &[Vec<T>], later: &[Vec<T>])
     }
 }
 
+/// Adds those of some clauses whose terms all have words among these.
+fn add_near<'a, T: Term>(
+    near: &mut Vec<&'a Clause<T>>,
+    words: &[u64],
+    clauses: &'a [Clause<T>],
+) -> Result<(), AllocError>
+    ensures { OnOk result (lent_lists near.new.items
+        ≡ lent_lists near.old.items ++ filter (is_near T.word words.now) clauses.now) }
+{
+    for clause in clauses {
+        if clause.is_near(words) {
+            near.push(clause)?;
+        }
+    }
+    Ok(())
+}
+
+/// The clauses that can matter to a clause with these words.
+#[tactic(auto, using(crate::proofs::Near::near_beside))]
+fn near<'a, T: Term>(
+    alloc: Global,
+    words: &[u64],
+    done: &'a [Clause<T>],
+    later: &'a [Clause<T>],
+) -> Result<Vec<&'a Clause<T>>, AllocError>
+    ensures { IfOk result (λ near.
+        lent_lists near.items ≡ filter (is_near T.word words.now) (done.now ++ later.now)) }
+{
+    let mut near = Vec::new(alloc);
+    add_near(&mut near, words, done)?;
+    add_near(&mut near, words, later)?;
+    Ok(near)
+}
+
+/// A clause without what is needless beside other clauses.
+fn shortened_clause<T: Term>(
+    alloc: Global,
+    clause: Clause<T>,
+    done: &[Clause<T>],
+    later: &[Clause<T>],
+) -> Result<Clause<T>, AllocError>
+    ensures { IfOk result (λ short.
+        short ≡ sifted (is_needless T.same T.opposite (done.now ++ later.now)) [] clause) }
+{
+    let words = words(alloc, clause.terms())?;
+    let near = near(alloc, &words, done, later)?;
+    let mut terms = clause.into_terms();
+    shorten(&mut terms, &near);
+    Ok(Clause::new(terms))
+}
+
 /// The clauses, one after another, without their needless terms.
-fn shortened<T: Term>(alloc: Global, clauses: Vec<Vec<T>>) -> Result<Vec<Vec<T>>, AllocError>
-    ensures { IfOk result (λ short. lists_of short.items
-        ≡ shortened_behind T.same T.opposite [] (lists_of clauses.items)) }
+fn shortened<T: Term>(alloc: Global, clauses: Vec<Clause<T>>) -> Result<Vec<Clause<T>>, AllocError>
+    ensures { IfOk result (λ short.
+        short.items ≡ shortened_behind T.same T.opposite [] clauses.items) }
 {
     let mut later = clauses;
     later.reverse();
     let mut done = Vec::with_capacity(alloc, later.len())?;
-    while let Some(mut clause) = later.pop() {
-        shorten(&mut clause, &done, &later);
-        done.push(clause)?;
+    while let Some(clause) = later.pop() {
+        let short = shortened_clause(alloc, clause, &done, &later)?;
+        done.push(short)?;
     }
     Ok(done)
-}
-
-/// Whether all terms of some clause stand in a given one.
-fn is_covered<T: Term>(clause: &[T], others: &[Vec<T>]) -> bool
-    ensures { result ≡ is_covered T.same T.opposite clause.now (lists_of others.now) }
-{
-    for other in others {
-        if stand_in(clause, other) {
-            return true;
-        }
-    }
-    false
-}
-
-/// Whether one of the clauses in front and behind covers a clause.
-#[tactic(auto, using(crate::proofs::Sifting::covered_beside))]
-fn other_covers<T: Term>(clause: &[T], kept: &[Vec<T>], later: &[Vec<T>]) -> bool
-    ensures { result
-        ≡ is_covered T.same T.opposite clause.now (lists_of kept.now ++ lists_of later.now) }
-{
-    is_covered(clause, kept) || is_covered(clause, later)
 }
 
 /// Whether all of some terms stand in a clause.
@@ -161,25 +176,85 @@ fn stand_in<T: Term>(clause: &[T], terms: &[T]) -> bool
     true
 }
 
+/// Whether all terms of a clause stand in a given one, which has these words.
+fn covers<T: Term>(clause: &[T], words: &[u64], other: &Clause<T>) -> bool
+    requires { words.now ≡ map T.word clause.now }
+    ensures { result ≡ list_all (stands_in T.same T.opposite clause.now) other.now }
+{
+    other.is_near(words) && stand_in(clause, other.terms())
+}
+
+/// Whether all terms of some clause stand in a given one, which has these words.
+fn is_covered<T: Term>(clause: &[T], words: &[u64], others: &[Clause<T>]) -> bool
+    requires { words.now ≡ map T.word clause.now }
+    ensures { result ≡ is_covered T.same T.opposite clause.now others.now }
+{
+    for other in others {
+        if covers(clause, words, other) {
+            return true;
+        }
+    }
+    false
+}
+
+/// Whether one of the clauses in front and behind covers a clause.
+#[tactic(auto, using(crate::proofs::Sifting::covered_beside))]
+fn other_covers<T: Term>(
+    alloc: Global,
+    clause: &[T],
+    kept: &[Clause<T>],
+    later: &[Clause<T>],
+) -> Result<bool, AllocError>
+    ensures { IfOk result (λ covers.
+        covers ≡ is_covered T.same T.opposite clause.now (kept.now ++ later.now)) }
+{
+    let words = words(alloc, clause)?;
+    Ok(is_covered(clause, &words, kept) || is_covered(clause, &words, later))
+}
+
 /// The clauses without those that others cover.
-fn uncovered<T: Term>(alloc: Global, clauses: Vec<Vec<T>>) -> Result<Vec<Vec<T>>, AllocError>
+fn uncovered<T: Term>(alloc: Global, clauses: Vec<Clause<T>>) -> Result<Vec<Clause<T>>, AllocError>
     ensures { IfOk result (λ kept.
-        lists_of kept.items ≡ sifted (is_covered T.same T.opposite) [] (lists_of clauses.items)) }
+        kept.items ≡ sifted (is_covered T.same T.opposite) [] clauses.items) }
 {
     let mut later = clauses;
     later.reverse();
     let mut kept = Vec::new(alloc);
     while let Some(clause) = later.pop() {
-        if !other_covers(&clause, &kept, &later) {
+        if !other_covers(alloc, clause.terms(), &kept, &later)? {
             kept.push(clause)?;
         }
     }
     Ok(kept)
 }
 
+/// Each list of terms as a clause.
+fn as_clauses<T: Term>(alloc: Global, lists: Vec<Vec<T>>) -> Result<Vec<Clause<T>>, AllocError>
+    ensures { IfOk result (λ clauses. clauses.items ≡ lists_of lists.items) }
+{
+    let mut clauses = Vec::with_capacity(alloc, lists.len())?;
+    for list in lists {
+        clauses.push(Clause::new(list))?;
+    }
+    Ok(clauses)
+}
+
+/// Each clause as a list of its terms.
+fn as_lists<T: Term>(alloc: Global, clauses: Vec<Clause<T>>) -> Result<Vec<Vec<T>>, AllocError>
+    ensures { IfOk result (λ lists. lists_of lists.items ≡ clauses.items) }
+{
+    let mut lists = Vec::with_capacity(alloc, clauses.len())?;
+    for clause in clauses {
+        lists.push(clause.into_terms())?;
+    }
+    Ok(lists)
+}
+
 /// The clauses without their needless terms, and then without those that others cover.
 ///
-/// Of each term it looks at each clause, up to the first term that decides.
+/// Of each clause it looks at the greatest word of each other one; where that is a word of the clause's own,
+/// at the words of all its terms; and where these are too, at its terms, once for each term of the clause, up
+/// to the first that decides.
 pub(crate) fn simplified<T: Term>(
     alloc: Global,
     clauses: Vec<Vec<T>>,
@@ -187,6 +262,8 @@ pub(crate) fn simplified<T: Term>(
     ensures { IfOk result (λ simple.
         lists_of simple.items ≡ simplified T.same T.opposite (lists_of clauses.items)) }
 {
+    let clauses = as_clauses(alloc, clauses)?;
     let short = shortened(alloc, clauses)?;
-    uncovered(alloc, short)
+    let simple = uncovered(alloc, short)?;
+    as_lists(alloc, simple)
 }

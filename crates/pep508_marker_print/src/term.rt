@@ -3,11 +3,13 @@
 ghost use Rattle.std.specs.Prelude.{◌≡◌};
 ghost use Rattle.pep440_rs.specs.SpecifierOrder.{operator_rank};
 ghost use Rattle.pep508_marker.specs.Keys.{version_key_rank, text_key_rank};
-ghost use Rattle.pep508_marker.specs.Values.{extra_of};
+ghost use Rattle.pep508_marker.specs.Values.{extra_of, extra_text};
 ghost use Rattle.pep508_marker_text.specs.SameTerms.{marker_operator_rank, extra_operator_rank};
 ghost use Rattle.pep508_marker_text.specs.SameTerms.{same_text, same_version, same_extra};
 ghost use Rattle.pep508_marker_print.specs.Operators.{are_opposite, are_opposite_texts, are_opposite_extras};
-ghost use Rattle.pep508_marker_print.specs.Terms.{same_expression, opposite_expression};
+ghost use Rattle.pep508_marker_print.specs.Terms.{same_expression, opposite_expression, expression_word};
+ghost use Rattle.pep508_marker_print.specs.Words.{word_behind};
+ghost use Rattle.pep508_marker_print.specs.WordLaws.{word_of_same, word_of_opposite};
 
 use pep440_operator::Operator;
 use pep440_version::Version;
@@ -18,7 +20,7 @@ use pep508_marker::{
 
 /// What stands in a clause.
 pub(crate) trait Term: Drop {
-    ghost use Rattle.std.specs.Prelude.{Bool};
+    ghost use Rattle.std.specs.Prelude.{◌≡◌, ℕ, Bool, true};
 
     /// Whether two terms are the same.
     ghost same: { Self → Self → Bool };
@@ -26,11 +28,54 @@ pub(crate) trait Term: Drop {
     /// Whether one is the other's negation.
     ghost opposite: { Self → Self → Bool };
 
+    /// A number.
+    ghost word: { Self → ℕ };
+
+    ghost word_of_same: { (a b : Self) → same a b ≡ true → word a ≡ word b };
+
+    ghost word_of_opposite: { (a b : Self) → opposite a b ≡ true → word a ≡ word b };
+
     fn is_same(&self, other: &Self) -> bool
         ensures { result ≡ same self.now other.now };
 
     fn is_opposite(&self, other: &Self) -> bool
         ensures { result ≡ opposite self.now other.now };
+
+    /// A number that terms have in common where they are the same, or negations of each other. Others may
+    /// have it too.
+    fn word(&self) -> u64
+        ensures { result ≡ word self.now };
+}
+
+/// The word of a text: its last eight bytes.
+fn text_word(text: &str) -> u64
+    ensures { result ≡ word_behind 0 text.now }
+{
+    let mut word = 0u64;
+    for byte in text.as_bytes() {
+        word = word.wrapping_mul(256).wrapping_add(u64::from(*byte));
+    }
+    word
+}
+
+/// The word of numbers, those below 256 as the bytes of a text.
+fn numbers_word(numbers: &[u64]) -> u64
+    ensures { result ≡ word_behind 0 numbers.now }
+{
+    let mut word = 0u64;
+    for number in numbers {
+        word = word.wrapping_mul(256).wrapping_add(*number);
+    }
+    word
+}
+
+fn extra_word(extra: &MarkerValueExtra) -> u64
+    ensures { result ≡ word_behind 0 (extra_text (extra_of extra.now)) }
+{
+    match extra {
+        MarkerValueExtra::Extra(name) => text_word(name.as_str()),
+        MarkerValueExtra::Arbitrary(text) => text_word(text.as_str()),
+    }
 }
 
 fn version_key_rank(key: MarkerValueVersion) -> u8
@@ -119,6 +164,12 @@ impl Term for MarkerExpression {
 
     ghost opposite = { opposite_expression };
 
+    ghost word = { expression_word };
+
+    ghost word_of_same = { word_of_same };
+
+    ghost word_of_opposite = { word_of_opposite };
+
     fn is_same(&self, other: &MarkerExpression) -> bool {
         match (self, other) {
             (
@@ -199,6 +250,21 @@ impl Term for MarkerExpression {
                 },
             ) => are_opposite_extras(*operator, *other) && same_extra(name, other_name),
             _ => false,
+        }
+    }
+
+    fn word(&self) -> u64 {
+        match self {
+            MarkerExpression::Version { key: _, specifier } => {
+                numbers_word(specifier.version().release())
+            }
+            MarkerExpression::VersionIn { .. } => 0,
+            MarkerExpression::String {
+                key: _,
+                operator: _,
+                value,
+            } => text_word(value.as_str()),
+            MarkerExpression::Extra { operator: _, name } => extra_word(name),
         }
     }
 }

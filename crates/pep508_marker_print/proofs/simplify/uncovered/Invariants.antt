@@ -1,14 +1,12 @@
 use Rattle.std.proofs.Common.{◌≡◌, [], length}
 use Rattle.std.specs.Prelude.{reverse}
 use Rattle.pep508_marker_text.specs.Simplified.{sifted, is_covered}
-use Rattle.pep508_marker_print.specs.Terms.{lists_of}
 use Rattle.pep508_marker_print.proofs.simplify.uncovered.Given as goal
 
 abbrev pub invariant-loop-clause : goal.invariant-loop-clause
 invariant-loop-clause g l =
-    sifted (is_covered g.T.Term.same g.T.Term.opposite) [] (lists_of l.fn.clauses.items)
-    ≡ sifted (is_covered g.T.Term.same g.T.Term.opposite) (lists_of l.kept.items)
-    (lists_of (reverse l.later.items))
+    sifted (is_covered g.T.Term.same g.T.Term.opposite) [] l.fn.clauses.items
+    ≡ sifted (is_covered g.T.Term.same g.T.Term.opposite) l.kept.items (reverse l.later.items)
 
 abbrev pub decreases-loop-clause : goal.decreases-loop-clause
 decreases-loop-clause g l = length l.later.items
