@@ -15,7 +15,8 @@ use std::fmt;
 ///
 /// Two of them are equal exactly where their trees mean the same (`laws::equal_trees_mean_the_same`). A
 /// comparison takes no memory and ends at the first difference; trees that are equal are walked along each path
-/// from the root, of which there can be many more than nodes.
+/// from the root, of which there can be many more than nodes. Trees of one interner are compared in constant time
+/// by the `==` of `MarkerTree`.
 ///
 /// It prints as the tree's text, `true` where the tree always holds. The text is made while it is printed, and
 /// where memory for it is refused, printing fails with `fmt::Error`.
