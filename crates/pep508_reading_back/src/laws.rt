@@ -22,7 +22,9 @@ ghost use Rattle.pep508_requirement.specs.RequirementReading.{AsksFor, IsRead};
 ghost use Rattle.pep508_requirement.specs.RequirementReading as reading;
 ghost use Rattle.pep508_reading_back.specs.Views.{IsReadableView, ReadsBack};
 
-use pep508_requirement::laws::{a_written_requirement_is_not_refused, a_written_requirement_is_read};
+use pep508_requirement::laws::{
+    a_written_requirement_is_not_refused, a_written_requirement_is_read,
+};
 use pep508_requirement_ref::RequirementRef;
 use pep508_url::Pep508Url;
 use std::fmt;

@@ -57,7 +57,14 @@ pub fn unnamed(
     requires { IsAbsolute directory.now }
 {
     let mut interner = Interner::new(alloc);
-    match UnnamedRequirement::parse(alloc, &mut interner, vars, text, Some(directory), &mut Silent) {
+    match UnnamedRequirement::parse(
+        alloc,
+        &mut interner,
+        vars,
+        text,
+        Some(directory),
+        &mut Silent,
+    ) {
         Ok(read) => UnnamedRequirementRef::new(alloc, &interner, &read).to_string(alloc),
         Err(error) => refused(alloc, &error),
     }
