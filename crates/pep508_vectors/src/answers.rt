@@ -36,10 +36,7 @@ pub fn answer(alloc: Global, vars: &Vars, question: &str) -> Result<String, Allo
             alloc,
             <VerbatimUrl as Pep508Url>::parse_url(alloc, text, vars, Some(DIRECTORY)),
         ),
-        "url-nowhere" => url(
-            alloc,
-            <VerbatimUrl as Pep508Url>::parse_url(alloc, text, vars, None),
-        ),
+        "url-nowhere" => nowhere(alloc, vars, text),
         "path" => url(alloc, VerbatimUrl::from_path(alloc, text, DIRECTORY)),
         "absolute-path" => url(alloc, VerbatimUrl::from_absolute_path(alloc, text)),
         "as-path" => as_path(alloc, text),
@@ -138,6 +135,14 @@ fn url(alloc: Global, url: Result<VerbatimUrl, VerbatimUrlError>) -> Result<Stri
         Err(VerbatimUrlError::Memory) => Err(AllocError),
         Err(error) => format!(in alloc; "refused: {error}"),
     }
+}
+
+/// A URL where no directory is given.
+fn nowhere(alloc: Global, vars: &Vars, text: &str) -> Result<String, AllocError> {
+    url(
+        alloc,
+        <VerbatimUrl as Pep508Url>::parse_url(alloc, text, vars, None),
+    )
 }
 
 fn as_path(alloc: Global, text: &str) -> Result<String, AllocError> {
