@@ -1,9 +1,8 @@
 -- What a requirement with its interner prints is read as what it shows.
-use Rattle.std.proofs.Common.{◌≡◌, ◌≢◌, ℕ, ◌<◌, Bool, false, List, length, Option, Some, None, Result, Ok, Err, option_map, ap, sym, subst, refl, ◌∙◌}
+use Rattle.std.proofs.Common.{◌≡◌, ◌≢◌, ℕ, Bool, false, List, Option, Some, None, Result, Ok, Err, option_map, ap, sym, subst, ◌∙◌}
 use Rattle.std.specs.List.{AllByRecursion}
-use Rattle.std.specs.Str.{skip_leading_whitespace}
-use Rattle.pep508_diagram.specs.Diagram.{Diagram, Leaf}
-use Rattle.pep508_diagram.specs.Question.{Question, Valuation, truth, IsCanonical}
+use Rattle.pep508_diagram.specs.Diagram.{Leaf}
+use Rattle.pep508_diagram.specs.Question.{Valuation, truth, IsCanonical}
 use Rattle.pep508_error.specs.declared.error.Pep508Error.{Pep508Error}
 use Rattle.pep440_specifier.specs.Matching.{SpecifierRecord}
 use Rattle.pep508_reading_back.specs.Diagrams.{IsReadableDiagram}
@@ -17,14 +16,12 @@ use Rattle.pep508_requirement_text.specs.FrontReading.Source.{Any, Specifiers, U
 use Rattle.pep508_requirement.specs.declared.requirement.Requirement.{Requirement}
 use Rattle.pep508_requirement.specs.declared.version_or_url.VersionOrUrl.{VersionOrUrl}
 use Rattle.pep508_requirement.specs.declared.version_or_url.VersionOrUrl.TheVariants as asked
-use Rattle.pep508_requirement.specs.MarkerBehind.{marker_behind}
-use Rattle.pep508_requirement.specs.RequirementReading.{AsksFor, IsRead, IsUrlRefused, RefusedBy, ReadsRequirement}
+use Rattle.pep508_requirement.specs.RequirementReading.{AsksFor, IsRead, RefusedBy, ReadsRequirement}
 use Rattle.pep508_requirement.specs.RequirementText.{IsMarkedText, IsOfText}
 use Rattle.pep508_requirement_ref.specs.RequirementPrint.{requirement_text}
-use Rattle.pep508_requirement_ref.specs.Views.{front_of, printed, source_of}
+use Rattle.pep508_requirement_ref.specs.Views.{printed, source_of}
 use Rattle.pep508_requirement_ref.specs.declared.requirement_ref.RequirementRef.{RequirementRef}
-use Rattle.pep508_reading_back.specs.ReadableRequirements as readable
-use Rattle.pep508_reading_back.specs.ReadableRequirements.{IsPrintableSpecifier, IsReadableFront, IsReadableSource}
+use Rattle.pep508_reading_back.specs.ReadableRequirements.{IsReadableFront, IsReadableSource}
 use Rattle.pep508_reading_back.specs.Views.{AsksAgain, IsReadableAsked, IsReadableView, IsWantOfMemory, ReadsBack}
 use Rattle.pep508_reading_back.proofs.ReadRequirements.{WrittenIsRead, one_answer, printed_read}
 use Rattle.pep508_reading_back.proofs.Requirements.{requirement_read}

@@ -1,8 +1,7 @@
 -- Which requirements are read as what they print (PEP 508, "Grammar").
-use Rattle.std.specs.Prelude.{◌≡◌, ℕ, ◌<◌, List, [], ◌∷◌, ◌++◌, length, codes, Option, Some, None}
-use Rattle.std.specs.List.{AllByRecursion, join_with_byte}
+use Rattle.std.specs.Prelude.{◌≡◌, ℕ, ◌<◌, List, [], ◌∷◌, length, Some}
+use Rattle.std.specs.List.{AllByRecursion}
 use Rattle.pep440_specifier.specs.Building.{IsBuilt}
-use Rattle.pep440_specifier_list.specs.ListText.{list_value_text}
 use Rattle.pep440_specifier.specs.Matching.{SpecifierRecord}
 use Rattle.pep440_text.specs.Printable.{IsPrintable}
 use Rattle.pep508_name.specs.Name.{name_of}

@@ -1,5 +1,5 @@
 -- Which requirements with their interner are read as what they print, and what is read of it.
-use Rattle.std.specs.Prelude.{◌≡◌, ◌≢◌, ℕ, ◌<◌, false, List, length, Option, Some, None, Result, Ok, Err}
+use Rattle.std.specs.Prelude.{◌≡◌, ◌≢◌, ◌<◌, false, List, length, Option, Some, None, Result, Ok, Err}
 use Rattle.std.specs.List.{AllByRecursion}
 use Rattle.pep440_specifier_list.specs.Lists.{IsInOrder}
 use Rattle.pep508_name.specs.Name.{name_of}

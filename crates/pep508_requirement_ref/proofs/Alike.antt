@@ -1,14 +1,12 @@
 -- Requirements that say the same print the same.
 use Rattle.std.proofs.Common.{◌≡◌, ℕ, List, Option, option_map, ap, ap₂, ◌∙◌}
-use Rattle.pep508_diagram.specs.Diagram.{Diagram}
-use Rattle.pep508_diagram.specs.Question.{Question, Valuation, truth, IsCanonical}
+use Rattle.pep508_diagram.specs.Question.{IsCanonical}
 use Rattle.pep508_diagram.specs.Shortened.{HasShortVersions}
 use Rattle.pep508_marker_text.proofs.Spelled.{one_spelling}
 use Rattle.pep508_marker_text.specs.MarkerText.{marker_text}
-use Rattle.pep508_requirement_text.specs.FrontReading.{Front, Source}
-use Rattle.pep508_requirement.specs.declared.version_or_url.VersionOrUrl.{VersionOrUrl}
+use Rattle.pep508_requirement_text.specs.FrontReading.{Source}
 use Rattle.pep508_requirement_ref.specs.RequirementPrint.{requirement_text}
-use Rattle.pep508_requirement_ref.specs.Views.{SayTheSame, front_of, printed, source_of}
+use Rattle.pep508_requirement_ref.specs.Views.{SayTheSame, printed, source_of}
 use Rattle.pep508_requirement_ref.specs.declared.requirement_ref.RequirementRef.{RequirementRef}
 use Rattle.pep508_tree_ref.specs.Lent.{tree_in}
 use Rattle.pep508_tree_ref.specs.TreeIn.{diagram_in}

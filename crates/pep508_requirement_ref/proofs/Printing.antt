@@ -3,8 +3,8 @@ use Rattle.std.proofs.Common.{◌≡◌, ℕ, List, [], ◌∷◌, ◌++◌, cod
 use Rattle.std.proofs.lemmas.List.{append-nil}
 use Rattle.std.specs.Fmt.{◌++?◌}
 use Rattle.std.specs.List.{flat_map, join_with_byte}
-use Rattle.pep508_requirement_text.specs.FrontReading.{Front, Source}
-use Rattle.pep508_requirement_ref.specs.RequirementPrint.{behind_comma, extras_text, source_text, front_text}
+use Rattle.pep508_requirement_text.specs.FrontReading.{Source}
+use Rattle.pep508_requirement_ref.specs.RequirementPrint.{behind_comma, extras_text, source_text}
 use Rattle.pep508_requirement_ref.specs.RequirementPrint.{marker_part, requirement_text, unnamed_text}
 
 pub names_joined : (name : List ℕ) (names : List (List ℕ)) → join_with_byte 44 (name ∷ names) ≡ name ++ flat_map behind_comma names
