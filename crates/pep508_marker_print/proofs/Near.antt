@@ -1,13 +1,14 @@
 -- Clauses that are not near a clause don't matter to it.
-use Rattle.std.proofs.Common.{◌≡◌, ℕ, ◌==◌, Bool, true, false, not, ◌&&◌, ◌||◌, cond, List, [], ◌∷◌, ◌++◌, map, refl, sym, ap, ◌∙◌, true≢false}
+use Rattle.std.proofs.Common.{◌≡◌, ℕ, ◌==◌, Bool, true, false, not, ◌&&◌, ◌||◌, cond, List, [], ◌∷◌, ◌++◌, ◌≤◌, refl, sym, ap, ◌∙◌, true≢false, arith}
 use Rattle.std.specs.Prelude.{nat_lt}
 use Rattle.std.specs.Cmp.{unsigned_Decides}
 use Rattle.std.specs.List.{list_any, list_all, filter}
+use Rattle.std.proofs.lemmas.Bool.{le-ltb, ltb-false, ltb-true}
 use Rattle.std.proofs.lemmas.List.Elements.{filter-append}
 use Rattle.std.proofs.lemmas.Map.Views.{any-filter_same}
 use Rattle.pep508_marker_text.specs.Simplified.{sifted, has_some, spares, is_needless, stands_in}
 use Rattle.pep508_marker_text.proofs.Removals.{both, together}
-use Rattle.pep508_marker_print.specs.Words.{holds, greater, is_near, greatest_behind, greatest_word}
+use Rattle.pep508_marker_print.specs.Words.{holds, with_word, words_behind, greater, is_near, greatest_behind, greatest_word}
 
 pub same_number : (n : ℕ) → (n == n) ≡ true
 same_number n = (unsigned_Decides n n).1 refl
@@ -118,27 +119,83 @@ module _ {T : Type 0} (same opposite : T → T → Bool) (word : T → ℕ)
       (sifted_alike others (kept ++ term ∷ []) later
       (near_both kept (term ∷ []) x (together _ _ parts.0 refl)) parts.1 i))
 
-near_own_behind : {T : Type 0} (word : T → ℕ) (words : List ℕ) (clause : List T) →
-    ((n : ℕ) → holds (map word clause) n ≡ true → holds words n ≡ true) → is_near word words clause ≡ true
-near_own_behind word words [] held = refl
-near_own_behind word words (term ∷ later) held =
-    together _ _ (held (word term) (ap (λ b. b || holds (map word later) (word term)) (same_number (word term))))
-    (near_own_behind word words later (λ n e. held n (or_right (n == word term) _ e)))
-  where
-    or_right : (a b : Bool) → b ≡ true → (a || b) ≡ true
-    or_right true b e = refl
-    or_right false b e = e
+-- ---- the words of a clause
 
--- a clause is near its own words
-near_own : {T : Type 0} (word : T → ℕ) (clause : List T) → is_near word (map word clause) clause ≡ true
-near_own word clause = near_own_behind word (map word clause) clause (λ n e. e)
+or_right : (a b : Bool) → b ≡ true → (a || b) ≡ true
+or_right true b e = refl
+or_right false b e = e
+
+or_either : (a b c : Bool) → (b ≡ true → c ≡ true) → (a || b) ≡ true → (a || c) ≡ true
+or_either true b c from e = refl
+or_either false b c from e = from e
+
+not_gone : (b c : Bool) → cond b false c ≡ true → b ≡ false
+not_gone false c e = refl
+not_gone true c e = absurd (true≢false (sym e))
+
+still_there : (b c : Bool) → cond b false c ≡ true → c ≡ true
+still_there false c e = e
+still_there true c e = absurd (true≢false (sym e))
+
+first_held : (n : ℕ) (later : List ℕ) → holds (n ∷ later) n ≡ true
+first_held n later =
+    ap (λ b. cond b false (n == n || holds later n)) (le-ltb n n (omega arith))
+    ∙ ap (λ b. b || holds later n) (same_number n)
+
+behind_held : (x n : ℕ) (later : List ℕ) → n ≤ x → (n == x || holds later n) ≡ true →
+    holds (x ∷ later) n ≡ true
+behind_held x n later le e = ap (λ b. cond b false (n == x || holds later n)) (le-ltb x n le) ∙ e
+
+below_first : (x n : ℕ) (later : List ℕ) → holds (x ∷ later) n ≡ true → n ≤ x
+below_first x n later e = ltb-false x n (not_gone (nat_lt x n) (n == x || holds later n) e)
+
+own_by : (n x : ℕ) (xs : List ℕ) (b : Bool) → nat_lt n x ≡ b → holds (with_word n xs) n ≡ true →
+    holds (cond b (x ∷ with_word n xs) (n ∷ x ∷ xs)) n ≡ true
+own_by n x xs true e own =
+    behind_held x n (with_word n xs) (omega (arith, ltb-true n x e)) (or_right (n == x) _ own)
+own_by n x xs false e own = first_held n (x ∷ xs)
+
+held_own : (n : ℕ) (xs : List ℕ) → holds (with_word n xs) n ≡ true
+held_own n [] = first_held n []
+held_own n (x ∷ xs) = own_by n x xs (nat_lt n x) refl (held_own n xs)
+
+kept_by : (w n x : ℕ) (xs : List ℕ) (b : Bool) → nat_lt w x ≡ b → holds (x ∷ xs) n ≡ true →
+    (holds xs n ≡ true → holds (with_word w xs) n ≡ true) →
+    holds (cond b (x ∷ with_word w xs) (w ∷ x ∷ xs)) n ≡ true
+kept_by w n x xs true e held from =
+    behind_held x n (with_word w xs) (below_first x n xs held)
+    (or_either (n == x) _ _ from (still_there (nat_lt x n) _ held))
+kept_by w n x xs false e held from =
+    behind_held w n (x ∷ xs) (omega (arith, ltb-false w x e, below_first x n xs held)) (or_right (n == w) _ held)
+
+held_kept : (w n : ℕ) (xs : List ℕ) → holds xs n ≡ true → holds (with_word w xs) n ≡ true
+held_kept w n [] held = absurd (true≢false (sym held))
+held_kept w n (x ∷ xs) held = kept_by w n x xs (nat_lt w x) refl held (held_kept w n xs)
+
+module _ {T : Type 0} (word : T → ℕ) where
+  kept_behind : (words : List ℕ) (later : List T) (n : ℕ) → holds words n ≡ true →
+      holds (words_behind word words later) n ≡ true
+  kept_behind words [] n held = held
+  kept_behind words (term ∷ later) n held =
+      kept_behind (with_word (word term) words) later n (held_kept (word term) n words held)
+
+  near_behind : (words : List ℕ) (clause : List T) → is_near word (words_behind word words clause) clause ≡ true
+  near_behind words [] = refl
+  near_behind words (term ∷ later) =
+      together _ _
+      (kept_behind (with_word (word term) words) later (word term) (held_own (word term) words))
+      (near_behind (with_word (word term) words) later)
+
+  -- a clause is near its own words
+  near_own : (clause : List T) → is_near word (words_behind word [] clause) clause ≡ true
+  near_own clause = near_behind [] clause
 
 module _ {T : Type 0} (same opposite : T → T → Bool) (word : T → ℕ)
     (word_of_same : (a b : T) → same a b ≡ true → word a ≡ word b)
     (word_of_opposite : (a b : T) → opposite a b ≡ true → word a ≡ word b) where
   -- of others, those that are near a clause shorten it as all do
   pub shortened_by_near : (words : List ℕ) (others near : List (List T)) (clause short : List T) →
-      words ≡ map word clause → near ≡ filter (is_near word words) others →
+      words ≡ words_behind word [] clause → near ≡ filter (is_near word words) others →
       short ≡ sifted (is_needless same opposite near) [] clause →
       short ≡ sifted (is_needless same opposite others) [] clause
   shortened_by_near words others near clause short are found is =
@@ -148,7 +205,7 @@ module _ {T : Type 0} (same opposite : T → T → Bool) (word : T → ℕ)
       (ap (λ those. is_near word those clause) are ∙ near_own word clause)
 
   -- a clause is covered only by one that is near
-  pub far_covers : (words : List ℕ) (clause other : List T) → words ≡ map word clause →
+  pub far_covers : (words : List ℕ) (clause other : List T) → words ≡ words_behind word [] clause →
       is_near word words other ≡ false → false ≡ list_all (stands_in same opposite clause) other
   far_covers words clause other are far =
       ap (λ near. near && list_all (stands_in same opposite clause) other) (sym far)

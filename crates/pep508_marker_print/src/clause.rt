@@ -1,7 +1,7 @@
 //! Clauses that tell quickly whether they can matter to another one.
 
-ghost use Rattle.std.specs.Prelude.{◌≡◌, [], map, IfOk};
-ghost use Rattle.pep508_marker_print.specs.Words.{holds, is_near, greatest_word, greatest_behind};
+ghost use Rattle.std.specs.Prelude.{◌≡◌, [], ◌∷◌, ◌++◌, ◌≤◌, length, take, drop, IfOk, OnOk};
+ghost use Rattle.pep508_marker_print.specs.Words.{holds, with_word, words_behind, is_near, greatest_word, greatest_behind};
 
 use crate::term::Term;
 use std::alloc::{AllocError, Global};
@@ -79,10 +79,14 @@ fn greatest_behind<T: Term>(first: u64, terms: &[T]) -> u64
     most
 }
 
+/// Whether words that fall have a word.
 fn holds(words: &[u64], word: u64) -> bool
     ensures { result ≡ holds words.now word }
 {
     for other in words {
+        if *other < word {
+            return false;
+        }
         if word == *other {
             return true;
         }
@@ -101,13 +105,38 @@ fn are_near<T: Term>(words: &[u64], terms: &[T]) -> bool
     true
 }
 
-/// The words of some terms.
+/// The place in front of the first word that isn't greater than a word.
+fn place_of(words: &[u64], word: u64) -> usize
+    ensures within { result ≤ length words.now }
+    ensures there { take result words.now ++ word ∷ drop result words.now ≡ with_word word words.now }
+{
+    let mut place = 0;
+    for other in words {
+        if word < *other {
+            place += 1;
+        } else {
+            return place;
+        }
+    }
+    place
+}
+
+/// Adds a word to words that fall.
+fn add_word(words: &mut Vec<u64>, word: u64) -> Result<(), AllocError>
+    ensures { OnOk result (words.new.items ≡ with_word word words.old.items) }
+{
+    let place = place_of(words, word);
+    words.insert(place, word)?;
+    Ok(())
+}
+
+/// The words of some terms, the greatest first.
 pub(crate) fn words<T: Term>(alloc: Global, terms: &[T]) -> Result<Vec<u64>, AllocError>
-    ensures { IfOk result (λ words. words.items ≡ map T.word terms.now) }
+    ensures { IfOk result (λ words. words.items ≡ words_behind T.word [] terms.now) }
 {
     let mut words = Vec::with_capacity(alloc, terms.len())?;
     for term in terms {
-        words.push(term.word())?;
+        add_word(&mut words, term.word())?;
     }
     Ok(words)
 }

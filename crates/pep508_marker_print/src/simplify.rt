@@ -1,12 +1,12 @@
 //! Clauses without needless terms, and without needless clauses.
 
-ghost use Rattle.std.specs.Prelude.{◌≡◌, [], ◌∷◌, ◌++◌, ◌&&◌, ◌||◌, not, length, map, ◌<◌, IfOk, OnOk};
+ghost use Rattle.std.specs.Prelude.{◌≡◌, [], ◌∷◌, ◌++◌, ◌&&◌, ◌||◌, not, length, ◌<◌, IfOk, OnOk};
 ghost use Rattle.std.specs.List.{list_any, list_all, filter};
 ghost use Rattle.pep508_marker_text.specs.Simplified.{sifted, stands_in, spares, is_needless, is_covered};
 ghost use Rattle.pep508_marker_text.specs.Simplified.{shortened_behind, simplified};
 ghost use Rattle.pep508_marker_print.specs.Terms.{lists_of, lent_lists};
 ghost use Rattle.pep508_marker_print.specs.Places.{needless_at};
-ghost use Rattle.pep508_marker_print.specs.Words.{is_near};
+ghost use Rattle.pep508_marker_print.specs.Words.{is_near, words_behind};
 
 use crate::clause::{Clause, words};
 use crate::term::Term;
@@ -178,7 +178,7 @@ fn stand_in<T: Term>(clause: &[T], terms: &[T]) -> bool
 
 /// Whether all terms of a clause stand in a given one, which has these words.
 fn covers<T: Term>(clause: &[T], words: &[u64], other: &Clause<T>) -> bool
-    requires { words.now ≡ map T.word clause.now }
+    requires { words.now ≡ words_behind T.word [] clause.now }
     ensures { result ≡ list_all (stands_in T.same T.opposite clause.now) other.now }
 {
     other.is_near(words) && stand_in(clause, other.terms())
@@ -186,7 +186,7 @@ fn covers<T: Term>(clause: &[T], words: &[u64], other: &Clause<T>) -> bool
 
 /// Whether all terms of some clause stand in a given one, which has these words.
 fn is_covered<T: Term>(clause: &[T], words: &[u64], others: &[Clause<T>]) -> bool
-    requires { words.now ≡ map T.word clause.now }
+    requires { words.now ≡ words_behind T.word [] clause.now }
     ensures { result ≡ is_covered T.same T.opposite clause.now others.now }
 {
     for other in others {

@@ -1,5 +1,8 @@
-use Rattle.std.proofs.Common.{◌≡◌, map, take}
+use Rattle.std.proofs.Common.{◌≡◌, [], drop}
+use Rattle.pep508_marker_print.specs.Words.{words_behind}
 use Rattle.pep508_marker_print.proofs.clause.words.Given as goal
 
 abbrev pub invariant-loop-term : goal.invariant-loop-term
-invariant-loop-term g l = l.words.items ≡ map g.T.Term.word (take l.term-index l.terms)
+invariant-loop-term g l =
+    words_behind g.T.Term.word l.words.items (drop l.term-index l.terms)
+    ≡ words_behind g.T.Term.word [] l.terms
