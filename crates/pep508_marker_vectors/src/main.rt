@@ -5,9 +5,11 @@
 
 mod answers;
 mod environment;
+mod kept;
 mod pairs;
 mod reading;
 mod simplified;
+mod texts;
 mod told;
 mod views;
 
