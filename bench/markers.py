@@ -7,10 +7,10 @@ PROGRAM is crates/pep508_marker_vectors/out/pep508_marker_vectors where none is 
 (`./build pep508_marker_vectors` makes it). A native program is called as `PATH marker --json`, with a marker
 as a JSON text a line on standard input. Chains are `os_name == 'x0' or os_name == 'x1' ..` and the same of extras, and
 `extra == 'x0' and extra == 'x1' ..`; the many are drawn from the real markers among the questions of
-crates/pep508_marker_vectors. What is printed are those and clauses of ten comparisons, which differ in the first or
-the last; reading these alone is timed beside. There the native program is called by `dnf` and `tree`. Processor
-seconds and peak memory are those of the whole process, the least of several runs. The exit status is 1 where an answer is wrong, or where chains of 10,000 take more than 7
-times as long as those of 2,000.
+crates/pep508_marker_vectors. What is printed are those and clauses of ten comparisons, which differ in the first,
+in the last or in all; reading these alone is timed beside. There the native program is called by `dnf` and `tree`.
+Processor seconds and peak memory are those of the whole process, the least of several runs. The exit status is 1
+where an answer is wrong, or where chains of 10,000 take more than 7 times as long as those of 2,000.
 """
 
 import argparse
@@ -59,7 +59,9 @@ def real_markers(number):
 
 
 def clauses(number, at):
-    """So many clauses of a comparison a key, which differ in the one at a place."""
+    """So many clauses of a comparison a key, which differ in the one at a place, or in all where there is none."""
+    if at is None:
+        return " or ".join(" and ".join(f"{key} == 'x{it}'" for key in KEYS) for it in range(number))
     shared = [f"{key} == 'x'" for key in KEYS]
     key, shared[at] = KEYS[at], "({})"
     chosen = [f"{key} == 'x{it}'" for it in range(number)]
@@ -111,7 +113,7 @@ def workloads(lines):
             command = "marker" if (key, size) == ("os_name", LEAST) else None
             yield f"{key} {word} {size}", "marker", command, [chain(key, word, size)]
     yield f"real markers {lines}", "marker", "marker", real_markers(lines)
-    for which, at in (("first", 0), ("last", -1)):
+    for which, at in (("first", 0), ("last", -1), ("all", None)):
         for question, command in (("marker", "tree"), ("text", "dnf")):
             yield f"{CLAUSES} clauses, {which} terms differ: {question}", question, command, [clauses(CLAUSES, at)]
     yield f"real markers {lines}: text", "text", "dnf", real_markers(lines)
