@@ -136,6 +136,12 @@ run check path E C
 wants "a path beside the list" 0 "foo direct$n" ""
 run check R E C dev Other_Extra
 wants "two extras" 0 "foo-bar 1.19$n" ""
+# (where the system gives a program 64 MiB of stack, as nearly all do that are asked)
+if [ "$(ulimit -H -s)" = unlimited ] || [ "$(ulimit -H -s)" -ge 65536 ]; then
+    awk 'BEGIN { printf "foo ; extra == \"x0\""; for (i = 1; i < 50000; i++) printf " and extra == \"x%d\"", i * 7919 % 50000 }' >deep
+    run check deep E C x0
+    wants "a path of 50,000 extras" 0 "" ""
+fi
 
 # Examples.
 for example in "$top"/examples/*/; do

@@ -1,5 +1,5 @@
 -- True and false by turns, from each boundary on the other one.
-use Rattle.std.proofs.Common.{◌≡◌, ℕ, ◌≤◌, ◌++◌, length, drop, drop_of_length-le, append-nil, inl, inr, Bool, true, false, not, List, [], ◌∷◌, map, refl, sym, ap, subst, ◌∙◌, true≢false}
+use Rattle.std.proofs.Common.{◌≡◌, inl, inr, Bool, true, false, not, List, [], ◌∷◌, map, refl, sym, ap, subst, ◌∙◌, true≢false}
 use Rattle.std.proofs.lemmas.Bool.{cases_Bool}
 use Rattle.std.specs.List.{AllByRecursion}
 use Rattle.std.specs.Cmp.{IsTotalOrder}
@@ -12,7 +12,6 @@ use Rattle.version_ranges.specs.OrderLaws.{points_total}
 use Rattle.version_ranges.specs.Turns.{flips, reaches, is_held, Rising}
 use Rattle.version_ranges.proofs.Membership.{before_less, flips_false}
 use Rattle.version_ranges.proofs.Turning.{held_turns}
-use Rattle.pep508_diagram.specs.declared.branch.Branch.{Branch}
 use Rattle.pep508_diagram.specs.Branches.{RisingBranches, branch_at, NeighboursDiffer, by_turns}
 use Rattle.pep508_diagram.proofs.Branching.{gt_of}
 
@@ -78,12 +77,3 @@ module _ {T : Type 0} {cmp : T → T → Ordering} (o : IsTotalOrder cmp) where
       ≡ is_held (point_cmp cmp) (turns_of first boundaries) p
   turns_held first boundaries p rising =
       turns_flip first boundaries p rising ∙ sym (held_turns cmp first boundaries p)
-
--- ---- a loop over the boundaries, each of which becomes f of it
-
-pub turns_all : {T : Type 0} (f : Boundary T → Boundary T) (first held : Bool) (all : List (Boundary T))
-    (i : ℕ) (done : List (Branch T Bool)) →
-    by_turns first (map f all) ≡ done ++ by_turns held (map f (drop i all)) →
-    length all ≤ i → done ≡ by_turns first (map f all)
-turns_all f first held all i done so_far h =
-    sym (so_far ∙ ap (λ bs. done ++ by_turns held (map f bs)) (drop_of_length-le all h) ∙ append-nil done)

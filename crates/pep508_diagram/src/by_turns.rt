@@ -1,13 +1,9 @@
-//! Sets as branches: true and false by turns, from each boundary on the other one.
+//! Sets as branches: true and false by turns, from each boundary on the other one; and branches whose boundaries
+//! are at versions in their shortest spelling.
 
 ghost use Rattle.std.specs.Prelude.{◌≡◌, IfOk, map};
-ghost use Rattle.version_ranges.specs.Point.{Point};
-ghost use Rattle.version_ranges.specs.Turns.{Rising};
-ghost use Rattle.version_ranges.specs.Boundaries.{boundary_cmp};
-ghost use Rattle.pep440_text.specs.Record.{VersionRecord};
-ghost use Rattle.pep440_version.specs.Order.{version_cmp};
-ghost use Rattle.pep508_diagram.specs.Branches.{RisingBranches, branch_at, NeighboursDiffer, by_turns};
-ghost use Rattle.pep508_diagram.specs.Shortened.{shortened, AllShort};
+ghost use Rattle.pep508_diagram.specs.Branches.{by_turns};
+ghost use Rattle.pep508_diagram.specs.Shortened.{shortest, shortened, shortened_branch};
 
 use crate::branch::{Branch, copy_of};
 use crate::value::NodeValue;
@@ -36,45 +32,40 @@ pub fn turned_branches<T: NodeValue>(
     Ok(branches)
 }
 
-/// A copy of a boundary, at the version without the zeros at its release's end.
-fn short_copy_of(
-    alloc: Global,
-    boundary: &Boundary<Version>,
-) -> Result<Boundary<Version>, AllocError>
-    ensures { IfOk result (λ copy. copy ≡ shortened boundary.now) }
+/// The version in its shortest spelling.
+fn shortest(version: Version) -> Version
+    ensures { result ≡ shortest version }
 {
-    Ok(match boundary {
-        Boundary::At(version) => Boundary::At(version.copied(alloc)?.without_end_zeros()),
-        Boundary::JustAbove(version) => Boundary::JustAbove(
-            version.copied(alloc)?.without_end_zeros(),
-        ),
-    })
+    let version = version.without_end_zeros();
+    match Version::max(&version) {
+        Some(_) => version.with_post(None),
+        None => version,
+    }
 }
 
-/// The branches of a set of versions, with each boundary at the version without the zeros at its release's
-/// end, which is the same place. Copies each boundary once.
-pub fn turned_versions(
-    alloc: Global,
-    starts_held: bool,
-    boundaries: &[Boundary<Version>],
-) -> Result<Vec<Branch<Version, bool>>, AllocError>
-    requires { Rising (boundary_cmp version_cmp) boundaries.now }
-    ensures items { IfOk result (λ branches.
-        branches.items ≡ by_turns starts_held (map shortened boundaries.now)) }
-    ensures points { IfOk result (λ branches. (p : Point VersionRecord) →
-        branch_at version_cmp starts_held branches.items p
-        ≡ branch_at version_cmp starts_held (by_turns starts_held boundaries.now) p) }
-    ensures rises { IfOk result (λ branches. RisingBranches version_cmp branches.items) }
-    ensures differ { IfOk result (λ branches. NeighboursDiffer starts_held branches.items) }
-    ensures short { IfOk result (λ branches. AllShort branches.items) }
+/// The boundary at its version's shortest spelling.
+fn shortened(boundary: Boundary<Version>) -> Boundary<Version>
+    ensures { result ≡ shortened boundary }
 {
-    let mut branches = Vec::with_capacity(alloc, boundaries.len())?;
-    let mut held = starts_held;
-    for boundary in boundaries {
-        held = !held;
+    match boundary {
+        Boundary::At(version) => Boundary::At(shortest(version)),
+        Boundary::JustAbove(version) => Boundary::JustAbove(shortest(version)),
+    }
+}
+
+/// The branches with each boundary at its version's shortest spelling, which is the same place. Copies no
+/// version. The only refusal is want of memory.
+pub fn shortened_branches<C: Drop>(
+    alloc: Global,
+    later: Vec<Branch<Version, C>>,
+) -> Result<Vec<Branch<Version, C>>, AllocError>
+    ensures { IfOk result (λ branches. branches.items ≡ map shortened_branch later.items) }
+{
+    let mut branches = Vec::with_capacity(alloc, later.len())?;
+    for branch in later {
         branches.push(Branch {
-            boundary: short_copy_of(alloc, boundary)?,
-            child: held,
+            boundary: shortened(branch.boundary),
+            child: branch.child,
         })?;
     }
     Ok(branches)

@@ -9,7 +9,7 @@ mod value;
 mod variable;
 
 pub use branch::{Branch, branch_at, paired};
-pub use by_turns::{turned_branches, turned_versions};
+pub use by_turns::{shortened_branches, turned_branches};
 pub use text::MarkerText;
 pub use value::NodeValue;
 pub use variable::{Flag, VersionVariable, text_rank};

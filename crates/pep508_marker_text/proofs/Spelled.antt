@@ -1,5 +1,5 @@
--- Equal versions of one spelling are the same, and so are diagrams that are one.
-use Rattle.std.proofs.Common.{◌≡◌, ◌∙◌, ℕ, ◌==◌, cond, List, [], ◌∷◌, map, refl, ap, ap₂, sym, arith, Option, Some, None, Less, Equal, Greater}
+-- Equal versions in their shortest spelling are the same, and so are diagrams that are one.
+use Rattle.std.proofs.Common.{◌≡◌, ◌∙◌, ℕ, ◌==◌, cond, if◌then◌else◌, List, [], ◌∷◌, map, refl, ap, ap₂, sym, arith, Option, Some, None, Less, Equal, Greater}
 use Rattle.std.specs.Ordering.{is_eq}
 use Rattle.std.specs.Cmp.Lexicographic.{slice_cmp}
 use Rattle.version_ranges.specs.declared.boundary.Boundary.{Boundary}
@@ -10,14 +10,14 @@ use Rattle.pep440_text.specs.declared.PrereleaseKind.{PrereleaseKind}
 use Rattle.pep440_text.specs.declared.PrereleaseKind.TheVariants.{Alpha, Beta, Rc}
 use Rattle.pep440_rs.specs.Record.{Segment, Text, Number, VersionRecord}
 use Rattle.pep440_rs.specs.Changes.{or_zero}
-use Rattle.pep440_rs.specs.Order.{kind_rank, stripped, absent_last, pre_key, post_key, segment_key, key_of, version_cmp}
+use Rattle.pep440_rs.specs.Order.{kind_rank, stripped, absent_first, absent_last, pre_key, post_key, segment_key, key_of, version_cmp}
 use Rattle.pep440_rs.specs.OrderLaws.{key_decides}
 use Rattle.pep508_diagram.specs.Diagram.{Diagram, Leaf, Test}
 use Rattle.pep508_diagram.specs.Question.{Question, VersionBelow, TextBelow, IsSet, Valuation, truth, AreOne, IsCanonical, place_of, version_rank, text_rank, question_cmp}
+use Rattle.pep508_diagram.specs.Shortened.{post_beside, shortest, IsShort, AsksOfShort, HasShortVersions}
 use Rattle.pep508_diagram.specs.Text.{text_cmp}
 use Rattle.pep508_diagram.proofs.Places.{not_less, both_equal, texts_same, versions_same, text_keys_same, version_rank_below, rank_below, flag_rank_from, flag_from_place}
 use Rattle.pep508_diagram.proofs.Questions.{one_marker_diagram}
-use Rattle.pep508_marker_text.specs.Spelling.{IsShortVersion, StandsAtShort, AsksOfShort, HasShortVersions}
 
 -- ---- parts of keys
 
@@ -58,11 +58,31 @@ pres_same (Some a) None e = absurd (cc)
 pres_same (Some a) (Some b) e =
     ap₂ pre_made (kinds_same a.kind b.kind (ap head e)) (ap (λ xs. head (tail xs)) e)
 
-posts_same : (a b : Option ℕ) → post_key a None ≡ post_key b None → a ≡ b
-posts_same None None e = refl
-posts_same None (Some b) e = absurd (cc)
-posts_same (Some a) None e = absurd (cc)
-posts_same (Some a) (Some b) e = ap (λ xs. Some (head (tail xs))) e
+-- `most`, of a key of post-releases
+abbrev most_in : List ℕ → Option ℕ
+most_in [] = None
+most_in (x ∷ xs) = if x == 1 then Some (head xs) else None
+
+-- the post-release that stands beside no `most`
+abbrev post_in : List ℕ → Option ℕ
+post_in [] = None
+post_in (x ∷ xs) = if x == 1 then None else Some (head xs)
+
+most_back : (post most : Option ℕ) → most_in (post_key post most) ≡ most
+most_back post (Some m) = refl
+most_back (Some p) None = refl
+most_back None None = refl
+
+post_back : (post most : Option ℕ) → post_in (post_key post most) ≡ post_beside most post
+post_back post (Some m) = refl
+post_back (Some p) None = refl
+post_back None None = refl
+
+leasts_same : (a b : Option ℕ) → absent_first a ≡ absent_first b → a ≡ b
+leasts_same None None e = refl
+leasts_same None (Some b) e = absurd (cc)
+leasts_same (Some a) None e = absurd (cc)
+leasts_same (Some a) (Some b) e = ap (λ xs. Some (head xs)) e
 
 devs_same : (a b : Option ℕ) → absent_last a ≡ absent_last b → a ≡ b
 devs_same None None e = refl
@@ -90,6 +110,7 @@ record SameParts (v w : VersionRecord) : Type 0 where
   release : stripped v.release ≡ stripped w.release
   pre : pre_key v.pre ≡ pre_key w.pre
   post : post_key v.post v.most ≡ post_key w.post w.most
+  least : absent_first v.least ≡ absent_first w.least
   dev : absent_last v.dev ≡ absent_last w.dev
   local : map segment_key v.local ≡ map segment_key w.local
 
@@ -100,63 +121,44 @@ same_parts v w e = record {
   release = ap (λ k. front (rest k)) e;
   pre = ap (λ k. front (rest (rest (rest k)))) e;
   post = ap (λ k. front (rest (rest (rest (rest k))))) e;
+  least = ap (λ k. front (rest (rest (rest (rest (rest k)))))) e;
   dev = ap (λ k. front (rest (rest (rest (rest (rest (rest k))))))) e;
   local = ap (λ k. rest (rest (rest (rest (rest (rest (rest k))))))) e;
 }
 
-abbrev made : ℕ → List ℕ → Option Prerelease → Option ℕ → Option ℕ → List Segment → VersionRecord
-made epoch release pre post dev local = record {
-  epoch = epoch;
-  release = release;
-  pre = pre;
-  post = post;
-  dev = dev;
-  local = local;
-  least = None;
-  most = None;
+-- the shortest spelling of equal versions is one
+shortest_same : (v w : VersionRecord) → SameParts v w → shortest v ≡ shortest w
+shortest_same v w same = λ i. record {
+  epoch = same.epoch i;
+  release = or_zero (same.release i);
+  pre = pres_same v.pre w.pre same.pre i;
+  post = (sym (post_back v.post v.most) ∙ ap post_in same.post ∙ post_back w.post w.most) i;
+  dev = devs_same v.dev w.dev same.dev i;
+  local = locals_same v.local w.local same.local i;
+  least = leasts_same v.least w.least same.least i;
+  most = (sym (most_back v.post v.most) ∙ ap most_in same.post ∙ most_back w.post w.most) i;
 }
 
-is_made : (v : VersionRecord) → IsShortVersion v →
-    v ≡ made v.epoch (or_zero (stripped v.release)) v.pre v.post v.dev v.local
-is_made v is i = record {
-  epoch = v.epoch;
-  release = sym (ap (λ (u : VersionRecord). u.release) is.short) i;
-  pre = v.pre;
-  post = v.post;
-  dev = v.dev;
-  local = v.local;
-  least = is.no_least i;
-  most = is.no_most i;
-}
-
-one_version : (v w : VersionRecord) → IsShortVersion v → IsShortVersion w → SameParts v w → v ≡ w
-one_version v w is other same =
-    let posts : post_key v.post None ≡ post_key w.post None =
-    ap (post_key v.post) (sym is.no_most) ∙ same.post ∙ ap (post_key w.post) other.no_most in
-    let between : made v.epoch (or_zero (stripped v.release)) v.pre v.post v.dev v.local
-    ≡ made w.epoch (or_zero (stripped w.release)) w.pre w.post w.dev w.local =
-    λ i.
-    made (same.epoch i) (or_zero (same.release i)) (pres_same v.pre w.pre same.pre i)
-    (posts_same v.post w.post posts i) (devs_same v.dev w.dev same.dev i)
-    (locals_same v.local w.local same.local i) in
-    is_made v is ∙ between ∙ sym (is_made w other)
-
--- equal versions of one spelling are the same
-pub versions_spelled : (v w : VersionRecord) → IsShortVersion v → IsShortVersion w → version_cmp v w ≡ Equal → v ≡ w
+-- equal versions in their shortest spelling are the same
+pub versions_spelled : (v w : VersionRecord) → shortest v ≡ v → shortest w ≡ w → version_cmp v w ≡ Equal → v ≡ w
 versions_spelled v w is other e =
-    one_version v w is other (same_parts v w ((key_decides v w).0 (ap is_eq e)))
+    sym is ∙ shortest_same v w (same_parts v w ((key_decides v w).0 (ap is_eq e))) ∙ other
+
+abbrev version_in : Boundary VersionRecord → VersionRecord
+version_in (boundary.At v) = v
+version_in (boundary.JustAbove v) = v
 
 -- ---- boundaries and questions
 
-boundaries_same : (a b : Boundary VersionRecord) → StandsAtShort a → StandsAtShort b →
+boundaries_same : (a b : Boundary VersionRecord) → IsShort a → IsShort b →
     boundary_cmp version_cmp a b ≡ Equal → a ≡ b
-boundaries_same (boundary.At v) (boundary.At w) is other e = ap boundary.At (versions_spelled v w is other e)
+boundaries_same (boundary.At v) (boundary.At w) is other e = ap boundary.At (versions_spelled v w (ap version_in is) (ap version_in other) e)
 boundaries_same (boundary.At v) (boundary.JustAbove w) is other e =
     absurd (not_less (sym (both_equal (version_cmp v w) Less e).1))
 boundaries_same (boundary.JustAbove v) (boundary.At w) is other e =
     let l : Greater ≡ Equal = (both_equal (version_cmp v w) Greater e).1 in absurd (cc)
 boundaries_same (boundary.JustAbove v) (boundary.JustAbove w) is other e =
-    ap boundary.JustAbove (versions_spelled v w is other e)
+    ap boundary.JustAbove (versions_spelled v w (ap version_in is) (ap version_in other) e)
 
 texts_at : (a b : Boundary (List ℕ)) → boundary_cmp text_cmp a b ≡ Equal → a ≡ b
 texts_at (boundary.At v) (boundary.At w) e = ap boundary.At (texts_same v w e)
@@ -207,7 +209,7 @@ questions_same (IsSet f) (IsSet g) is other e =
 
 -- ---- diagrams
 
--- diagrams of one spelling that are one are the same
+-- diagrams of shortest spellings that are one are the same
 pub diagrams_spelled : (d e : Diagram Question) → HasShortVersions d → HasShortVersions e → AreOne d e → d ≡ e
 diagrams_spelled (Leaf b) (Leaf c) is other one = ap Leaf one
 diagrams_spelled (Leaf b) (Test r low high) is other one = absurd one

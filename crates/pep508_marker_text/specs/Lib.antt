@@ -9,4 +9,3 @@ pub mod ReleaseBounds
 pub mod Truth
 pub mod Raisable
 pub mod MarkerText
-pub mod Spelling

@@ -3,6 +3,7 @@ ghost use Rattle.std.specs.Prelude.{◌≡◌, ◌≢◌, ◌↔◌, Bool, true,
 ghost use Rattle.pep508_marker.specs.Expression.{ExpressionRecord};
 ghost use Rattle.pep508_diagram.specs.Diagram.{Diagram, Leaf};
 ghost use Rattle.pep508_diagram.specs.Question.{Question, Valuation, truth, AreOne, IsCanonical};
+ghost use Rattle.pep508_diagram.specs.Shortened.{HasShortVersions};
 ghost use Rattle.pep508_expression.specs.Expressions.{expression_holds};
 ghost use Rattle.pep508_tree.specs.Tree.{Tree};
 ghost use Rattle.pep508_tree.specs.Meaning.{IsTree, diagram_of, holds};
@@ -13,7 +14,6 @@ ghost use Rattle.pep508_marker_text.specs.SameDiagrams.{same_diagram};
 ghost use Rattle.pep508_marker_text.specs.Saying.{Clause};
 ghost use Rattle.pep508_marker_text.specs.SameTerms.{same_term, opposite_term};
 ghost use Rattle.pep508_marker_text.specs.Simplified.{is_needless, is_covered, simplified};
-ghost use Rattle.pep508_marker_text.specs.Spelling.{HasShortVersions};
 ghost use Rattle.pep508_marker_text.specs.Truth.{one_holds, IsTruth};
 
 use pep508_tree::Interner;
@@ -64,8 +64,8 @@ pub fn a_disjunction_means_its_diagram()
         one_holds (λ term. expression_holds term v) (disjunction diagram) ≡ truth diagram v }
 {}
 
-/// Diagrams that mean the same are the same, and print the same, where their versions have one spelling: no
-/// zeros at the end of a release, and no bound that no text has.
+/// Diagrams that mean the same are the same, and print the same, where each version is in its shortest spelling,
+/// as in the diagrams of all trees.
 #[tactic(auto, using(crate::proofs::Spelled::one_spelling))]
 pub fn one_meaning_has_one_text()
     ensures diagram { (d e : Diagram Question) → IsCanonical d → IsCanonical e → HasShortVersions d →
@@ -79,8 +79,6 @@ pub fn one_meaning_has_one_text()
 /// So trees of any two interners that mean the same print the same.
 pub fn trees_of_one_meaning_have_one_text(interner: &Interner, other: &Interner)
     ensures { (a b : Tree) → IsTree interner.now.nodes a → IsTree other.now.nodes b →
-        HasShortVersions (diagram_of interner.now.nodes a) →
-        HasShortVersions (diagram_of other.now.nodes b) →
         ((v : Valuation) → holds interner.now.nodes a v ≡ holds other.now.nodes b v) →
         marker_text (diagram_of interner.now.nodes a) ≡ marker_text (diagram_of other.now.nodes b) }
 {

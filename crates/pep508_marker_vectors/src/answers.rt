@@ -4,6 +4,7 @@ use crate::environment::environment;
 use crate::kept::{Call, keeps};
 use crate::pairs::pair;
 use crate::reading::{expression, marker, read, refused};
+use crate::shown::shown;
 use crate::simplified::{present, within};
 use crate::texts::{clauses, text_after, text_in, top_extra};
 use crate::told::Told;
@@ -33,6 +34,9 @@ pub fn answer(alloc: Global, environments: &str, question: &str) -> Result<Strin
         "present" => {
             let extras = extras_from(alloc, &question, 3)?;
             present(alloc, text, text_at(&question, 2), &extras)
+        }
+        "print" | "value" | "contents" | "order" => {
+            shown(alloc, asked, text, text_at(&question, 2))
         }
         "evaluate" => {
             let extras = extras_from(alloc, &question, 3)?;

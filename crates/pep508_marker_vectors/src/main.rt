@@ -8,6 +8,7 @@ mod environment;
 mod kept;
 mod pairs;
 mod reading;
+mod shown;
 mod simplified;
 mod texts;
 mod told;

@@ -8,3 +8,4 @@ pub mod Specifiers
 pub mod Dotless
 pub mod Requirements
 pub mod ReadRequirements
+pub mod Views

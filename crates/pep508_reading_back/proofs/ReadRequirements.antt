@@ -12,9 +12,9 @@ use Rattle.pep508_requirement.specs.declared.requirement.Requirement.{Requiremen
 use Rattle.pep508_requirement.specs.MarkerBehind.{marker_behind}
 use Rattle.pep508_requirement.specs.RequirementReading.{AsksFor, IsRead}
 use Rattle.pep508_requirement.specs.RequirementText.{IsMarkedText}
-use Rattle.pep508_reading_back.specs.RequirementPrint.{ReadsRequirement}
+use Rattle.pep508_reading_back.specs.ReadableRequirements.{ReadsRequirement}
 
-one_answer : {A E : Type 0} (x y : A) (answer : Result A E) → answer ≡ Ok x → answer ≡ Ok y → x ≡ y
+pub one_answer : {A E : Type 0} (x y : A) (answer : Result A E) → answer ≡ Ok x → answer ≡ Ok y → x ≡ y
 one_answer x y answer h k = cc
 
 -- what is written is read

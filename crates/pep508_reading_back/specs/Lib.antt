@@ -1,4 +1,5 @@
 pub mod Readable
 pub mod Clauses
 pub mod Diagrams
-pub mod RequirementPrint
+pub mod ReadableRequirements
+pub mod Views

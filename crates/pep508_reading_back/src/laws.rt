@@ -14,13 +14,18 @@ ghost use Rattle.pep508_requirement_text.specs.FrontReading.{Front};
 ghost use Rattle.pep508_requirement.specs.MarkerBehind.{no_marker};
 ghost use Rattle.pep508_requirement.specs.RequirementText.{IsMarkedText};
 ghost use Rattle.pep508_reading_back.specs.Readable.{IsReadable, marker_of};
-ghost use Rattle.pep508_reading_back.specs.RequirementPrint.{requirement_text, IsReadableFront, ReadsRequirement};
+ghost use Rattle.pep508_reading_back.specs.ReadableRequirements.{IsReadableFront, ReadsRequirement};
+ghost use Rattle.pep508_requirement_ref.specs.RequirementPrint.{requirement_text};
 ghost use Rattle.pep508_url.specs.Vars.{Variables};
 ghost use Rattle.pep508_tree.specs.Meaning.{NodeRecord, holds};
 ghost use Rattle.pep508_requirement.specs.RequirementReading.{AsksFor, IsRead};
+ghost use Rattle.pep508_requirement.specs.RequirementReading as reading;
+ghost use Rattle.pep508_reading_back.specs.Views.{IsReadableView, ReadsBack};
 
-use pep508_requirement::laws::a_written_requirement_is_read;
+use pep508_requirement::laws::{a_written_requirement_is_not_refused, a_written_requirement_is_read};
+use pep508_requirement_ref::RequirementRef;
 use pep508_url::Pep508Url;
+use std::fmt;
 
 /// A printed comparison is read as that very comparison; a warning tells of an extra whose text is no name,
 /// and of nothing else.
@@ -73,4 +78,19 @@ pub fn a_printed_requirement_reads_back<T: Pep508Url>()
         × ((v : Valuation) → holds nodes r.marker v ≡ truth diagram v) }
 {
     a_written_requirement_is_read();
+}
+
+/// What a requirement without a URL prints with its interner, as its `to_string` gives it, is read by
+/// `Requirement::parse` with any interner, unless memory runs out: with its name, its extras and its
+/// specifiers, and a tree that means what its marker does.
+pub fn a_printed_view_reads_back<'a, T: Pep508Url>(shown: &RequirementRef<'a, T>)
+    ensures { (vars : Variables) (directory : Option (List ℕ)) (nodes : List NodeRecord) (text : List ℕ)
+        (answer : _) → IsReadableView shown.now
+        → ⟦<RequirementRef<'a, T> as fmt::Display>⟧.output shown.now ≡ Some text
+        → reading.ReadsRequirement (λ url. T.reads vars url directory) T.lacks_memory vars nodes text answer
+        → ReadsBack nodes shown.now answer }
+{
+    shown.is_canonical();
+    a_written_requirement_is_read();
+    a_written_requirement_is_not_refused::<T>();
 }

@@ -19,14 +19,17 @@ pub use pep508_marker::{
     TracingReporter,
 };
 pub use pep508_marker_comparison::{parse_expression, parse_expression_reporter};
+pub use pep508_marker_contents::{MarkerTreeContents, MarkerTreeWithContents, ser};
 pub use pep508_marker_dnf::MarkerTreeText;
 pub use pep508_marker_read::MarkerTreeReading;
 pub use pep508_name::{ExtraName, InvalidNameError, PackageName, RequirementOrigin};
 pub use pep508_requirement::{
     Extras, Requirement, UnnamedRequirement, VersionOrUrl, VersionOrUrlRef,
 };
+pub use pep508_requirement_ref::{RequirementRef, UnnamedRequirementRef};
 pub use pep508_simplification::MarkerTreeSimplification;
 pub use pep508_tree::{Interner, MarkerTree};
+pub use pep508_tree_ref::MarkerTreeRef;
 pub use pep508_url::{
     Pep508Url, Scheme, UnnamedRequirementUrl, Vars, VerbatimUrl, VerbatimUrlError, expand_env_vars,
     normalize_absolute_path, normalize_url_path, split_extras, split_scheme, strip_host,

@@ -24,7 +24,7 @@ use Rattle.pep508_tree.proofs.Roots.{constant_is}
 use Rattle.pep508_tree.proofs.Conjoining.{extends_itself, extends_on, tree_kept, meet_push, meet_weaker, meet_with, children_list, children_joined, chosen_joined, place_joined}
 use Rattle.pep508_simplification.specs.Simplified.{with_named, is_named}
 use Rattle.pep508_simplification.specs.Parts.{children_of, with_set, is_root_named, IsRejoined}
-use Rattle.pep508_simplification.specs.Named.{AnswersBy, IsNamed, IsKnown, AreKnown, plain}
+use Rattle.pep508_simplification.specs.Named.{AnswersBy, IsNamed, IsKnown, AreKnown, IsAsked, plain}
 
 pub above_back : (old new : List NodeRecord) → Extends old new → (place : List ℕ) (t : Tree) → IsTree old t →
     Above new place t → Above old place t
@@ -166,16 +166,6 @@ module _ (returns : Bor (List ℕ) → Bool → Type 0) where
 
   -- ---- roots
 
-  -- the node says what the tree does with the named extras present
-  pub record IsAsked (nodes : List NodeRecord) (t : Tree) (n : NodeRecord) : Type 0 where
-    pub made : AllChildren (IsTree nodes) n
-    pub falls : AllChildren (λ child. child.place < t.place) n
-    pub above : AllChildren (Above nodes (node_place n)) n
-    pub place_is : node_place n ≡ first_place nodes t
-    pub rises : IsRising n
-    pub holds_is : (says : List ℕ → Bool) → AnswersBy returns says → (v : Valuation) →
-        holds nodes t (with_named says v) ≡ holds nodes (chosen n v) (with_named says v)
-
   pick : (P : Tree → Type 0) (b : Bool) (set unset : Tree) → P set → P unset → P (cond b set unset)
   pick P true set unset p q = p
   pick P false set unset p q = q
@@ -190,7 +180,7 @@ module _ (returns : Bor (List ℕ) → Bool → Type 0) where
   pub asked : (nodes : List NodeRecord) (t : Tree) (o : Option NodeRecord) (b : Bool) →
       MatchOption o (t.place ≡ 0) (IsRoot nodes t) →
       ((says : List ℕ → Bool) → AnswersBy returns says → b ≡ is_root_named says o) →
-      MatchOption (with_set b o) (t.place ≡ 0) (IsAsked nodes t)
+      MatchOption (with_set b o) (t.place ≡ 0) (IsAsked returns nodes t)
   asked nodes t None b known named = known
   asked nodes t (Some (Versions key first later)) b root named = record {
     made = root.made;
@@ -246,18 +236,18 @@ module _ (returns : Bor (List ℕ) → Bool → Type 0) where
     joined_made None met = tt
     joined_made (Some n) met = met_made n met
 
-    pub joined_above : (o : Option NodeRecord) → MatchOption o (t.place ≡ 0) (IsAsked old t) →
+    pub joined_above : (o : Option NodeRecord) → MatchOption o (t.place ≡ 0) (IsAsked returns old t) →
         Meet (IsNamed returns old now) (children_of o) trees →
         IfSome o (λ n. AllChildren (Above now (node_place n)) (node_joined n trees))
     joined_above None asked met = tt
     joined_above (Some n) asked met = met_above n asked.above met
 
-    pub joined_rising : (o : Option NodeRecord) → MatchOption o (t.place ≡ 0) (IsAsked old t) → IfSome o IsRising
+    pub joined_rising : (o : Option NodeRecord) → MatchOption o (t.place ≡ 0) (IsAsked returns old t) → IfSome o IsRising
     joined_rising None asked = tt
     joined_rising (Some n) asked = asked.rises
 
     pub joined_named : (new : List NodeRecord) (s : Tree) (o : Option NodeRecord) →
-        MatchOption o (t.place ≡ 0) (IsAsked old t) → Extends old new → IsTree old t →
+        MatchOption o (t.place ≡ 0) (IsAsked returns old t) → Extends old new → IsTree old t →
         Meet (IsNamed returns old now) (children_of o) trees → IsRejoined now new t o trees s →
         IsNamed returns old new t s
     joined_named new s None zero keeps made met is = subst (IsNamed returns old new t) (sym is) (record {
@@ -283,11 +273,11 @@ module _ (returns : Bor (List ℕ) → Bool → Type 0) where
   -- ---- what stands in a root
 
   pub asked_made : (nodes : List NodeRecord) (t : Tree) (o : Option NodeRecord) →
-      MatchOption o (t.place ≡ 0) (IsAsked nodes t) → AllByRecursion (IsTree nodes) (children_of o)
+      MatchOption o (t.place ≡ 0) (IsAsked returns nodes t) → AllByRecursion (IsTree nodes) (children_of o)
   asked_made nodes t None asked = tt
   asked_made nodes t (Some n) asked = children_list (IsTree nodes) n asked.made
 
   pub asked_falls : (nodes : List NodeRecord) (t : Tree) (o : Option NodeRecord) →
-      MatchOption o (t.place ≡ 0) (IsAsked nodes t) → AllByRecursion (λ child. child.place < t.place) (children_of o)
+      MatchOption o (t.place ≡ 0) (IsAsked returns nodes t) → AllByRecursion (λ child. child.place < t.place) (children_of o)
   asked_falls nodes t None asked = tt
   asked_falls nodes t (Some n) asked = children_list (λ (child : Tree). child.place < t.place) n asked.falls

@@ -1,12 +1,12 @@
 -- Trees in which the named extras are taken as present, and what is remembered of them.
-use Rattle.std.specs.Prelude.{◌≡◌, ℕ, Bool, false, List, IfSome}
+use Rattle.std.specs.Prelude.{◌≡◌, ℕ, ◌<◌, Bool, false, List, IfSome}
 use Rattle.std.specs.Borrow.{Bor}
 use Rattle.std.specs.BTreeMap.{BTreeMap, get}
 use Rattle.std.specs.Ordering.{nat_cmp}
 use Rattle.pep508_diagram.specs.Question.{Valuation}
 use Rattle.pep508_tree.specs.Tree.{Tree}
 use Rattle.pep508_tree.specs.Meaning.{NodeRecord, holds, IsTree}
-use Rattle.pep508_tree.specs.Nodes.{Above}
+use Rattle.pep508_tree.specs.Nodes.{AllChildren, IsRising, Above, chosen, node_place, first_place}
 use Rattle.pep508_simplification.specs.Simplified.{with_named}
 
 -- the test's answers are by the name alone
@@ -37,3 +37,13 @@ module _ (returns : Bor (List ℕ) → Bool → Type 0) where
   pub record IsFound (old new : List NodeRecord) (tree simple : Tree) (known : BTreeMap ℕ Tree) : Type 0 where
     pub named : IsNamed old new tree simple
     pub kept : AreKnown new known
+
+  -- the node says what the tree does with the named extras present
+  pub record IsAsked (nodes : List NodeRecord) (t : Tree) (n : NodeRecord) : Type 0 where
+    pub made : AllChildren (IsTree nodes) n
+    pub falls : AllChildren (λ child. child.place < t.place) n
+    pub above : AllChildren (Above nodes (node_place n)) n
+    pub place_is : node_place n ≡ first_place nodes t
+    pub rises : IsRising n
+    pub holds_is : (says : List ℕ → Bool) → AnswersBy returns says → (v : Valuation) →
+        holds nodes t (with_named says v) ≡ holds nodes (chosen n v) (with_named says v)

@@ -1,13 +1,15 @@
 //! Trees in which the named extras are taken as present.
 
-ghost use Rattle.std.specs.Prelude.{◌≡◌, ◌<◌, false, ℕ, Bool, List, IfOk, IfSome};
+ghost use Rattle.std.specs.Prelude.{◌≡◌, ◌<◌, false, ℕ, Bool, List, IfOk, IfSome, MatchOption};
 ghost use Rattle.std.specs.List.{AllByRecursion};
 ghost use Rattle.pep508_diagram.specs.Question.{Valuation};
 ghost use Rattle.pep508_tree.specs.Meaning.{IsTree, Extends, holds};
 ghost use Rattle.pep508_tree.specs.Conjunctions.{Meet};
+ghost use Rattle.pep508_tree.specs.Joining.{node_joined};
+ghost use Rattle.pep508_tree.specs.Nodes.{AllChildren, IsRising, Above, node_place};
 ghost use Rattle.pep508_simplification.specs.Simplified.{is_listed, is_named, with_named};
-ghost use Rattle.pep508_simplification.specs.Parts.{record_of, is_root_named};
-ghost use Rattle.pep508_simplification.specs.Named.{AnswersBy, IsNamed, IsKnown, AreKnown, IsFound};
+ghost use Rattle.pep508_simplification.specs.Parts.{record_of, is_root_named, IsRejoined};
+ghost use Rattle.pep508_simplification.specs.Named.{AnswersBy, IsNamed, IsKnown, AreKnown, IsFound, IsAsked};
 
 use crate::root::{Root, copy_of_root, turned};
 use pep508_diagram::Flag;
@@ -44,7 +46,49 @@ fn is_root_named<F: Fn(&ExtraName) -> bool>(root: &Root, predicate: &F) -> bool
     }
 }
 
+/// A copy of what stands at a tree's root, a flag with the same on both sides where its extra is named. It stands in
+/// memory of its own, so that a recursion over trees keeps little on the stack.
+#[inline(never)]
+fn named_root<F: Fn(&ExtraName) -> bool>(
+    alloc: Global,
+    interner: &Interner,
+    predicate: &F,
+    tree: MarkerTree,
+) -> Result<Box<Root>, AllocError>
+    requires callable { F.IsAlwaysCallable predicate.now }
+    requires made { IsTree interner.now.nodes tree }
+    ensures { IfOk result (λ root. MatchOption (record_of root.value) (tree.place ≡ 0)
+        (IsAsked (F.post predicate.now) interner.now.nodes tree)) }
+{
+    let root = copy_of_root(alloc, interner, tree)?;
+    let is_named = is_root_named(&root, predicate);
+    Ok(Box::new(alloc, root.with_set(is_named))?)
+}
+
+/// The tree of such a copy with other trees in it.
+#[inline(never)]
+fn rejoined(
+    alloc: Global,
+    interner: &mut Interner,
+    root: Box<Root>,
+    tree: MarkerTree,
+    trees: &[MarkerTree],
+) -> Result<MarkerTree, AllocError>
+    requires made { IfSome (record_of root.value) (λ n.
+        AllChildren (IsTree interner.old.nodes) (node_joined n trees.now)) }
+    requires above { IfSome (record_of root.value) (λ n.
+        AllChildren (Above interner.old.nodes (node_place n)) (node_joined n trees.now)) }
+    requires rises { IfSome (record_of root.value) IsRising }
+    ensures made { IfOk result
+        (IsRejoined interner.old.nodes interner.new.nodes tree (record_of root.value) trees.now) }
+    ensures keeps { Extends interner.old.nodes interner.new.nodes }
+    ensures counts { interner.new.conjunctions ≡ interner.old.conjunctions }
+{
+    Box::into_inner(root).rejoined(alloc, interner, tree, trees)
+}
+
 /// What was found for the plain tree at a place, if it was asked for before.
+#[inline(never)]
 fn recalled<F: Fn(&ExtraName) -> bool>(
     interner: &Interner,
     known: &BTreeMap<usize, MarkerTree>,
@@ -58,6 +102,7 @@ fn recalled<F: Fn(&ExtraName) -> bool>(
 }
 
 /// Remembers what was found for the plain tree at a place.
+#[inline(never)]
 fn remember<F: Fn(&ExtraName) -> bool>(
     interner: &Interner,
     known: &mut BTreeMap<usize, MarkerTree>,
@@ -99,12 +144,10 @@ pub(crate) fn with_named<F: Fn(&ExtraName) -> bool>(
         return Ok(found);
     }
     let plain = turned(tree, negated);
-    let root = copy_of_root(alloc, interner, plain)?;
-    let is_named = is_root_named(&root, predicate);
-    let root = root.with_set(is_named);
+    let root = named_root(alloc, interner, predicate, plain)?;
     let children = root.children(alloc)?;
     let trees = all_with_named(alloc, interner, known, predicate, plain, &children)?;
-    let simple = root.rejoined(alloc, interner, plain, &trees)?;
+    let simple = rejoined(alloc, interner, root, plain, &trees)?;
     remember(interner, known, predicate, place, simple)?;
     let signed = turned(simple, negated);
     Ok(signed)

@@ -6,6 +6,7 @@ pub mod Pairs
 pub mod NodeChildren
 pub mod OneNode
 pub mod OneTree
+pub mod Shortened
 pub mod Meanings
 pub mod Moving
 pub mod Disjoint

@@ -21,11 +21,12 @@ use Rattle.pep508_diagram.proofs.Places.{both_equal, not_less, numbers_same, tex
 use Rattle.pep508_diagram.proofs.Turned.{flips_twice, flips_back}
 use Rattle.pep508_tree.specs.Tree.{Tree, negation}
 use Rattle.pep508_tree.specs.Meaning.{NodeRecord, Versions, Texts, Flagged, holds, IsTree, Extends}
-use Rattle.pep508_tree.specs.Nodes.{AllChildren, IsRising, IsJoined, ChildrenDiffer, HasBoundary, IsAlone, Above, AreSound, IsSoundNode, Made, chosen, first_child, second_child, version_branches, text_branches, no_node, node_at, node_place, node_cmp, tree_cmp, branch_cmp, turned, turned_branch, signed}
+use Rattle.pep508_tree.specs.Nodes.{AllChildren, IsRising, IsJoined, ChildrenDiffer, HasBoundary, IsAlone, Above, AreSound, IsSoundNode, Made, chosen, first_child, second_child, version_branches, text_branches, no_node, node_at, node_place, node_cmp, tree_cmp, branch_cmp, turned, turned_branch, signed, short_node}
 use Rattle.pep508_tree.specs.NodeLaws.{nodes_total}
 use Rattle.pep508_tree.proofs.NodeChildren.{weaker_children, both_children, first_of_children}
 use Rattle.pep508_tree.proofs.Diagrams.{holds_kept}
 use Rattle.pep508_tree.proofs.Meanings.{chosen_all, holds_at, holds_turned}
+use Rattle.pep508_tree.proofs.Shortened.{short_place, short_first, short_children, short_rises, short_differ, short_wide, short_short}
 
 -- ---- what stays when a node is added
 
@@ -48,6 +49,7 @@ sound_kept old new e place n inside s = record {
   differ = s.differ;
   wide = s.wide;
   plain = s.plain;
+  short = s.short;
 }
 
 pub at_end : (ns : List NodeRecord) (n : NodeRecord) → node_at (ns ++ n ∷ []) (length ns) ≡ n
@@ -334,22 +336,25 @@ pub above_negation : (nodes : List NodeRecord) (place : List ℕ) (t : Tree) →
 unfolding Above
 above_negation nodes place t above = above
 
--- a node with more than one child, signed so that the first is not negated
+-- a node with more than one child, signed so that the first is not negated, with short versions
 pub signed_sound : (old : List NodeRecord) (node : NodeRecord) → AllChildren (IsTree old) node →
     AllChildren (Above old (node_place node)) node → IsRising node → IsJoined node → (IsAlone node → ⊥) →
-    IsSoundNode old (length old) (signed (first_child node).negated node)
+    IsSoundNode old (length old) (short_node (signed (first_child node).negated node))
 signed_sound old node made above rises joined several =
     let turns = (first_child node).negated in
+    let n = signed turns node in
+    let place : node_place (short_node n) ≡ node_place node = short_place n ∙ signed_place turns node in
     record {
-      before = signed_children (IsTree old) (λ t h. h) turns node made;
-      above = subst (λ place. AllChildren (Above old place) (signed turns node))
-          (sym (signed_place turns node))
+      before = short_children (IsTree old) n (signed_children (IsTree old) (λ t h. h) turns node made);
+      above = subst (λ place. AllChildren (Above old place) (short_node n)) (sym place)
+          (short_children (Above old (node_place node)) n
           (signed_children (Above old (node_place node)) (above_negation old (node_place node)) turns node
-          above);
-      rises = signed_rises turns node rises;
-      differ = signed_differ turns node (differ_of node joined several);
-      wide = signed_wide turns node (wide_of node several);
-      plain = signed_first turns node ∙ flips_itself turns;
+          above));
+      rises = short_rises n (signed_rises turns node rises);
+      differ = short_differ n (signed_differ turns node (differ_of node joined several));
+      wide = short_wide n (signed_wide turns node (wide_of node several));
+      plain = ap (λ t. t.negated) (short_first n) ∙ signed_first turns node ∙ flips_itself turns;
+      short = short_short n;
     }
 
 -- ---- nodes with one child

@@ -14,6 +14,7 @@ use Rattle.pep508_diagram.specs.declared.variable.VersionVariable.TheVariants.{I
 use Rattle.pep508_diagram.specs.Text.{text_cmp}
 use Rattle.pep508_diagram.specs.Branches.{RisingBranches, branch_at, AllBranches, NeighboursDiffer}
 use Rattle.pep508_diagram.specs.Chains.{IsChild}
+use Rattle.pep508_diagram.specs.Shortened.{shortened_branch, AllShort}
 use Rattle.pep508_diagram.specs.Question.{Valuation, version_rank, text_rank, flag_rank, flag_text}
 use Rattle.pep508_tree.specs.Tree.{Tree, always, negation}
 use Rattle.pep508_tree.specs.Meaning.{NodeOf, NodeRecord, Versions, Texts, Flagged, holds, IsTree}
@@ -74,6 +75,12 @@ IsJoined (Versions key first later) = NeighboursDiffer first later
 IsJoined (Texts key first later) = NeighboursDiffer first later
 IsJoined (Flagged flag set unset) = Unit {0}
 
+-- each boundary of versions is at a shortest spelling
+abbrev pub HasShortBounds : {C : Type 0} → NodeOf C → Type 0
+HasShortBounds (Versions key first later) = AllShort later
+HasShortBounds (Texts key first later) = Unit {0}
+HasShortBounds (Flagged flag set unset) = Unit {0}
+
 -- there is more than one child
 abbrev pub HasBoundary : {C : Type 0} → NodeOf C → Type 0
 HasBoundary (Versions key first later) = later ≡ [] → ⊥
@@ -110,6 +117,12 @@ abbrev pub turned_node : NodeRecord → NodeRecord
 turned_node (Versions key first later) = Versions key (negation first) (map turned_branch later)
 turned_node (Texts key first later) = Texts key (negation first) (map turned_branch later)
 turned_node (Flagged flag set unset) = Flagged flag (negation set) (negation unset)
+
+-- the node with each boundary of versions at its shortest spelling
+abbrev pub short_node : {C : Type 0} → NodeOf C → NodeOf C
+short_node (Versions key first later) = Versions key first (map shortened_branch later)
+short_node (Texts key first later) = Texts key first later
+short_node (Flagged flag set unset) = Flagged flag set unset
 
 -- a node of the first one's variable, with the children of another one
 abbrev pub counterpart : NodeRecord → Tree → List (Branch VersionRecord Tree) → List (Branch (List ℕ) Tree) →
@@ -168,6 +181,7 @@ pub record IsSoundNode (nodes : List NodeRecord) (place : ℕ) (node : NodeRecor
   pub differ : ChildrenDiffer node
   pub wide : HasBoundary node
   pub plain : (first_child node).negated ≡ false
+  pub short : HasShortBounds node
 
 -- what holds of all nodes of an interner
 pub record AreSound (nodes : List NodeRecord) : Type 0 where

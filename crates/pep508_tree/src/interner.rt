@@ -6,8 +6,7 @@ ghost use Rattle.pep508_tree.specs.Meaning.{IsTree, Extends, holds};
 ghost use Rattle.pep508_tree.specs.Disjoint.{ArePaired};
 ghost use Rattle.pep508_tree.specs.Interning.{counted};
 ghost use Rattle.pep508_tree.specs.Forms.{record_of};
-ghost use Rattle.pep508_tree.specs.Nodes.{AreSound, IsRising, IsJoined, chosen, node_at};
-ghost use Rattle.pep508_tree.specs.Nodes.{Above, AllChildren, Made, node_place};
+ghost use Rattle.pep508_tree.specs.Nodes.{AreSound, IsRising, IsJoined, chosen, node_at, Above, AllChildren, Made, node_place};
 
 use crate::conjoiner::Conjoiner;
 use crate::leaf::with_constants;

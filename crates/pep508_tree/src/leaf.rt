@@ -17,7 +17,7 @@ use crate::interner::Interner;
 use crate::node::Form;
 use crate::tree::MarkerTree;
 use pep440_version::Version;
-use pep508_diagram::{Branch, Flag, MarkerText, VersionVariable, turned_branches, turned_versions};
+use pep508_diagram::{Branch, Flag, MarkerText, VersionVariable, turned_branches};
 use pep508_marker::MarkerValueString;
 use std::alloc::{AllocError, Global};
 use version_ranges::{Boundary, Ranges};
@@ -72,7 +72,7 @@ impl Interner {
     /// The tree that holds where a key's version stands in a set. The only refusal is want of memory, and
     /// earlier trees mean what they meant, refused or not. Counts nothing.
     ///
-    /// Copies each boundary of the set, at the version without the zeros at its release's end.
+    /// Copies each boundary of the set, at the shortest spelling of its version.
     pub fn versions_tree(
         &mut self,
         alloc: Global,
@@ -86,7 +86,7 @@ impl Interner {
         ensures counts { self.new.conjunctions ≡ self.old.conjunctions }
     {
         let (starts_held, boundaries) = set.turns();
-        let later = turned_versions(alloc, starts_held, boundaries)?;
+        let later = turned_branches(alloc, starts_held, boundaries)?;
         self.leaf(alloc, Form::Versions(key, starts_held, later))
     }
 

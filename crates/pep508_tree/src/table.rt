@@ -5,13 +5,12 @@ ghost use Rattle.std.specs.Ordering.{is_gt};
 ghost use Rattle.pep508_diagram.specs.Text.{text_cmp};
 ghost use Rattle.pep508_tree.specs.Meaning.{IsTree, Extends};
 ghost use Rattle.pep508_tree.specs.Forms.{record_of};
-ghost use Rattle.pep508_tree.specs.Nodes.{AreSound};
-ghost use Rattle.pep508_tree.specs.Nodes.{first_place, node_place, node_at, Above, AllChildren, IsRising, IsJoined};
-ghost use Rattle.pep508_tree.specs.Nodes.{IsSoundNode, IsPlaced, IsAlone, Splits, Made, signed, turned_branch, first_child};
+ghost use Rattle.pep508_tree.specs.Nodes.{AreSound, IsSoundNode, IsPlaced, IsAlone, IsRising, IsJoined, AllChildren, Above};
+ghost use Rattle.pep508_tree.specs.Nodes.{first_place, node_place, node_at, Splits, Made, first_child, signed, turned_branch, short_node};
 
 use crate::node::{Form, Node, Pair};
 use crate::tree::MarkerTree;
-use pep508_diagram::Branch;
+use pep508_diagram::{Branch, shortened_branches};
 use std::alloc::{AllocError, Global};
 use std::cmp::Ordering;
 use std::collections::BTreeMap;
@@ -67,6 +66,19 @@ fn signed(form: Form<MarkerTree>, negated: bool) -> Form<MarkerTree>
             Form::Texts(key, first.negate(), later)
         }
         Form::Flagged(flag, set, unset) => Form::Flagged(flag, set.negate(), unset.negate()),
+    }
+}
+
+/// The form, with each boundary of versions at its shortest spelling.
+fn shortened(alloc: Global, form: Form<MarkerTree>) -> Result<Form<MarkerTree>, AllocError>
+    ensures { IfOk result (λ short. record_of short ≡ short_node (record_of form)) }
+{
+    match form {
+        Form::Versions(key, first, later) => {
+            let later = shortened_branches(alloc, later)?;
+            Ok(Form::Versions(key, first, later))
+        }
+        other => Ok(other),
     }
 }
 
@@ -184,7 +196,7 @@ impl NodeTable {
     }
 
     /// The tree of a form, of which each child asks for later variables only: its only child, where it has
-    /// one, and else the tree of its node.
+    /// one, and else the tree of its node, with versions in their shortest spelling.
     pub fn store(&mut self, form: Form<MarkerTree>) -> Result<MarkerTree, AllocError>
         requires made { AllChildren (IsTree self.old) (record_of form) }
         requires above { AllChildren (Above self.old (node_place (record_of form))) (record_of form) }
@@ -198,7 +210,8 @@ impl NodeTable {
             return Ok(first);
         }
         let negated = first.is_negated();
-        let place = self.place_of(signed(form, negated))?;
+        let short = shortened(self.alloc, signed(form, negated))?;
+        let place = self.place_of(short)?;
         Ok(MarkerTree::at_place(place, negated))
     }
 }

@@ -1,3 +1,4 @@
 pub mod Ordered
 pub mod Edges
 pub mod Walking
+mod Printed

@@ -1,4 +1,6 @@
 pub mod TreeOrder
 pub mod TreeIn
 pub mod TreeOrderLaws
+pub mod TreeText
+pub mod Lent
 pub mod Sides

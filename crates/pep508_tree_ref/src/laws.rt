@@ -5,8 +5,10 @@ ghost use Rattle.std.specs.Cmp.{IsTotalOrder};
 ghost use Rattle.std.specs.Ordering.{eq_by_cmp};
 ghost use Rattle.pep508_diagram.specs.Diagram.{Diagram};
 ghost use Rattle.pep508_diagram.specs.Question.{Question, Valuation, truth, IsCanonical};
-ghost use Rattle.pep508_tree_ref.specs.TreeIn.{diagram_in, tree_in_cmp};
+ghost use Rattle.pep508_tree_ref.specs.Lent.{tree_in, tree_ref_cmp};
+ghost use Rattle.pep508_tree_ref.specs.TreeIn.{diagram_in};
 ghost use Rattle.pep508_tree_ref.specs.TreeOrder.{diagram_cmp};
+ghost use Rattle.pep508_tree_ref.specs.TreeText.{tree_text};
 
 use crate::MarkerTreeRef;
 
@@ -26,8 +28,21 @@ pub fn equal_means_the_same()
 /// Trees of any two interners are equal exactly where they hold under the same valuations.
 #[tactic(auto, using(crate::proofs::Ordered::tied_mean_the_same))]
 pub fn equal_trees_mean_the_same(tree: &MarkerTreeRef, other: &MarkerTreeRef)
-    ensures { IsTrue (eq_by_cmp tree_in_cmp tree.now other.now)
-        ↔ ((v : Valuation) → truth (diagram_in tree.now) v ≡ truth (diagram_in other.now) v) }
+    ensures { IsTrue (eq_by_cmp tree_ref_cmp tree.now other.now)
+        ↔ ((v : Valuation) → truth (diagram_in (tree_in tree.now)) v
+        ≡ truth (diagram_in (tree_in other.now)) v) }
+{
+    tree.is_canonical();
+    other.is_canonical();
+}
+
+/// So equal trees have one diagram, and print the same.
+#[tactic(auto, using(crate::proofs::Printed::tied_are_same, crate::proofs::Printed::tied_print_the_same))]
+pub fn equal_trees_print_the_same(tree: &MarkerTreeRef, other: &MarkerTreeRef)
+    ensures diagram { IsTrue (eq_by_cmp tree_ref_cmp tree.now other.now) →
+        diagram_in (tree_in tree.now) ≡ diagram_in (tree_in other.now) }
+    ensures text { IsTrue (eq_by_cmp tree_ref_cmp tree.now other.now) →
+        tree_text (diagram_in (tree_in tree.now)) ≡ tree_text (diagram_in (tree_in other.now)) }
 {
     tree.is_canonical();
     other.is_canonical();

@@ -1,64 +1,81 @@
 //! Marker trees with their interners.
 
-ghost use Rattle.std.specs.Prelude.{◌≡◌, refl};
-ghost use Rattle.std.specs.Cmp.{partial_equiv_from_equiv, eq_by_cmp_equiv, partial_order_from_total};
-ghost use Rattle.std.specs.Ordering.{eq_by_cmp, as_partial_cmp};
-ghost use Rattle.pep508_diagram.specs.Question.{IsCanonical};
 ghost use Rattle.pep508_tree.specs.Meaning.{IsTree};
-ghost use Rattle.pep508_tree_ref.specs.TreeIn.{diagram_in, tree_in_cmp};
-ghost use Rattle.pep508_tree_ref.specs.TreeOrderLaws.{trees_in_total};
 
 use crate::order::cmp_trees;
+use pep508_marker_dnf::MarkerTreeText;
 use pep508_tree::{Interner, MarkerTree};
+use std::alloc::{AllocError, Global};
 use std::cmp::Ordering;
-use std::marker::Model;
+use std::fmt;
 
 /// A marker tree with the interner that it was made with, so that trees of different interners can be compared
-/// (PEP 508, "Environment Markers"). Contracts see it as the tree with the interner's nodes.
+/// and printed (PEP 508, "Environment Markers"). Contracts see it by `tree_in`, as the tree with the interner's
+/// nodes.
 ///
 /// Two of them are equal exactly where their trees mean the same (`laws::equal_trees_mean_the_same`). A
 /// comparison takes no memory and ends at the first difference; trees that are equal are walked along each path
 /// from the root, of which there can be many more than nodes.
-#[derive(Drop)]
+///
+/// It prints as the tree's text, `true` where the tree always holds. The text is made while it is printed, and
+/// where memory for it is refused, printing fails with `fmt::Error`.
+#[derive(Clone, Copy)]
 pub struct MarkerTreeRef<'a> {
+    alloc: Global,
     interner: &'a Interner,
     tree: MarkerTree,
-}
-
-impl<'a> Model for MarkerTreeRef<'a> {
-    ghost use Rattle.pep508_tree.specs.Meaning.{IsTree};
-    ghost use Rattle.pep508_tree_ref.specs.TreeIn.{TreeIn};
-
-    ghost Value = { TreeIn };
-
-    ghost view = { λ r. record { nodes = r.interner.now.nodes; tree = r.tree } };
-
-    ghost invariant = { λ r. IsTree r.interner.now.nodes r.tree };
+    ghost made: { IsTree interner.now.nodes tree },
 }
 
 impl<'a> MarkerTreeRef<'a> {
-    /// A tree with its interner. Takes no memory.
-    pub fn new(interner: &'a Interner, tree: MarkerTree) -> MarkerTreeRef<'a>
+    ghost use Rattle.std.specs.Prelude.{◌≡◌, IfOk, option_map};
+    ghost use Rattle.std.specs.String.{string_bytes};
+    ghost use Rattle.pep508_diagram.specs.Question.{IsCanonical};
+    ghost use Rattle.pep508_diagram.specs.Shortened.{HasShortVersions};
+    ghost use Rattle.pep508_marker_text.specs.MarkerText.{marker_text};
+    ghost use Rattle.pep508_tree.specs.Meaning.{IsTree};
+    ghost use Rattle.pep508_tree_ref.specs.Lent.{tree_in};
+    ghost use Rattle.pep508_tree_ref.specs.TreeIn.{diagram_in};
+
+    /// A tree with its interner, and what gives memory for its text where it is printed. Takes none.
+    pub fn new(alloc: Global, interner: &'a Interner, tree: MarkerTree) -> MarkerTreeRef<'a>
         requires { IsTree interner.now.nodes tree }
-        ensures nodes { result.nodes ≡ interner.now.nodes }
-        ensures tree { result.tree ≡ tree }
+        ensures { tree_in result ≡ record { nodes = interner.now.nodes; tree = tree } }
     {
-        MarkerTreeRef { interner, tree }
+        MarkerTreeRef {
+            alloc,
+            interner,
+            tree,
+        }
     }
 
-    /// No question is asked in vain in it. Does nothing.
-    #[tactic(auto, using(pep508_tree::proofs::OneTree::canonical_trees))]
+    /// The text of the tree, made by the allocator of `new`; none where the tree always holds. Takes memory as
+    /// `MarkerTreeText::try_to_string`.
+    pub fn try_to_string(&self) -> Result<Option<String>, AllocError>
+        ensures { IfOk result (λ text.
+            option_map string_bytes text ≡ marker_text (diagram_in (tree_in self.now))) }
+    {
+        self.tree.try_to_string(self.alloc, self.interner)
+    }
+
+    /// No question is asked in vain in it, and each version is in its shortest spelling. Does nothing.
+    #[tactic(auto, using(pep508_tree::proofs::OneTree::canonical_trees, pep508_tree::proofs::Shortened::short_trees))]
     pub fn is_canonical(&self)
-        ensures { IsCanonical (diagram_in self.now) }
+        ensures canonical { IsCanonical (diagram_in (tree_in self.now)) }
+        ensures short { HasShortVersions (diagram_in (tree_in self.now)) }
     {
         self.interner.are_sound()
     }
 }
 
 impl PartialEq for MarkerTreeRef<'_> {
-    ghost eq = { eq_by_cmp tree_in_cmp };
+    ghost use Rattle.std.specs.Cmp.{partial_equiv_from_equiv, eq_by_cmp_equiv};
+    ghost use Rattle.std.specs.Ordering.{eq_by_cmp};
+    ghost use Rattle.pep508_tree_ref.specs.Lent.{tree_ref_cmp, tree_refs_total};
 
-    ghost laws = { partial_equiv_from_equiv (eq_by_cmp_equiv trees_in_total) };
+    ghost eq = { eq_by_cmp tree_ref_cmp };
+
+    ghost laws = { partial_equiv_from_equiv (eq_by_cmp_equiv tree_refs_total) };
 
     fn eq(&self, other: &Self) -> bool {
         self.cmp(other).is_eq()
@@ -66,13 +83,19 @@ impl PartialEq for MarkerTreeRef<'_> {
 }
 
 impl Eq for MarkerTreeRef<'_> {
-    ghost laws = { eq_by_cmp_equiv trees_in_total };
+    ghost use Rattle.std.specs.Cmp.{eq_by_cmp_equiv};
+    ghost use Rattle.pep508_tree_ref.specs.Lent.{tree_refs_total};
+
+    ghost laws = { eq_by_cmp_equiv tree_refs_total };
 }
 
 impl Ord for MarkerTreeRef<'_> {
-    ghost cmp = { tree_in_cmp };
+    ghost use Rattle.std.specs.Prelude.{refl};
+    ghost use Rattle.pep508_tree_ref.specs.Lent.{tree_ref_cmp, tree_refs_total};
 
-    ghost total = { trees_in_total };
+    ghost cmp = { tree_ref_cmp };
+
+    ghost total = { tree_refs_total };
 
     ghost matches_partial_cmp = { λ x y. refl };
 
@@ -84,11 +107,32 @@ impl Ord for MarkerTreeRef<'_> {
 }
 
 impl PartialOrd for MarkerTreeRef<'_> {
-    ghost partial_cmp = { as_partial_cmp tree_in_cmp };
+    ghost use Rattle.std.specs.Cmp.{partial_order_from_total};
+    ghost use Rattle.std.specs.Ordering.{as_partial_cmp};
+    ghost use Rattle.pep508_tree_ref.specs.Lent.{tree_ref_cmp, tree_refs_total};
 
-    ghost laws = { partial_order_from_total trees_in_total };
+    ghost partial_cmp = { as_partial_cmp tree_ref_cmp };
+
+    ghost laws = { partial_order_from_total tree_refs_total };
 
     fn partial_cmp(&self, other: &Self) -> Option<Ordering> {
         Some(self.cmp(other))
+    }
+}
+
+impl fmt::Display for MarkerTreeRef<'_> {
+    ghost use Rattle.std.specs.Prelude.{Some};
+    ghost use Rattle.pep508_tree_ref.specs.Lent.{tree_in};
+    ghost use Rattle.pep508_tree_ref.specs.TreeIn.{diagram_in};
+    ghost use Rattle.pep508_tree_ref.specs.TreeText.{tree_text};
+
+    ghost output = { λ r. Some (tree_text (diagram_in (tree_in r))) };
+
+    fn fmt<W: fmt::Write>(&self, f: &mut fmt::Formatter<W>) -> fmt::Result {
+        match self.tree.try_to_string(self.alloc, self.interner) {
+            Ok(Some(text)) => f.write_str(&text),
+            Ok(None) => f.write_str("true"),
+            Err(_) => Err(fmt::Error),
+        }
     }
 }

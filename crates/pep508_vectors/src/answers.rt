@@ -2,7 +2,7 @@
 
 use crate::requirement::{picture, requirement, unnamed};
 use crate::warnings::warnings;
-use crate::{calls, names};
+use crate::{calls, names, prints};
 use pep508_name::{InvalidNameError, PackageName, RequirementOrigin};
 use pep508_url::{
     Pep508Url, Scheme, Vars, VerbatimUrl, VerbatimUrlError, expand_env_vars, split_extras,
@@ -50,6 +50,9 @@ pub fn answer(alloc: Global, vars: &Vars, question: &str) -> Result<String, Allo
         "packages" => names::packages(alloc, text, text_at(&question, 2)),
         "extra-names" => names::extras(alloc, text, text_at(&question, 2)),
         "origins" => names::origins(alloc, text, text_at(&question, 2)),
+        "print" => prints::print(alloc, vars, text, DIRECTORY),
+        "unnamed-print" => prints::unnamed(alloc, vars, text, DIRECTORY),
+        "requirements" => prints::order(alloc, vars, text, text_at(&question, 2)),
         "copy" | "nowhere" | "value" | "plain" | "extras" | "unnamed-copy" => {
             calls::answer(alloc, vars, kind, text, DIRECTORY)
         }

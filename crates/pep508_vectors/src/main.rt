@@ -7,6 +7,7 @@
 mod answers;
 mod calls;
 mod names;
+mod prints;
 mod requirement;
 mod warnings;
 

@@ -17,8 +17,8 @@ use Rattle.reqs.specs.declared.fault.Input.{Input}
 use Rattle.reqs.specs.declared.fault.Input.TheVariants.{First, Second, Third}
 use Rattle.reqs.specs.declared.fault.RunFault.{RunFault}
 use Rattle.reqs.specs.declared.fault.RunFault.TheVariants.{Read, Write, Memory, TooLong, NotText}
-use Rattle.reqs.specs.declared.fault.RunFault.TheVariants.{Requirement, NumberAtEnd, Float, Shape, Member}
-use Rattle.reqs.specs.declared.fault.RunFault.TheVariants.{Version, Candidate}
+use Rattle.reqs.specs.declared.fault.RunFault.TheVariants.{Requirement, NumberAtEnd, Json, Float, Shape}
+use Rattle.reqs.specs.declared.fault.RunFault.TheVariants.{Member, Version, Candidate}
 
 -- 3 for a reader, the writer and memory; 2 where an input or the command line is refused
 abbrev pub status_of : RunFault → ℕ
@@ -79,6 +79,15 @@ IsPlain Write = ⊥
 IsPlain (TooLong input) = ⊥
 IsPlain (Requirement input number error) = ⊥
 IsPlain fault = Unit {0}
+
+-- it is one of an environment's text
+abbrev pub IsOfEnvironment : RunFault → Type 0
+IsOfEnvironment (Json input) = Unit {0}
+IsOfEnvironment (Float input) = Unit {0}
+IsOfEnvironment (Shape input) = Unit {0}
+IsOfEnvironment (Member input index name) = Unit {0}
+IsOfEnvironment (Version input index name) = Unit {0}
+IsOfEnvironment fault = ⊥
 
 -- it is of texts of which the first is a list of requirements: what it says of a line that is no requirement
 -- is the error of some line with this number

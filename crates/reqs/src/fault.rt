@@ -3,7 +3,7 @@
 ghost use Rattle.std.specs.Prelude.{◌≡◌, map, string_bytes, IfOk, IfSome};
 ghost use Rattle.pep508_environment.specs.Environment.{member_name};
 ghost use Rattle.reqs.specs.Ends.{place_of, of_input};
-ghost use Rattle.reqs.specs.Faults.{status_of, of_reading, of_requirements, of_environment, of_candidates};
+ghost use Rattle.reqs.specs.Faults.{status_of, of_reading, of_requirements, of_environment, of_candidates, IsOfEnvironment};
 ghost use Rattle.reqs.specs.FaultText.{cause_text, input_text, line_text, member_text, requirement_text, fault_text};
 
 use pep508_environment::{EnvironmentError, EnvironmentMember};
@@ -285,6 +285,26 @@ impl RunFault {
                     "a version number can't be raised",
                 )
             }
+            RunFault::Json { .. }
+            | RunFault::Float { .. }
+            | RunFault::Shape { .. }
+            | RunFault::Member { .. }
+            | RunFault::Version { .. } => self.environment_text(alloc, paths),
+            RunFault::Candidate {
+                input,
+                number,
+                cause,
+            } => { at_line(alloc, input.path(paths), *number, cause_text(*cause)) }
+        }
+    }
+
+    /// What is said of a fault of an environment.
+    fn environment_text(&self, alloc: Global, paths: &[&str]) -> Result<String, AllocError>
+        requires { IsOfEnvironment self.now }
+        ensures { IfOk result (λ text. IfSome (fault_text (map (λ p. p.now) paths.now) self.now)
+            (λ wanted. string_bytes text ≡ wanted)) }
+    {
+        match self {
             RunFault::Json { input } => at(alloc, input.path(paths), "not JSON"),
             RunFault::Float { input } => at(alloc, input.path(paths), "a number is a float"),
             RunFault::Shape { input } => at(alloc, input.path(paths), "not an object"),
@@ -300,11 +320,7 @@ impl RunFault {
             RunFault::Version { input, index, name } => {
                 at_member(alloc, input.path(paths), *index, *name, "no version")
             }
-            RunFault::Candidate {
-                input,
-                number,
-                cause,
-            } => { at_line(alloc, input.path(paths), *number, cause_text(*cause)) }
+            _ => unreachable!(),
         }
     }
 }

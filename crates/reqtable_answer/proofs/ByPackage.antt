@@ -1,21 +1,25 @@
 -- Groups by package: what is in them, and the rows of them.
-use Rattle.std.proofs.Common.{◌≡◌, ℕ, ◌+◌, ◌<◌, ◌≤◌, take, get_or, Bor, Bool, true, false, cond, ◌&&◌, ◌||◌, List, [], ◌∷◌, ◌++◌, All, filter, map, length, option_map, refl, sym, ap, subst, arith, append-nil, ◌∙◌}
+use Rattle.std.proofs.Common.{◌≡◌, ℕ, ◌+◌, ◌<◌, ◌≤◌, take, get_or, Bor, Bool, true, false, cond, ◌&&◌, ◌||◌, List, [], ◌∷◌, ◌++◌, All, filter, map, length, option_map, refl, sym, ap, subst, arith, append-nil, append_assoc, Option, Some, is_some, true≢false, ◌∙◌}
 use Rattle.std.proofs.lemmas.List.{length-map, get_or-map, length-take-le, take_more, map-append}
 use Rattle.std.proofs.lemmas.List.Elements.{filter-append, All-nil, All-cons}
 use Rattle.std.proofs.lemmas.List.FromFn.{length-enumerate_from, get_or-enumerate_from}
 use Rattle.std.specs.List.{list_any, list_all, enumerate_from, AllByRecursion}
 use Rattle.std.specs.Str.{bytes_eq}
+use Rattle.std.specs.Map.{update}
+use Rattle.std.specs.Option.{option_map_or}
+use Rattle.std.specs.BTreeMap.{BTreeMap}
 use Rattle.pep508_requirement_text.specs.FrontReading.{Front}
 use Rattle.reqtable_text.specs.declared.candidates.Candidate.{Candidate}
 use Rattle.reqtable_answer.specs.declared.answer.Outcome.TheVariants.{Direct}
 use Rattle.reqtable_answer.specs.declared.choosing.Numbered.{Numbered}
+use Rattle.reqtable_answer.specs.declared.grouping.Group.{Group}
 use Rattle.reqtable_answer.specs.Asks.{is_of, has_url}
 use Rattle.reqtable_answer.specs.Answer.{Admits, RowRecord, IsRow, outcome_of, chosen, first_greatest, by_version}
 use Rattle.reqtable_answer.specs.declared.answer.Row.{Row}
 use Rattle.reqtable_answer.specs.Rows.{row_seen}
 use Rattle.reqtable_answer.specs.Says.{Asked, ask_seen, asks_seen}
 use Rattle.reqtable_answer.proofs.Tests.{same_bytes}
-use Rattle.reqtable_answer.specs.Groups.{IsRowOf, is_candidate, numbered_seen, passes, outcome_among}
+use Rattle.reqtable_answer.specs.Groups.{group_of, has_group, candidates_for, IsRowOf, is_candidate, numbered_seen, passes, outcome_among}
 
 -- ---- filters
 
@@ -96,34 +100,60 @@ and_false : (a : Bool) → (a && false) ≡ false
 and_false true = refl
 and_false false = refl
 
-has_its : (has : List ℕ → Bool) (q name : List ℕ) (b : Bool) → bytes_eq q name ≡ b → has name ≡ true → (has q && b) ≡ b
-has_its has q name true e h = ap (λ v. v && true) (ap has (same_bytes q name e) ∙ h)
-has_its has q name false e h = and_false (has q)
-
-has_none : (has : List ℕ → Bool) (q name : List ℕ) (b : Bool) → bytes_eq q name ≡ b → has name ≡ false → (has q && b) ≡ false
-has_none has q name true e h = ap (λ v. v && true) (ap has (same_bytes q name e) ∙ h)
-has_none has q name false e h = and_false (has q)
-
 module _ (has : List ℕ → Bool) (q : List ℕ) (xs : List Candidate) (i : ℕ) (x : Candidate) (within : i < length xs) (is : x ≡ get_or xs i x) where
   abbrev kept : List (ℕ × Candidate) → List (ℕ × Candidate)
   kept = filter (λ c. has q && is_candidate q c)
 
-  grown : kept (enumerate_from 0 (take (i + 1) xs)) ≡ kept (enumerate_from 0 (take i xs)) ++ kept ((i, x) ∷ [])
-  grown = ap kept (numbered_taken xs i x within is) ∙ filter-append (λ c. has q && is_candidate q c) (enumerate_from 0 (take i xs)) ((i, x) ∷ [])
+  -- one more candidate of those whose packages have a group
+  pub one_more : (before old new : List (ℕ × Candidate)) → old ≡ before ++ kept (enumerate_from 0 (take i xs)) → new ≡ old ++ kept ((i, x) ∷ [])
+      → new ≡ before ++ kept (enumerate_from 0 (take (i + 1) xs))
+  one_more before old new h added =
+      let one : List (ℕ × Candidate) = kept ((i, x) ∷ []) in
+      added ∙ ap (λ l. l ++ one) h ∙ append_assoc before (kept (enumerate_from 0 (take i xs))) one
+      ∙ ap (λ l. before ++ l)
+      (sym (ap kept (numbered_taken xs i x within is) ∙ filter-append (λ c. has q && is_candidate q c) (enumerate_from 0 (take i xs)) ((i, x) ∷ [])))
 
-  pub candidate_added : has x.name ≡ true → (old new : List (ℕ × Candidate)) → old ≡ kept (enumerate_from 0 (take i xs))
-      → new ≡ old ++ filter (is_candidate q) ((i, x) ∷ []) → new ≡ kept (enumerate_from 0 (take (i + 1) xs))
-  candidate_added h old new before added =
-      let one : List (ℕ × Candidate) = (i, x) ∷ [] in
-      added ∙ ap (λ l. l ++ filter (is_candidate q) one) before
-      ∙ ap (λ b. kept (enumerate_from 0 (take i xs)) ++ cond b one []) (sym (has_its has q x.name (bytes_eq q x.name) refl h)) ∙ sym grown
+-- ---- one group changes
 
-  pub candidate_left_out : has x.name ≡ false → (old : List (ℕ × Candidate)) → old ≡ kept (enumerate_from 0 (take i xs))
-      → old ≡ kept (enumerate_from 0 (take (i + 1) xs))
-  candidate_left_out h old before =
-      let one : List (ℕ × Candidate) = (i, x) ∷ [] in
-      before ∙ sym (append-nil (kept (enumerate_from 0 (take i xs))))
-      ∙ ap (λ b. kept (enumerate_from 0 (take i xs)) ++ cond b one []) (sym (has_none has q x.name (bytes_eq q x.name) refl h)) ∙ sym grown
+turned : (a b : List ℕ) (v : Bool) → bytes_eq b a ≡ v → bytes_eq a b ≡ false → bytes_eq b a ≡ false
+turned a b true h k =
+    let e = same_bytes b a h in
+    let both : bytes_eq b a ≡ bytes_eq a b = (λ i. bytes_eq (e i) (sym e i)) in
+    absurd (true≢false (sym h ∙ both ∙ k))
+turned a b false h k = h
+
+module _ (old new : BTreeMap (Bor (List ℕ)) Group) (name : List ℕ) (before : Option Group) (after : Group)
+    (got : group_of old name ≡ before)
+    (changed : (q : List ℕ) → group_of new q ≡ update bytes_eq (group_of old) name (Some after) q) where
+  -- what is the same of the group before and after it
+  pub kept_as : {Y : Type 0} (f : Option Group → Y) → f (Some after) ≡ f before → (q : List ℕ) (b : Bool) → bytes_eq name q ≡ b
+      → f (group_of new q) ≡ f (group_of old q)
+  kept_as f same q true h =
+      ap f (changed q) ∙ ap (λ b. f (cond b (Some after) (group_of old q))) h ∙ same ∙ ap f (sym got)
+      ∙ ap (λ n. f (group_of old n)) (same_bytes name q h)
+  kept_as f same q false h = ap f (changed q) ∙ ap (λ b. f (cond b (Some after) (group_of old q))) h
+
+  -- what changes of it
+  pub changed_as : {Y : Type 0} (f : Option Group → Y) (q : List ℕ) → bytes_eq name q ≡ true → f (group_of new q) ≡ f (Some after)
+  changed_as f q h = ap f (changed q) ∙ ap (λ b. f (cond b (Some after) (group_of old q))) h
+
+  abbrev listed : Option Group → List (ℕ × Candidate)
+  listed found = option_map_or (λ g. map numbered_seen g.candidates.items) found []
+
+  -- one more candidate of the package
+  pub one_added : (n : ℕ × Candidate) → n.1.name ≡ name → is_some before ≡ true → listed (Some after) ≡ listed before ++ n ∷ []
+      → (q : List ℕ) (b : Bool) → bytes_eq name q ≡ b
+      → candidates_for new q ≡ candidates_for old q ++ cond (has_group old q && is_candidate q n) (n ∷ []) []
+  one_added n named there grown q true h =
+      let e = same_bytes name q h in
+      let same : before ≡ group_of old q = sym got ∙ ap (group_of old) e in
+      let its : bytes_eq q n.1.name ≡ true = ap (bytes_eq q) (named ∙ e) ∙ subst (λ z. bytes_eq z q ≡ true) e h in
+      changed_as listed q h ∙ grown ∙ ap (λ found. listed found ++ n ∷ []) same
+      ∙ (λ i. listed (group_of old q) ++ cond (sym (ap is_some (sym same) ∙ there) i && sym its i) (n ∷ []) [])
+  one_added n named there grown q false h =
+      let others : bytes_eq q n.1.name ≡ false = ap (bytes_eq q) named ∙ turned name q (bytes_eq q name) refl h in
+      ap listed (changed q) ∙ ap (λ b. listed (cond b (Some after) (group_of old q))) h ∙ sym (append-nil (candidates_for old q))
+      ∙ ap (λ b. candidates_for old q ++ cond b (n ∷ []) []) (sym (ap (λ b. has_group old q && b) others ∙ and_false (has_group old q)))
 
 -- ---- what is asked of one package
 

@@ -10,3 +10,4 @@ pub mod Packages
 pub mod ByPackage
 pub mod Said
 pub mod Others
+pub mod OneRange

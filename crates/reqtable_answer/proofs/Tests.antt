@@ -1,7 +1,9 @@
 -- Tests of lists: of what a filter keeps, of all by some, of lists that say the same place by place.
-use Rattle.std.proofs.Common.{◌≡◌, ℕ, Bool, true, false, cond, not, ◌&&◌, ◌||◌, List, [], ◌∷◌, filter, map, refl, ap}
+use Rattle.std.proofs.Common.{◌≡◌, ℕ, Bool, true, false, cond, not, ◌&&◌, ◌||◌, List, [], ◌∷◌, ◌++◌, ◌+◌, ◌<◌, ◌∙◌, take, length, get_or, filter, map, refl, ap, sym}
 use Rattle.std.specs.List.{list_any, list_all, AllZip}
 use Rattle.std.specs.Str.{bytes_eq}
+use Rattle.std.proofs.lemmas.List.{take_more}
+use Rattle.std.proofs.lemmas.List.Folds.{list_all-append}
 use Rattle.std.proofs.lemmas.Slice.Eq.{bytes_eq-Decides}
 
 any_by : (p f a : Bool) {X : Type 0} (g : X → Bool) (x : X) (xs : List X) → g x ≡ f → list_any g xs ≡ a
@@ -56,3 +58,14 @@ any_mapped f g (x ∷ xs) = ap (λ b. f (g x) || b) (any_mapped f g xs)
 -- texts of the same bytes
 pub same_bytes : (xs ys : List ℕ) → bytes_eq xs ys ≡ true → xs ≡ ys
 same_bytes xs ys h = (bytes_eq-Decides xs ys).0 h
+
+and_true : (a : Bool) → (a && true) ≡ a
+and_true true = refl
+and_true false = refl
+
+-- of one more of a list
+pub all_more : {X : Type 0} (f : X → Bool) (xs : List X) (i : ℕ) (x : X) → i < length xs → x ≡ get_or xs i x
+    → list_all f (take (i + 1) xs) ≡ (list_all f (take i xs) && f x)
+all_more f xs i x h is =
+    ap (list_all f) (take_more xs i x h ∙ ap (λ y. take i xs ++ y ∷ []) (sym is))
+    ∙ list_all-append f (take i xs) (x ∷ []) ∙ ap (λ b. list_all f (take i xs) && b) (and_true (f x))

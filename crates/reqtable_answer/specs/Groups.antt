@@ -1,6 +1,6 @@
 -- What is asked, and candidates with their places, by the package that each is of.
 use Rattle.std.specs.Prelude.{◌≡◌, ℕ, ◌&&◌, Bool, true, List, [], map, filter, Option, Some, None}
-use Rattle.std.specs.Prelude.{option_map, is_some, Vec}
+use Rattle.std.specs.Prelude.{option_map, is_some}
 use Rattle.std.specs.Prelude.{if◌then◌else◌}
 use Rattle.std.specs.List.{list_any, list_all}
 use Rattle.std.specs.List.Sorted.{IsStrictlySortedBy}
@@ -16,6 +16,7 @@ use Rattle.reqtable_text.specs.declared.candidates.Candidate.{Candidate}
 use Rattle.reqtable_answer.specs.declared.answer.Outcome.{Outcome}
 use Rattle.reqtable_answer.specs.declared.answer.Outcome.TheVariants.{Direct}
 use Rattle.reqtable_answer.specs.declared.choosing.Numbered.{Numbered}
+use Rattle.reqtable_answer.specs.declared.grouping.Group.{Group}
 use Rattle.reqtable_answer.specs.Admission.{Admits}
 use Rattle.reqtable_answer.specs.Asks.{has_url, has_extra, ask_takes, names_prerelease}
 use Rattle.reqtable_answer.specs.Answer.{RowRecord, first_greatest, by_version, chosen}
@@ -28,15 +29,15 @@ group_of groups name = get_by (λ k. slice_cmp nat_cmp name k.now) groups
 abbrev pub has_group : {X : Type 0} → BTreeMap (Bor (List ℕ)) X → List ℕ → Bool
 has_group groups name = is_some (group_of groups name)
 
-abbrev pub asks_for : {Y : Type 0} → BTreeMap (Bor (List ℕ)) (Vec (Bor Asked) Y) → List ℕ → List Front
-asks_for groups name = option_map_or (λ g. asks_seen g.items) (group_of groups name) []
+abbrev pub asks_for : BTreeMap (Bor (List ℕ)) Group → List ℕ → List Front
+asks_for groups name = option_map_or (λ g. asks_seen g.asks.items) (group_of groups name) []
 
 abbrev pub numbered_seen : Numbered → ℕ × Candidate
 numbered_seen numbered = (numbered.place, numbered.candidate.now)
 
-abbrev pub candidates_for : {Y : Type 0} → BTreeMap (Bor (List ℕ)) (Vec Numbered Y) → List ℕ
-    → List (ℕ × Candidate)
-candidates_for groups name = option_map_or (λ g. map numbered_seen g.items) (group_of groups name) []
+abbrev pub candidates_for : BTreeMap (Bor (List ℕ)) Group → List ℕ → List (ℕ × Candidate)
+candidates_for groups name =
+    option_map_or (λ g. map numbered_seen g.candidates.items) (group_of groups name) []
 
 abbrev pub is_candidate : List ℕ → ℕ × Candidate → Bool
 is_candidate name numbered = bytes_eq name numbered.1.name

@@ -4,3 +4,4 @@ pub mod Answer
 pub mod Rows
 pub mod Says
 pub mod Groups
+pub mod Ranged

@@ -5,6 +5,7 @@ ghost use Rattle.std.specs.List.{list_any, list_all};
 ghost use Rattle.pep440_version.specs.Changes.{is_prerelease};
 ghost use Rattle.reqtable_answer.specs.Admission.{Admits, AnswersBy};
 ghost use Rattle.reqtable_answer.specs.Asks.{has_url, has_prerelease, ask_takes};
+ghost use Rattle.reqtable_answer.specs.Ranged.{TellsTaken};
 ghost use Rattle.reqtable_answer.specs.Says.{ask_seen};
 
 use crate::admission::Admission;
@@ -12,7 +13,9 @@ use pep440_specifier_list::VersionSpecifiers;
 use pep440_version::Version;
 use pep508_requirement::{Requirement, VersionOrUrl};
 use pep508_url::VerbatimUrl;
+use reqtable_range::is_plain;
 use std::alloc::{AllocError, Global};
+use version_ranges::Ranges;
 
 /// Whether some ask is of a URL.
 pub fn is_direct(asks: &[&Requirement<VerbatimUrl>]) -> bool
@@ -58,20 +61,41 @@ fn has_prerelease_in(list: &VersionSpecifiers) -> bool
 pub fn may_be_taken<F: Fn(&Version, bool) -> bool>(
     alloc: Global,
     asks: &[&Requirement<VerbatimUrl>],
+    range: &Option<Ranges<Version>>,
     names_prerelease: bool,
     admission: &Admission<F>,
     version: &Version,
 ) -> Result<bool, AllocError>
-    requires { F.IsAlwaysCallable admission.now }
+    requires callable { F.IsAlwaysCallable admission.now }
+    requires told { TellsTaken asks.now range.now }
     ensures { IfOk result (λ taken. (admits : Admits) → AnswersBy (F.post admission.now) admits →
         taken ≡ (list_all (λ ask. ask_takes version.now (ask_seen ask.now)) asks.now
         && admits version.now names_prerelease)) }
 {
-    let taken = takes_all(alloc, asks, version)?;
+    let taken = all_take(alloc, asks, range, version)?;
     Ok(taken && admission.admits(version, names_prerelease))
 }
 
-/// Whether all asks take the version.
+/// Whether all asks take the version: by their range, where that tells it.
+fn all_take(
+    alloc: Global,
+    asks: &[&Requirement<VerbatimUrl>],
+    range: &Option<Ranges<Version>>,
+    version: &Version,
+) -> Result<bool, AllocError>
+    requires { TellsTaken asks.now range.now }
+    ensures { IfOk result (λ taken.
+        taken ≡ list_all (λ ask. ask_takes version.now (ask_seen ask.now)) asks.now) }
+{
+    if let Some(range) = range {
+        if is_plain(version) {
+            return Ok(range.contains(version));
+        }
+    }
+    takes_all(alloc, asks, version)
+}
+
+/// Whether all asks take the version: each is asked.
 fn takes_all(
     alloc: Global,
     asks: &[&Requirement<VerbatimUrl>],

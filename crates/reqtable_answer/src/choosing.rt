@@ -5,17 +5,20 @@ ghost use Rattle.reqtable_answer.specs.Admission.{Admits, AnswersBy};
 ghost use Rattle.reqtable_answer.specs.Answer.{by_version, chosen, first_greatest};
 ghost use Rattle.reqtable_answer.specs.Groups.{numbered_seen, passes, passes_by, outcome_among};
 ghost use Rattle.reqtable_answer.specs.Groups.{exceeds, better_of};
+ghost use Rattle.reqtable_answer.specs.Ranged.{TellsTaken};
 ghost use Rattle.reqtable_answer.specs.Rows.{IsTakenBelow};
 ghost use Rattle.reqtable_answer.specs.Says.{asks_seen};
 
 use crate::admission::Admission;
 use crate::answer::Outcome;
 use crate::asking::{is_direct, may_be_taken, names_prerelease};
+use crate::ranged::range_of;
 use pep440_version::Version;
 use pep508_requirement::Requirement;
 use pep508_url::VerbatimUrl;
 use reqtable_text::Candidate;
 use std::alloc::{AllocError, Global};
+use version_ranges::Ranges;
 
 /// A candidate, and its place in the list.
 #[derive(Clone, Copy)]
@@ -46,8 +49,7 @@ pub fn outcome<F: Fn(&Version, bool) -> bool>(
     }
 }
 
-/// The first among the greatest candidates that may be taken. A candidate is tested only where it lies above
-/// the best before it.
+/// The first among the greatest candidates that may be taken.
 fn greatest<'a, F: Fn(&Version, bool) -> bool>(
     alloc: Global,
     asks: &[&Requirement<VerbatimUrl>],
@@ -61,10 +63,31 @@ fn greatest<'a, F: Fn(&Version, bool) -> bool>(
     ensures below { IfOk result (λ best. (count : ℕ) →
         All (λ c. c.place < count) candidates.now → IfSome best (λ found. found.place < count)) }
 {
+    let range = range_of(alloc, asks, candidates.len())?;
+    greatest_by(alloc, asks, &range, candidates, admission)
+}
+
+/// The same by the range of what is asked, where there is one. A candidate is tested only where it lies above
+/// the best before it.
+fn greatest_by<'a, F: Fn(&Version, bool) -> bool>(
+    alloc: Global,
+    asks: &[&Requirement<VerbatimUrl>],
+    range: &Option<Ranges<Version>>,
+    candidates: &[Numbered<'a>],
+    admission: &Admission<F>,
+) -> Result<Option<Numbered<'a>>, AllocError>
+    requires callable { F.IsAlwaysCallable admission.now }
+    requires told { TellsTaken asks.now range.now }
+    ensures greatest { IfOk result (λ best. (admits : Admits) → AnswersBy (F.post admission.now) admits →
+        option_map numbered_seen best ≡ first_greatest by_version
+        (filter (passes admits (asks_seen asks.now)) (map numbered_seen candidates.now))) }
+    ensures below { IfOk result (λ best. (count : ℕ) →
+        All (λ c. c.place < count) candidates.now → IfSome best (λ found. found.place < count)) }
+{
     let prerelease = names_prerelease(asks);
     let mut best = None;
     for candidate in candidates {
-        best = better(alloc, asks, prerelease, admission, candidate, best)?;
+        best = better(alloc, asks, range, prerelease, admission, candidate, best)?;
     }
     Ok(best)
 }
@@ -73,12 +96,14 @@ fn greatest<'a, F: Fn(&Version, bool) -> bool>(
 fn better<'a, F: Fn(&Version, bool) -> bool>(
     alloc: Global,
     asks: &[&Requirement<VerbatimUrl>],
+    range: &Option<Ranges<Version>>,
     prerelease: bool,
     admission: &Admission<F>,
     candidate: &Numbered<'a>,
     best: Option<Numbered<'a>>,
 ) -> Result<Option<Numbered<'a>>, AllocError>
-    requires { F.IsAlwaysCallable admission.now }
+    requires callable { F.IsAlwaysCallable admission.now }
+    requires told { TellsTaken asks.now range.now }
     ensures better { IfOk result (λ new. (admits : Admits) → AnswersBy (F.post admission.now) admits →
         option_map numbered_seen new ≡ better_of by_version (passes_by admits asks.now prerelease)
         (numbered_seen candidate.now) (option_map numbered_seen best.entry)) }
@@ -89,7 +114,7 @@ fn better<'a, F: Fn(&Version, bool) -> bool>(
         return Ok(best);
     }
     let version = &candidate.candidate.version;
-    let taken = may_be_taken(alloc, asks, prerelease, admission, version)?;
+    let taken = may_be_taken(alloc, asks, range, prerelease, admission, version)?;
     if taken {
         Ok(Some(*candidate))
     } else {

@@ -7,7 +7,9 @@ mod answering;
 mod asking;
 mod choosing;
 mod extras;
+mod grouping;
 pub mod laws;
+mod ranged;
 
 pub use admission::Admission;
 pub use answer::{Answer, Outcome, Row};

@@ -3,3 +3,4 @@ pub mod Lines
 pub mod Grammar
 pub mod Asked
 pub mod Applying
+pub mod Others

@@ -1,14 +1,16 @@
 -- What lines ask for under a valuation, as that of an environment with extras.
-use Rattle.std.specs.Prelude.{Bool, List, map, filter}
+use Rattle.std.specs.Prelude.{ℕ, Bool, List, map, filter}
 use Rattle.std.specs.List.{AllByRecursion}
 use Rattle.pep508_url.specs.UrlTexts.{Verbatim}
 use Rattle.pep508_url.specs.declared.error.VerbatimUrlError.{VerbatimUrlError}
 use Rattle.pep508_diagram.specs.Question.{Valuation}
 use Rattle.pep508_tree.specs.Meaning.{NodeRecord, IsTree, holds}
 use Rattle.pep508_expression.specs.Expressions.{expression_holds}
-use Rattle.pep508_marker_read.specs.Formula.{formula_holds}
+use Rattle.pep508_marker.specs.Expression.{ExpressionRecord}
+use Rattle.pep508_marker_read.specs.Formula.{Formula, formula_holds}
 use Rattle.pep508_requirement_text.specs.FrontReading.{Front}
 use Rattle.pep508_requirement.specs.declared.requirement.Requirement.{Requirement}
+use Rattle.reqtable_answer.specs.Asks.{is_of}
 use Rattle.reqtable_requirements.specs.declared.requirements.Line.{Line}
 use Rattle.reqtable_requirements.specs.LineReading.{LineRecord}
 
@@ -19,6 +21,17 @@ applies v line = formula_holds (λ e. expression_holds e v) line.formula
 -- what the lines that apply ask for, in their order
 abbrev pub asks_of : Valuation → List LineRecord → List Front
 asks_of v lines = map (λ line. line.front) (filter (applies v) lines)
+
+-- a line, its number apart
+abbrev pub Said : Type 0
+Said = Front × Formula ExpressionRecord
+
+abbrev pub line_said : LineRecord → Said
+line_said line = (line.front, line.formula)
+
+-- the lines of a package
+abbrev pub lines_of : List ℕ → List LineRecord → List LineRecord
+lines_of name lines = filter (λ line. is_of name line.front) lines
 
 -- the markers of lines are trees of these nodes
 abbrev pub AreOfNodes : List NodeRecord → List Line → Type 0

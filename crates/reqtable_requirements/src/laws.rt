@@ -1,8 +1,13 @@
 //! Laws over the definitions that the contracts cite. The functions do nothing: each one's contract is
 //! its law.
 
-ghost use Rattle.std.specs.Prelude.{◌≡◌, ◌↔◌, ℕ, List, Ok, Err};
+ghost use Rattle.std.specs.Prelude.{◌≡◌, ◌↔◌, ℕ, List, map, Ok, Err};
+ghost use Rattle.std.specs.List.Sorted.{IsPermutation};
+ghost use Rattle.pep508_diagram.specs.Question.{Valuation};
 ghost use Rattle.pep508_url.specs.Vars.{Variables};
+ghost use Rattle.reqtable_text.specs.declared.candidates.Candidate.{Candidate};
+ghost use Rattle.reqtable_answer.specs.Answer.{Admits, RowRecord, IsRow, IsAnswer};
+ghost use Rattle.reqtable_requirements.specs.Asks.{line_said, lines_of, asks_of};
 ghost use Rattle.reqtable_requirements.specs.LineReading.{LineRecord, line_of};
 ghost use Rattle.reqtable_requirements.specs.LineText.{IsRequirementLine, IsRequirementsText};
 ghost use Rattle.reqtable_requirements.specs.Requirements.{requirements_of};
@@ -41,3 +46,20 @@ pub fn requirements_are_their_lines()
     a_read_marker_is_written();
     a_written_marker_is_read();
 }
+
+/// Another order of the lines changes nothing of the answer to those that apply.
+pub fn order_of_lines_changes_nothing()
+    ensures { (v : Valuation) (admits : Admits) (lines others : List LineRecord)
+        (candidates : List Candidate) (rows : List RowRecord) →
+        IsPermutation (map line_said lines) (map line_said others) →
+        IsAnswer admits (asks_of v lines) candidates rows →
+        IsAnswer admits (asks_of v others) candidates rows }
+{}
+
+/// Lines of other packages change nothing in a package's row.
+pub fn lines_of_other_packages_change_no_row()
+    ensures { (v : Valuation) (admits : Admits) (lines others : List LineRecord)
+        (candidates : List Candidate) (row : RowRecord) →
+        map line_said (lines_of row.name lines) ≡ map line_said (lines_of row.name others) →
+        IsRow admits (asks_of v lines) candidates row → IsRow admits (asks_of v others) candidates row }
+{}

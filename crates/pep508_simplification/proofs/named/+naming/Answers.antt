@@ -1,13 +1,12 @@
 use Rattle.std.proofs.Common.{◌≡◌, ◌∙◌, ◌<◌, ap, sym, subst, arith, rules}
 use Rattle.std.specs.List.{AllByRecursion}
-use Rattle.std.specs.Prelude.{MatchOption}
 use Rattle.pep508_tree.specs.Tree.{Tree}
 use Rattle.pep508_tree.specs.Meaning.{IsTree}
 use Rattle.pep508_tree.specs.Nodes.{turned}
 use Rattle.pep508_tree.proofs.Conjoining.{extends_on, tree_kept, meet_by, each_of_list}
 use Rattle.pep508_simplification.specs.Parts.{record_of, children_of}
 use Rattle.pep508_simplification.specs.Named.{IsNamed, plain}
-use Rattle.pep508_simplification.proofs.Naming.{IsAsked, plain_is, named_now, named_signed, known_kept, found_more, asked, asked_made, asked_falls, joined_made, joined_above, joined_named}
+use Rattle.pep508_simplification.proofs.Naming.{plain_is, named_now, named_signed, known_kept, found_more, asked_made, asked_falls, joined_made, joined_above, joined_named}
 use Rattle.pep508_simplification.proofs.named.+naming.Given as given
 use Rattle.pep508_simplification.proofs.named.+naming.Goals as goal
 
@@ -47,11 +46,10 @@ with_named-all_with_named-requires g t c κs within =
     let R = given.F-post g c.args.predicate.now in
     let old = c.args.interner.now.nodes in
     let root = c.turned-plain.result in
-    let o = record_of c.with_set-root.result in
-    let same = sym (c.deref.ensures.value ∙ c.in_ok-children.ensures) in
-    let is = subst (λ n. MatchOption n (root.place ≡ 0) (IsAsked R old root)) (sym c.with_set-root.ensures)
-    (asked R old root (record_of c.in_ok-root.root) c.is_root_named-is_named.result c.in_ok-root.ensures.known
-    c.is_root_named-is_named.ensures) in (
+    let o = record_of c.in_ok-root.root.value in
+    let same = sym (c.deref-2.ensures.value ∙ c.in_ok-children.ensures
+    ∙ ap (λ at. children_of (record_of at)) c.deref.ensures) in
+    let is = c.in_ok-root.ensures in (
       omega (arith, c.decreases, ap (λ (t : Tree). t.place) c.turned-plain.ensures),
       (
         search rules,
@@ -73,10 +71,11 @@ with_named-rejoined-requires-clause-made g t c =
     let R = given.F-post g c.args.predicate.now in
     let old = c.args.interner.now.nodes in
     let now = c.all_with_named.new.interner.nodes in
-    let o = record_of c.with_set-root.result in
-    joined_made R old now c.turned-plain.result c.deref-2.result.now o
-    (meet_by (IsNamed R old now) c.deref.result.now (children_of o) c.in_ok-trees.trees.items c.deref-2.result.now
-    (c.deref.ensures.value ∙ c.in_ok-children.ensures) c.deref-2.ensures.value c.in_ok-trees.ensures.named)
+    let o = record_of c.in_ok-root.root.value in
+    joined_made R old now c.turned-plain.result c.deref-3.result.now o
+    (meet_by (IsNamed R old now) c.deref-2.result.now (children_of o) c.in_ok-trees.trees.items c.deref-3.result.now
+    (c.deref-2.ensures.value ∙ c.in_ok-children.ensures
+    ∙ ap (λ at. children_of (record_of at)) c.deref.ensures) c.deref-3.ensures.value c.in_ok-trees.ensures.named)
 
 pub with_named-rejoined-requires-clause-above : goal.with_named-rejoined-requires-clause-above
 with_named-rejoined-requires-clause-above g t c =
@@ -84,13 +83,12 @@ with_named-rejoined-requires-clause-above g t c =
     let old = c.args.interner.now.nodes in
     let now = c.all_with_named.new.interner.nodes in
     let root = c.turned-plain.result in
-    let o = record_of c.with_set-root.result in
-    let is = subst (λ n. MatchOption n (root.place ≡ 0) (IsAsked R old root)) (sym c.with_set-root.ensures)
-    (asked R old root (record_of c.in_ok-root.root) c.is_root_named-is_named.result c.in_ok-root.ensures.known
-    c.is_root_named-is_named.ensures) in
-    joined_above R old now root c.deref-2.result.now o is
-    (meet_by (IsNamed R old now) c.deref.result.now (children_of o) c.in_ok-trees.trees.items c.deref-2.result.now
-    (c.deref.ensures.value ∙ c.in_ok-children.ensures) c.deref-2.ensures.value c.in_ok-trees.ensures.named)
+    let o = record_of c.in_ok-root.root.value in
+    let is = c.in_ok-root.ensures in
+    joined_above R old now root c.deref-3.result.now o is
+    (meet_by (IsNamed R old now) c.deref-2.result.now (children_of o) c.in_ok-trees.trees.items c.deref-3.result.now
+    (c.deref-2.ensures.value ∙ c.in_ok-children.ensures
+    ∙ ap (λ at. children_of (record_of at)) c.deref.ensures) c.deref-3.ensures.value c.in_ok-trees.ensures.named)
 
 pub with_named-remember-requires-clause-known : goal.with_named-remember-requires-clause-known
 with_named-remember-requires-clause-known g t c =
@@ -108,10 +106,8 @@ with_named-remember-requires-clause-found g t c =
     let root = c.turned-plain.result in
     let simple = c.in_ok-simple.simple in
     let place = c.place-place.result in
-    let o = record_of c.with_set-root.result in
-    let is = subst (λ n. MatchOption n (root.place ≡ 0) (IsAsked R old root)) (sym c.with_set-root.ensures)
-    (asked R old root (record_of c.in_ok-root.root) c.is_root_named-is_named.result c.in_ok-root.ensures.known
-    c.is_root_named-is_named.ensures) in
+    let o = record_of c.in_ok-root.root.value in
+    let is = c.in_ok-root.ensures in
     let keeps = extends_on old now new c.in_ok-trees.ensures.keeps c.in_ok-simple.ensures.keeps in
     let made = subst (IsTree old) (sym c.turned-plain.ensures) c.requires.made in
     let same : root ≡ plain place =
@@ -123,9 +119,10 @@ with_named-remember-requires-clause-found g t c =
       named =
           named_now R old new (plain place) simple keeps here
           (subst (λ u. IsNamed R old new u simple) same
-          (joined_named R old now root c.deref-2.result.now new simple o is keeps made
-          (meet_by (IsNamed R old now) c.deref.result.now (children_of o) c.in_ok-trees.trees.items c.deref-2.result.now
-          (c.deref.ensures.value ∙ c.in_ok-children.ensures) c.deref-2.ensures.value
+          (joined_named R old now root c.deref-3.result.now new simple o is keeps made
+          (meet_by (IsNamed R old now) c.deref-2.result.now (children_of o) c.in_ok-trees.trees.items c.deref-3.result.now
+          (c.deref-2.ensures.value ∙ c.in_ok-children.ensures
+    ∙ ap (λ at. children_of (record_of at)) c.deref.ensures) c.deref-3.ensures.value
           c.in_ok-trees.ensures.named) c.in_ok-simple.ensures.made));
     }
 
@@ -138,10 +135,8 @@ with_named-returns-clause-found g t c =
     let tree = c.args.tree in
     let root = c.turned-plain.result in
     let simple = c.in_ok-simple.simple in
-    let o = record_of c.with_set-root.result in
-    let is = subst (λ n. MatchOption n (root.place ≡ 0) (IsAsked R old root)) (sym c.with_set-root.ensures)
-    (asked R old root (record_of c.in_ok-root.root) c.is_root_named-is_named.result c.in_ok-root.ensures.known
-    c.is_root_named-is_named.ensures) in
+    let o = record_of c.in_ok-root.root.value in
+    let is = c.in_ok-root.ensures in
     let keeps = extends_on old now new c.in_ok-trees.ensures.keeps c.in_ok-simple.ensures.keeps in
     let made = subst (IsTree old) (sym c.turned-plain.ensures) c.requires.made in
     let same : root ≡ plain tree.place =
@@ -152,9 +147,10 @@ with_named-returns-clause-found g t c =
           (sym (c.turned-signed.ensures ∙ ap (λ b. turned b simple) c.is_negated-negated.ensures))
           (named_signed R old new tree simple
           (subst (λ u. IsNamed R old new u simple) same
-          (joined_named R old now root c.deref-2.result.now new simple o is keeps made
-          (meet_by (IsNamed R old now) c.deref.result.now (children_of o) c.in_ok-trees.trees.items c.deref-2.result.now
-          (c.deref.ensures.value ∙ c.in_ok-children.ensures) c.deref-2.ensures.value
+          (joined_named R old now root c.deref-3.result.now new simple o is keeps made
+          (meet_by (IsNamed R old now) c.deref-2.result.now (children_of o) c.in_ok-trees.trees.items c.deref-3.result.now
+          (c.deref-2.ensures.value ∙ c.in_ok-children.ensures
+    ∙ ap (λ at. children_of (record_of at)) c.deref.ensures) c.deref-3.ensures.value
           c.in_ok-trees.ensures.named) c.in_ok-simple.ensures.made)));
       kept = c.in_ok-remember.ensures;
     }

@@ -8,8 +8,8 @@ use Rattle.reqtable_answer.specs.Says.{asks_seen}
 use Rattle.reqtable_answer.proofs.Packages.{names}
 use Rattle.reqtable_answer.proofs.answering.answer_to.Given as goal
 
-abbrev pub invariant-loop-package : goal.invariant-loop-package
-invariant-loop-package g l = record {
+abbrev pub invariant-loop-entry : goal.invariant-loop-entry
+invariant-loop-entry g l = record {
   names : map (λ row. row.name) (map row_seen l.rows.items) ≡ names (map deref_pair l.yielded);
   rows : (admits : Admits) → AnswersBy (goal.F-post g l.fn.admission) admits
       → AllByRecursion (IsRow admits (asks_seen l.fn.asks) l.fn.candidates) (map row_seen l.rows.items);

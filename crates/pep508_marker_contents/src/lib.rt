@@ -1,0 +1,7 @@
+//! Marker trees that say something (PEP 508, "Environment Markers"), and marker trees as JSON values.
+#![tactic(auto)]
+
+mod contents;
+pub mod ser;
+
+pub use contents::{MarkerTreeContents, MarkerTreeWithContents};

@@ -1,0 +1,3 @@
+pub mod RequirementPrint
+pub mod Views
+pub mod RequirementOrder

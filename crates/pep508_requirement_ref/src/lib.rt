@@ -1,0 +1,10 @@
+//! Requirements (PEP 508) with the interner of their markers, which print, and compare by what they mean.
+#![tactic(auto)]
+
+pub mod laws;
+mod parts;
+mod requirement_ref;
+mod unnamed_ref;
+
+pub use requirement_ref::RequirementRef;
+pub use unnamed_ref::UnnamedRequirementRef;

@@ -1,0 +1,115 @@
+//! What is asked and the candidates, put by package: each name is looked up once.
+
+ghost use Rattle.std.specs.Prelude.{◌≡◌, ℕ, ◌&&◌, ◌||◌, List, [], ◌∷◌, ◌++◌, filter, IfOk, OnOk};
+ghost use Rattle.std.specs.List.{list_any, enumerate_from};
+ghost use Rattle.reqtable_answer.specs.Asks.{is_of};
+ghost use Rattle.reqtable_answer.specs.Groups.{asks_for, has_group, candidates_for, numbered_seen, is_candidate};
+ghost use Rattle.reqtable_answer.specs.Says.{ask_seen, asks_seen};
+
+use crate::choosing::Numbered;
+use pep508_requirement::Requirement;
+use pep508_url::VerbatimUrl;
+use reqtable_text::Candidate;
+use std::alloc::{AllocError, Global};
+use std::collections::BTreeMap;
+
+/// What is asked of a package, and its candidates.
+#[derive(Drop)]
+pub struct Group<'a> {
+    pub asks: Vec<&'a Requirement<VerbatimUrl>>,
+    pub candidates: Vec<Numbered<'a>>,
+}
+
+/// The groups, by the names of their packages.
+pub type Groups<'a> = BTreeMap<&'a str, Group<'a>>;
+
+/// The packages that are asked for, each with what is asked of it and with its candidates, in order.
+pub fn by_package<'a>(
+    alloc: Global,
+    asks: &[&'a Requirement<VerbatimUrl>],
+    candidates: &'a [Candidate],
+) -> Result<Groups<'a>, AllocError>
+    ensures packages { IfOk result (λ groups. (q : List ℕ) →
+        has_group groups q ≡ list_any (is_of q) (asks_seen asks.now)) }
+    ensures asks { IfOk result (λ groups. (q : List ℕ) →
+        asks_for groups q ≡ filter (is_of q) (asks_seen asks.now)) }
+    ensures candidates { IfOk result (λ groups. (q : List ℕ) → candidates_for groups q ≡
+        filter (λ c. has_group groups q && is_candidate q c) (enumerate_from 0 candidates.now)) }
+{
+    let mut groups = asks_by_package(alloc, asks)?;
+    add_candidates(&mut groups, candidates)?;
+    Ok(groups)
+}
+
+/// The packages that are asked for, with what is asked of them.
+fn asks_by_package<'a>(
+    alloc: Global,
+    asks: &[&'a Requirement<VerbatimUrl>],
+) -> Result<Groups<'a>, AllocError>
+    ensures packages { IfOk result (λ groups. (q : List ℕ) →
+        has_group groups q ≡ list_any (is_of q) (asks_seen asks.now)) }
+    ensures asks { IfOk result (λ groups. (q : List ℕ) →
+        asks_for groups q ≡ filter (is_of q) (asks_seen asks.now)) }
+    ensures candidates { IfOk result (λ groups. (q : List ℕ) → candidates_for groups q ≡ []) }
+{
+    let mut groups: Groups<'a> = BTreeMap::new(alloc);
+    for ask in asks {
+        add_ask(alloc, &mut groups, ask)?;
+    }
+    Ok(groups)
+}
+
+/// Adds what is asked to its package's group, which is made where there is none.
+fn add_ask<'a>(
+    alloc: Global,
+    groups: &mut Groups<'a>,
+    ask: &'a Requirement<VerbatimUrl>,
+) -> Result<(), AllocError>
+    ensures packages { OnOk result ((q : List ℕ) →
+        has_group groups.new q ≡ (has_group groups.old q || is_of q (ask_seen ask.now))) }
+    ensures asks { OnOk result ((q : List ℕ) → asks_for groups.new q ≡
+        asks_for groups.old q ++ filter (is_of q) (ask_seen ask.now ∷ [])) }
+    ensures candidates { OnOk result ((q : List ℕ) →
+        candidates_for groups.new q ≡ candidates_for groups.old q) }
+{
+    let group = groups.entry(ask.name.as_str())?.or_insert(Group {
+        asks: Vec::new(alloc),
+        candidates: Vec::new(alloc),
+    });
+    group.asks.push(ask)?;
+    Ok(())
+}
+
+/// Adds the candidates of the packages that have a group.
+fn add_candidates<'a>(
+    groups: &mut Groups<'a>,
+    candidates: &'a [Candidate],
+) -> Result<(), AllocError>
+    ensures packages { OnOk result ((q : List ℕ) → has_group groups.new q ≡ has_group groups.old q) }
+    ensures asks { OnOk result ((q : List ℕ) → asks_for groups.new q ≡ asks_for groups.old q) }
+    ensures candidates { OnOk result ((q : List ℕ) →
+        candidates_for groups.new q ≡ candidates_for groups.old q
+        ++ filter (λ c. has_group groups.old q && is_candidate q c) (enumerate_from 0 candidates.now)) }
+{
+    for (place, candidate) in candidates.iter().enumerate() {
+        add(groups, Numbered { place, candidate })?;
+    }
+    Ok(())
+}
+
+/// Adds a candidate to its package's group, where there is one.
+fn add<'a>(groups: &mut Groups<'a>, numbered: Numbered<'a>) -> Result<(), AllocError>
+    ensures packages { OnOk result ((q : List ℕ) → has_group groups.new q ≡ has_group groups.old q) }
+    ensures asks { OnOk result ((q : List ℕ) → asks_for groups.new q ≡ asks_for groups.old q) }
+    ensures candidates { OnOk result ((q : List ℕ) →
+        candidates_for groups.new q ≡ candidates_for groups.old q
+        ++ filter (λ c. has_group groups.old q && is_candidate q c) (numbered_seen numbered.entry ∷ [])) }
+{
+    match groups.get_mut(numbered.candidate.name.as_str()) {
+        Some(group) => {
+            group.candidates.push(numbered)?;
+            Ok(())
+        }
+        None => Ok(()),
+    }
+}
