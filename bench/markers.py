@@ -1,15 +1,16 @@
 #!/usr/bin/env python3
-"""Times the reading of markers: long chains of comparisons, and many short ones.
+"""Times the reading and the printing of markers: long chains of comparisons, many short ones, many clauses.
 
     markers.py [PROGRAM] [--native PATH] [--runs N] [--lines N]
 
 PROGRAM is crates/pep508_marker_vectors/out/pep508_marker_vectors where none is named
-(`./build pep508_marker_vectors` makes it). A native program is called as `PATH marker`, with a marker a
-line on standard input. Chains are `os_name == 'x0' or os_name == 'x1' ..` and the same of extras, and
+(`./build pep508_marker_vectors` makes it). A native program is called as `PATH marker --json`, with a marker
+as a JSON text a line on standard input. Chains are `os_name == 'x0' or os_name == 'x1' ..` and the same of extras, and
 `extra == 'x0' and extra == 'x1' ..`; the many are drawn from the real markers among the questions of
-crates/pep508_marker_vectors. Processor seconds and peak memory are those of the whole process, the least
-of several runs. The exit status is 1 where an answer is wrong, or where chains of 10,000 take more than 7
-times as long as those of 2,000.
+crates/pep508_marker_vectors. What is printed are those and clauses of ten comparisons, which differ in the first,
+in the last or in all; reading these alone is timed beside. There the native program is called by `dnf` and `tree`.
+Processor seconds and peak memory are those of the whole process, the least of several runs. The exit status is 1
+where an answer is wrong, or where chains of 10,000 take more than 7 times as long as those of 2,000.
 """
 
 import argparse
@@ -24,6 +25,9 @@ HERE = os.path.dirname(os.path.abspath(__file__))
 CRATE = os.path.join(HERE, "..", "crates", "pep508_marker_vectors")
 PROGRAM = os.path.join(CRATE, "out", "pep508_marker_vectors")
 LEAST, MOST = 2000, 10000
+CLAUSES = 1000
+KEYS = ["implementation_name", "os_name", "platform_machine", "platform.machine", "platform_python_implementation",
+        "python_implementation", "platform_release", "platform_system", "platform_version", "sys_platform"]
 
 
 def read_words():
@@ -48,10 +52,21 @@ def real_markers(number):
     with open(os.path.join(CRATE, "data", "vectors.jsonl"), encoding="utf-8") as file:
         for line in file:
             question = json.loads(line)
-            if question[0] == "same":
+            if question[0] == "same" and "\n" not in question[1]:
                 known.append(question[1])
     draw = random.Random(7)
     return [draw.choice(known) for _ in range(number)]
+
+
+def clauses(number, at):
+    """So many clauses of a comparison a key, which differ in the one at a place, or in all where there is none."""
+    if at is None:
+        return " or ".join(" and ".join(f"{key} == 'x{it}'" for key in KEYS) for it in range(number))
+    shared = [f"{key} == 'x'" for key in KEYS]
+    key, shared[at] = KEYS[at], "({})"
+    chosen = [f"{key} == 'x{it}'" for it in range(number)]
+    random.Random(7).shuffle(chosen)
+    return " and ".join(shared).format(" or ".join(chosen))
 
 
 def run(words, folder, given):
@@ -67,9 +82,9 @@ def run(words, folder, given):
         return said.read().splitlines(), used.ru_utime + used.ru_stime, used.ru_maxrss
 
 
-def ours(program, folder, markers):
+def ours(program, folder, question, markers):
     with open(os.path.join(folder, "vectors.jsonl"), "w", encoding="utf-8") as file:
-        file.writelines(json.dumps(["marker", marker], ensure_ascii=False) + "\n" for marker in markers)
+        file.writelines(json.dumps([question, marker], ensure_ascii=False) + "\n" for marker in markers)
     with open(os.path.join(folder, "environments.txt"), "w", encoding="utf-8"):
         pass
     said, seconds, peak = run([program], folder, "")
@@ -78,8 +93,8 @@ def ours(program, folder, markers):
     return seconds, peak
 
 
-def native(program, folder, markers):
-    said, seconds, peak = run([program, "marker"], folder, "".join(marker + "\n" for marker in markers))
+def native(program, folder, command, markers):
+    said, seconds, peak = run([program, command, "--json"], folder, "".join(json.dumps(it) + "\n" for it in markers))
     if len(said) != len(markers):
         raise SystemExit("markers: the native program answered something else")
     return seconds, peak
@@ -91,10 +106,17 @@ def least(measure, runs):
 
 
 def workloads(lines):
+    """A name, the question, the native command or none, and the markers."""
     for key, word in (("os_name", "or"), ("extra", "or"), ("extra", "and")):
         for size in (LEAST, MOST):
-            yield f"{key} {word} {size}", [chain(key, word, size)]
-    yield f"real markers {lines}", real_markers(lines)
+            # (the native program takes the square of a chain's length, and prints what it has read)
+            command = "marker" if (key, size) == ("os_name", LEAST) else None
+            yield f"{key} {word} {size}", "marker", command, [chain(key, word, size)]
+    yield f"real markers {lines}", "marker", "marker", real_markers(lines)
+    for which, at in (("first", 0), ("last", -1), ("all", None)):
+        for question, command in (("marker", "tree"), ("text", "dnf")):
+            yield f"{CLAUSES} clauses, {which} terms differ: {question}", question, command, [clauses(CLAUSES, at)]
+    yield f"real markers {lines}: text", "text", "dnf", real_markers(lines)
 
 
 def main():
@@ -102,12 +124,11 @@ def main():
     took = {}
     with tempfile.TemporaryDirectory() as folder:
         print("| workload | CPU s | peak KiB |" + (" native CPU s | native peak KiB |" if words.native else ""))
-        for name, markers in workloads(words.lines):
-            took[name] = least(lambda: ours(os.path.abspath(words.program), folder, markers), words.runs)
+        for name, question, command, markers in workloads(words.lines):
+            took[name] = least(lambda: ours(os.path.abspath(words.program), folder, question, markers), words.runs)
             row = [name, f"{took[name][0]:.3f}", str(took[name][1])]
-            # (the native program takes the square of a chain's length)
-            if words.native and not name.endswith(str(MOST)):
-                other = least(lambda: native(os.path.abspath(words.native), folder, markers), 1)
+            if words.native and command:
+                other = least(lambda: native(os.path.abspath(words.native), folder, command, markers), 1)
                 row += [f"{other[0]:.3f}", str(other[1])]
             print("| " + " | ".join(row) + " |")
     slow = [it for it in took if it.endswith(str(MOST)) and took[it][0] > 7 * took[it.replace(str(MOST), str(LEAST))][0]]

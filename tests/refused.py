@@ -11,10 +11,12 @@ for itself. Where an input is refused and its text can't be made, the text of wa
 the refusal. The last run gives the answer with ample memory.
 
 The commands are `reqs check` on each example and on lists that are refused, its help, and the questions of
-crates/pep440_vectors and crates/pep508_vectors and every eighth of crates/pep508_marker_vectors, one a run. The last line is `refused: N passed, M failed`, a command or a kind of question each.
+crates/pep440_vectors and crates/pep508_vectors and every eighth of crates/pep508_marker_vectors, one a run. To questions
+of KEPT the program goes on: it makes a call that was refused memory again, and answers by it and by the trees that it
+made before. There some run has to give the whole answer after a refusal. The last line is `refused: N passed, M failed`,
+a command or a kind of question each.
 """
 
-import itertools
 import json
 import multiprocessing
 import os
@@ -27,6 +29,8 @@ TOP = os.path.dirname(os.path.dirname(os.path.abspath(__file__)))
 REQS = os.path.join(TOP, "crates", "reqs_cli", "out", "reqs_cli")
 # Of the questions of each program every so many-th is asked: those on markers are many, and much alike.
 VECTORS = {"pep440_vectors": 1, "pep508_vectors": 1, "pep508_marker_vectors": 8}
+# Questions that are always asked, of a call that is made again where it was refused memory.
+KEPT = "keeps"
 # Every request after the first that is refused.
 ALL = 2 ** 62
 # A command that asks more often than this doesn't end.
@@ -105,6 +109,8 @@ def try_command(library, kind, words, folder, wanted=None):
         tally.faults.append(f"{label}: it still asks for memory after {MOST_REQUESTS} requests")
     if refused == 0:
         tally.faults.append(f"{label}: no run told want of memory")
+    if kind == kind_of(KEPT) and tally.harmless == 0:
+        tally.faults.append(f"{label}: no run went on after a refusal")
     return tally
 
 
@@ -146,9 +152,14 @@ def tasks(library, room):
     for name, words, folder, wanted in commands(room):
         yield library, name, [REQS, *words], folder, wanted, None
     for name, step in VECTORS.items():
-        for question, answer in itertools.islice(questions(name), 0, None, step):
-            kind = f"questions of {json.loads(question)[0]}:"
-            yield library, kind, [program(name)], name, (0, answer, b""), question
+        for number, (question, answer) in enumerate(questions(name)):
+            asked = json.loads(question)[0]
+            if number % step == 0 or asked == KEPT:
+                yield library, kind_of(asked), [program(name)], name, (0, answer, b""), question
+
+
+def kind_of(asked):
+    return f"questions of {asked}:"
 
 
 def questions(name):

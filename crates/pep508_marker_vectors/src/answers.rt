@@ -1,10 +1,12 @@
 //! The answers.
 
 use crate::environment::environment;
+use crate::kept::{Call, keeps};
 use crate::pairs::pair;
 use crate::reading::{expression, marker, read, refused};
 use crate::shown::shown;
 use crate::simplified::{present, within};
+use crate::texts::{clauses, text_after, text_in, top_extra};
 use crate::told::Told;
 use crate::views::view;
 use pep508_evaluation::MarkerTreeEvaluation;
@@ -23,10 +25,8 @@ pub fn answer(alloc: Global, environments: &str, question: &str) -> Result<Strin
     let asked = text_at(&question, 0);
     let text = text_at(&question, 1);
     match asked {
-        "marker" => marker(alloc, text),
-        "expression" => expression(alloc, text),
-        "view" => view(alloc, text),
         "same" | "disjoint" | "negation" => pair(alloc, asked, text, text_at(&question, 2)),
+        "text after" => text_after(alloc, text, text_at(&question, 2)),
         "simplified" | "complexified" => {
             let bounds = (text_at(&question, 3), text_at(&question, 4));
             within(alloc, asked, text, text_at(&question, 2), bounds)
@@ -46,7 +46,34 @@ pub fn answer(alloc: Global, environments: &str, question: &str) -> Result<Strin
             let extras = extras_from(alloc, &question, 2)?;
             evaluate_extras(alloc, text, &extras)
         }
+        "keeps" => kept(alloc, environments, &question),
+        _ => of_one(alloc, asked, text),
+    }
+}
+
+/// The answer to a question on one marker.
+fn of_one(alloc: Global, asked: &str, text: &str) -> Result<String, AllocError> {
+    match asked {
+        "marker" => marker(alloc, text),
+        "expression" => expression(alloc, text),
+        "view" => view(alloc, text),
+        "text" => text_in(alloc, &mut Interner::new(alloc), text),
+        "top extra" => top_extra(alloc, text),
+        "clauses" => clauses(alloc, text),
         _ => String::from_str(alloc, "no question"),
+    }
+}
+
+/// What becomes of two markers where a call is refused memory.
+fn kept(alloc: Global, environments: &str, question: &Value) -> Result<String, AllocError> {
+    let call = Call {
+        left: text_at(question, 1),
+        right: text_at(question, 2),
+        made: text_at(question, 3),
+    };
+    match environment(alloc, environments, text_at(question, 4))? {
+        Some(environment) => keeps(alloc, &environment, &call),
+        None => String::from_str(alloc, "no environment"),
     }
 }
 

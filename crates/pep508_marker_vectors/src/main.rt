@@ -5,10 +5,12 @@
 
 mod answers;
 mod environment;
+mod kept;
 mod pairs;
 mod reading;
 mod shown;
 mod simplified;
+mod texts;
 mod told;
 mod views;
 

@@ -1,0 +1,119 @@
+//! Earlier trees where a call is refused memory.
+
+ghost use Rattle.std.specs.Prelude.{IfOk};
+ghost use Rattle.pep508_tree.specs.Meaning.{IsTree, Extends};
+
+use crate::reading::{read, refused};
+use crate::texts::text_of;
+use pep508_environment::MarkerEnvironment;
+use pep508_error::Pep508Error;
+use pep508_evaluation::MarkerTreeEvaluation;
+use pep508_tree::{Interner, MarkerTree};
+use pep508_tree_laws::earlier_trees_keep;
+use pep508_url::VerbatimUrl;
+use std::alloc::{AllocError, Global};
+
+/// Two markers, and what is made of them: `and`, `or`, or a marker that is read beside them.
+#[derive(Drop)]
+pub struct Call<'a> {
+    pub left: &'a str,
+    pub right: &'a str,
+    pub made: &'a str,
+}
+
+/// Which of two markers hold in an environment, and the text of the tree that a call makes. Where the call is
+/// refused memory it is made again; `lost` is the answer if the markers then hold otherwise.
+pub fn keeps(
+    alloc: Global,
+    environment: &MarkerEnvironment,
+    call: &Call,
+) -> Result<String, AllocError> {
+    let mut interner = Interner::new(alloc);
+    match both(alloc, &mut interner, call) {
+        Ok((left, right)) => again(alloc, &mut interner, environment, call.made, left, right),
+        Err(error) => refused(alloc, &error),
+    }
+}
+
+fn both(
+    alloc: Global,
+    interner: &mut Interner,
+    call: &Call,
+) -> Result<(MarkerTree, MarkerTree), Pep508Error<VerbatimUrl>>
+    ensures left { IfOk result (λ trees. IsTree interner.new.nodes trees.0) }
+    ensures right { IfOk result (λ trees. IsTree interner.new.nodes trees.1) }
+{
+    let left = read(alloc, interner, call.left)?;
+    let right = read(alloc, interner, call.right)?;
+    earlier_trees_keep();
+    Ok((left, right))
+}
+
+fn again(
+    alloc: Global,
+    interner: &mut Interner,
+    environment: &MarkerEnvironment,
+    call: &str,
+    left: MarkerTree,
+    right: MarkerTree,
+) -> Result<String, AllocError>
+    requires left { IsTree interner.old.nodes left }
+    requires right { IsTree interner.old.nodes right }
+{
+    earlier_trees_keep();
+    let before = holding(interner, environment, left, right);
+    let tree = match made(alloc, interner, call, left, right) {
+        Ok(tree) => tree,
+        Err(_) => {
+            if holding(interner, environment, left, right) != before {
+                return String::from_str(alloc, "lost");
+            }
+            made(alloc, interner, call, left, right)?
+        }
+    };
+    let after = holding(interner, environment, left, right);
+    let text = text_of(alloc, interner, tree)?;
+    format!(in alloc; "{before}, {after}: {text}")
+}
+
+/// Which of two trees hold.
+fn holding(
+    interner: &Interner,
+    environment: &MarkerEnvironment,
+    left: MarkerTree,
+    right: MarkerTree,
+) -> &'static str
+    requires left { IsTree interner.now.nodes left }
+    requires right { IsTree interner.now.nodes right }
+{
+    let is_left = left.evaluate(interner, environment, &[]);
+    let is_right = right.evaluate(interner, environment, &[]);
+    match (is_left, is_right) {
+        (true, true) => "both",
+        (true, false) => "left",
+        (false, true) => "right",
+        (false, false) => "none",
+    }
+}
+
+fn made(
+    alloc: Global,
+    interner: &mut Interner,
+    call: &str,
+    left: MarkerTree,
+    right: MarkerTree,
+) -> Result<MarkerTree, AllocError>
+    requires left { IsTree interner.old.nodes left }
+    requires right { IsTree interner.old.nodes right }
+    ensures made { IfOk result (IsTree interner.new.nodes) }
+    ensures keeps { Extends interner.old.nodes interner.new.nodes }
+{
+    match call {
+        "and" => left.and(alloc, interner, right),
+        "or" => left.or(alloc, interner, right),
+        text => match read(alloc, interner, text) {
+            Ok(tree) => Ok(tree),
+            Err(_) => Err(AllocError),
+        },
+    }
+}
