@@ -9,21 +9,7 @@ ghost use Rattle.pep508_marker_text.specs.SameTerms.{same_extra};
 ghost use Rattle.pep508_marker_dnf.specs.TopExtra.{extra_asked, first_extra, asks_first, common_extra};
 
 use pep508_marker::{ExtraOperator, MarkerExpression, MarkerValueExtra};
-
-/// Whether two extras are the same.
-fn is_same_extra(extra: &MarkerValueExtra, other: &MarkerValueExtra) -> bool
-    ensures { result ≡ same_extra (extra_of extra.now) (extra_of other.now) }
-{
-    match (extra, other) {
-        (MarkerValueExtra::Extra(name), MarkerValueExtra::Extra(other)) => {
-            name.as_str().cmp(other.as_str()).is_eq()
-        }
-        (MarkerValueExtra::Arbitrary(text), MarkerValueExtra::Arbitrary(other)) => {
-            text.as_str().cmp(other.as_str()).is_eq()
-        }
-        _ => false,
-    }
-}
+use pep508_marker_print::is_same_extra;
 
 /// The extra that a comparison asks for by `==`.
 fn extra_asked(term: &MarkerExpression) -> Option<&MarkerValueExtra>

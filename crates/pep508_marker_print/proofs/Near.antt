@@ -166,7 +166,8 @@ kept_by w n x xs true e held from =
     behind_held x n (with_word w xs) (below_first x n xs held)
     (or_either (n == x) _ _ from (still_there (nat_lt x n) _ held))
 kept_by w n x xs false e held from =
-    behind_held w n (x ∷ xs) (omega (arith, ltb-false w x e, below_first x n xs held)) (or_right (n == w) _ held)
+    behind_held w n (x ∷ xs) (omega (arith, ltb-false w x e, below_first x n xs held))
+    (or_right (n == w) _ held)
 
 held_kept : (w n : ℕ) (xs : List ℕ) → holds xs n ≡ true → holds (with_word w xs) n ≡ true
 held_kept w n [] held = absurd (true≢false (sym held))
@@ -179,7 +180,8 @@ module _ {T : Type 0} (word : T → ℕ) where
   kept_behind words (term ∷ later) n held =
       kept_behind (with_word (word term) words) later n (held_kept (word term) n words held)
 
-  near_behind : (words : List ℕ) (clause : List T) → is_near word (words_behind word words clause) clause ≡ true
+  near_behind : (words : List ℕ) (clause : List T) →
+      is_near word (words_behind word words clause) clause ≡ true
   near_behind words [] = refl
   near_behind words (term ∷ later) =
       together _ _

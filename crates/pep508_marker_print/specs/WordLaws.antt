@@ -41,7 +41,8 @@ module _ (versions : Operator → Operator → Bool) (texts : MarkerOperator →
       one_extra asked other_asked (both (names operator other) _ e).1
   one_value term other e = absurd (cc)
 
-pub word_of_same : (a b : MarkerExpression) → same_expression a b ≡ true → expression_word a ≡ expression_word b
+pub word_of_same : (a b : MarkerExpression) → same_expression a b ≡ true →
+    expression_word a ≡ expression_word b
 word_of_same a b e = one_value _ _ _ (expression_of a) (expression_of b) e
 
 pub word_of_opposite : (a b : MarkerExpression) → opposite_expression a b ≡ true →

@@ -25,7 +25,8 @@ holds (other ∷ later) word = cond (nat_lt other word) false (word == other || 
 -- a word more, in front of the first that isn't greater
 abbrev pub with_word : ℕ → List ℕ → List ℕ
 with_word word [] = word ∷ []
-with_word word (other ∷ later) = cond (nat_lt word other) (other ∷ with_word word later) (word ∷ other ∷ later)
+with_word word (other ∷ later) =
+    cond (nat_lt word other) (other ∷ with_word word later) (word ∷ other ∷ later)
 
 abbrev pub greater : ℕ → ℕ → ℕ
 greater a b = cond (nat_lt a b) b a

@@ -1,7 +1,8 @@
 //! Clauses that tell quickly whether they can matter to another one.
 
 ghost use Rattle.std.specs.Prelude.{◌≡◌, [], ◌∷◌, ◌++◌, ◌≤◌, length, take, drop, IfOk, OnOk};
-ghost use Rattle.pep508_marker_print.specs.Words.{holds, with_word, words_behind, is_near, greatest_word, greatest_behind};
+ghost use Rattle.pep508_marker_print.specs.Words.{holds, with_word, words_behind, is_near};
+ghost use Rattle.pep508_marker_print.specs.Words.{greatest_word, greatest_behind};
 
 use crate::term::Term;
 use std::alloc::{AllocError, Global};

@@ -17,8 +17,9 @@ use std::alloc::{AllocError, Global};
 ///
 /// Twice it looks, for each clause, at one number of each other one, among those of the clause's own terms.
 /// Where it is there, it looks at the numbers of all the other's terms, and where these are there too, at the
-/// terms, once for each term of the clause. The numbers are made of the last eight bytes of texts and the last
-/// eight numbers of releases: of clauses whose values all end alike each term is compared with each other one.
+/// terms, once for each term of the clause. The numbers are made of the last eight bytes of texts and of the
+/// last eight numbers of releases: of clauses whose values all end alike each term is compared with each
+/// other one.
 pub fn simplified_clauses(
     alloc: Global,
     clauses: Vec<Vec<MarkerExpression>>,

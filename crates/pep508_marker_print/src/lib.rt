@@ -9,3 +9,4 @@ mod simplify;
 mod term;
 
 pub use clauses::{clauses_text, simplified_clauses};
+pub use term::is_same_extra;

@@ -121,7 +121,8 @@ fn same_text(text: &str, other: &str) -> bool
     text.cmp(other).is_eq()
 }
 
-fn same_extra(extra: &MarkerValueExtra, other: &MarkerValueExtra) -> bool
+/// Whether two extras are the same: two names, or two texts that are none.
+pub fn is_same_extra(extra: &MarkerValueExtra, other: &MarkerValueExtra) -> bool
     ensures { result ≡ same_extra (extra_of extra.now) (extra_of other.now) }
 {
     match (extra, other) {
@@ -207,7 +208,7 @@ impl Term for MarkerExpression {
                 },
             ) => {
                 extra_operator_rank(*operator) == extra_operator_rank(*other)
-                    && same_extra(name, other_name)
+                    && is_same_extra(name, other_name)
             }
             _ => false,
         }
@@ -248,7 +249,7 @@ impl Term for MarkerExpression {
                     operator: other,
                     name: other_name,
                 },
-            ) => are_opposite_extras(*operator, *other) && same_extra(name, other_name),
+            ) => are_opposite_extras(*operator, *other) && is_same_extra(name, other_name),
             _ => false,
         }
     }
