@@ -49,7 +49,6 @@ pub fn answer(alloc: Global, vars: &Vars, question: &str) -> Result<String, Allo
         "origins" => names::origins(alloc, text, text_at(&question, 2)),
         "print" => prints::print(alloc, vars, text, DIRECTORY),
         "unnamed-print" => prints::unnamed(alloc, vars, text, DIRECTORY),
-        "requirements" => prints::order(alloc, vars, text, text_at(&question, 2)),
         "copy" | "nowhere" | "value" | "plain" | "extras" | "unnamed-copy" => {
             calls::answer(alloc, vars, kind, text, DIRECTORY)
         }

@@ -1,4 +1,4 @@
-//! Answers on what requirements print with their interner, and on their order.
+//! Answers on what requirements print with their interner.
 
 ghost use Rattle.pep508_url.specs.Vars.{IsAbsolute};
 
@@ -11,7 +11,6 @@ use pep508_url::{Vars, VerbatimUrl};
 use read_outcome::FromValueError;
 use serde_json::Value;
 use std::alloc::{AllocError, Global};
-use std::cmp::Ordering;
 
 /// What a requirement prints, and whether its JSON value is read as an equal one.
 pub fn print(alloc: Global, vars: &Vars, text: &str, directory: &str) -> Result<String, AllocError>
@@ -57,7 +56,7 @@ pub fn unnamed(
     requires { IsAbsolute directory.now }
 {
     let mut interner = Interner::new(alloc);
-    match UnnamedRequirement::parse(
+    let read = match UnnamedRequirement::<VerbatimUrl>::parse(
         alloc,
         &mut interner,
         vars,
@@ -65,31 +64,11 @@ pub fn unnamed(
         Some(directory),
         &mut Silent,
     ) {
-        Ok(read) => UnnamedRequirementRef::new(alloc, &interner, &read).to_string(alloc),
-        Err(error) => refused(alloc, &error),
-    }
-}
-
-/// How two requirements compare, each with an interner of its own.
-pub fn order(alloc: Global, vars: &Vars, left: &str, right: &str) -> Result<String, AllocError> {
-    let mut interner = Interner::new(alloc);
-    let mut other = Interner::new(alloc);
-    let left = match Requirement::<VerbatimUrl>::from_str(alloc, &mut interner, vars, left) {
         Ok(read) => read,
         Err(error) => return refused(alloc, &error),
     };
-    let right = match Requirement::from_str(alloc, &mut other, vars, right) {
-        Ok(read) => read,
-        Err(error) => return refused(alloc, &error),
-    };
-    let left = RequirementRef::new(alloc, &interner, &left);
-    let right = RequirementRef::new(alloc, &other, &right);
-    let sign = match left.cmp(&right) {
-        Ordering::Less => "<",
-        Ordering::Equal => "==",
-        Ordering::Greater => ">",
-    };
-    String::from_str(alloc, sign)
+    let shown = UnnamedRequirementRef::new(alloc, &interner, &read);
+    format!(in alloc; "{shown}")
 }
 
 fn refused(alloc: Global, error: &Pep508Error<VerbatimUrl>) -> Result<String, AllocError> {
