@@ -1,7 +1,8 @@
 //! The ranges of PEP 440.
 
 ghost use Rattle.std.specs.Prelude.{◌≡◌, ◌<◌, ◌≤◌, length, IfOk};
-ghost use Rattle.pep440_range.specs.Ranges.{Gives, range_of, range_by, first_of, star_range, compatible_range, greater_range, end_of_less};
+ghost use Rattle.pep440_range.specs.Ranges.{Gives, range_of, range_by, first_of, star_range};
+ghost use Rattle.pep440_range.specs.Ranges.{compatible_range, greater_range, end_of_less};
 
 use crate::numbers::{last_raised, raised};
 use crate::{RangeError, sets};

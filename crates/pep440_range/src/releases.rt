@@ -2,7 +2,8 @@
 
 ghost use Rattle.std.specs.Prelude.{◌≡◌, ◌<◌, ◌≤◌, length, IfOk};
 ghost use Rattle.pep440_version.specs.Record.{release_record};
-ghost use Rattle.pep440_range.specs.Ranges.{Gives, release_range_of, release_range_by, star_releases, compatible_releases};
+ghost use Rattle.pep440_range.specs.Ranges.{Gives, release_range_of, release_range_by, star_releases};
+ghost use Rattle.pep440_range.specs.Ranges.{compatible_releases};
 
 use crate::numbers::last_raised;
 use crate::{RangeError, sets};

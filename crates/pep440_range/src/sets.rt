@@ -7,7 +7,8 @@ ghost use Rattle.version_ranges.specs.Point.{Point};
 ghost use Rattle.version_ranges.specs.Held.{holds_at};
 ghost use Rattle.pep440_version.specs.Record.{VersionRecord};
 ghost use Rattle.pep440_version.specs.Order.{version_cmp};
-ghost use Rattle.pep440_range.specs.Ranges.{PointTest, Gives, all_but, at_version, from_bound, to_bound, up_to};
+ghost use Rattle.pep440_range.specs.Ranges.{PointTest, Gives, all_but, at_version, from_bound, to_bound};
+ghost use Rattle.pep440_range.specs.Ranges.{up_to};
 
 use crate::RangeError;
 use pep440_version::Version;

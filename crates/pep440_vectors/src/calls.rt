@@ -146,7 +146,8 @@ fn early(alloc: Global, text: &str) -> Result<String, AllocError> {
     format!(in alloc; "{early} {order}")
 }
 
-/// `1`, marked as a lower or an upper end: its marks, its order to a version, and whether it is a release alone.
+/// `1`, marked as a lower or an upper end: its marks, its order to a version, and whether it is a release
+/// alone.
 fn marked(alloc: Global, kind: &str, text: &str) -> Result<String, AllocError> {
     let Some(version) = version(alloc, text)? else {
         return String::from_str(alloc, REFUSED);

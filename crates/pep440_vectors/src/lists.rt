@@ -77,7 +77,8 @@ fn list_of_one(alloc: Global, text: &str) -> Result<String, AllocError> {
     Ok(answer)
 }
 
-/// How many members a list's copy has, and its prints: for programmers, with bare commas, and as a JSON value.
+/// How many members a list's copy has, and its prints: for programmers, with bare commas, and as a JSON
+/// value.
 fn prints(alloc: Global, text: &str) -> Result<String, AllocError> {
     let Some(list) = specifiers(alloc, text)? else {
         return String::from_str(alloc, REFUSED);

@@ -1,6 +1,7 @@
 -- Which versions a comparison of a key holds (PEP 508, "Environment Markers"), as points of their order. They
 -- are missing where a number that has to be raised is the greatest of 64 bits.
-use Rattle.std.specs.Prelude.{ℕ, ◌==◌, Bool, true, false, not, if◌then◌else◌, nat_lt, List, [], ◌∷◌, length, drop, map}
+use Rattle.std.specs.Prelude.{ℕ, ◌==◌, Bool, true, false, not, if◌then◌else◌, nat_lt, List, [], ◌∷◌, length}
+use Rattle.std.specs.Prelude.{drop, map}
 use Rattle.std.specs.Prelude.{Option, Some, None}
 use Rattle.std.specs.List.{list_all, list_any}
 use Rattle.std.specs.Option.{option_map, is_some}
@@ -59,8 +60,8 @@ python_points GreaterThanEqual numbers = release_range_by GreaterThanEqual numbe
 abbrev pub is_zero : ℕ → Bool
 is_zero number = number == 0
 
--- compared with three numbers or more, which no value has: it equals none, and each lies before or behind it as
--- its first two numbers do
+-- compared with three numbers or more, which no value has: it equals none, and each lies before or behind
+-- it as its first two numbers do
 abbrev pub python_points_past : Operator → List ℕ → Option PointTest
 python_points_past Equal numbers = Some nowhere
 python_points_past EqualStar numbers = Some nowhere
@@ -111,8 +112,8 @@ negated_points false points = points
 abbrev pub listed : List VersionRecord → PointTest
 listed versions p = list_any (λ version. at_version version p) versions
 
--- the listed minor releases; one that is written with three numbers or more makes the comparison hold nowhere,
--- and then none is looked at
+-- the listed minor releases; one that is written with three numbers or more makes the comparison hold
+-- nowhere, and then none is looked at
 abbrev pub listed_minors : List VersionRecord → List (Option PointTest)
 listed_minors versions = map (λ version. in_minor version.release) versions
 

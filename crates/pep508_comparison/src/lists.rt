@@ -7,7 +7,8 @@ ghost use Rattle.version_ranges.specs.Held.{holds_at};
 ghost use Rattle.pep440_rs.specs.Record.{VersionRecord};
 ghost use Rattle.pep440_rs.specs.Order.{version_cmp};
 ghost use Rattle.pep440_rs.specs.Ranges.{Gives};
-ghost use Rattle.pep508_comparison.specs.Comparisons.{is_minor, negated_points, listed, listed_minors, python_listed_points};
+ghost use Rattle.pep508_comparison.specs.Comparisons.{is_minor, negated_points, listed, listed_minors};
+ghost use Rattle.pep508_comparison.specs.Comparisons.{python_listed_points};
 ghost use Rattle.pep508_comparison.specs.Unions.{GivesAny};
 
 use crate::minors::in_minor;

@@ -2,7 +2,8 @@
 
 ghost use Rattle.std.specs.Prelude.{◌≡◌, ◌<◌, ◌≤◌, length};
 ghost use Rattle.pep440_rs.specs.Ranges.{Gives};
-ghost use Rattle.pep508_comparison.specs.Comparisons.{compared_numbers, python_points, python_points_past, python_version_points};
+ghost use Rattle.pep508_comparison.specs.Comparisons.{compared_numbers, python_points, python_points_past};
+ghost use Rattle.pep508_comparison.specs.Comparisons.{python_version_points};
 
 use crate::minors::{before_next_minor, from_next_minor, in_minor};
 use crate::numbers::{are_zeros, compared_numbers};

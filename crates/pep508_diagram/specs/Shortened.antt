@@ -20,7 +20,10 @@ post_beside None post = post
 -- `most` stands above
 abbrev pub shortest : VersionRecord → VersionRecord
 shortest version =
-    record version { release = or_zero (stripped version.release); post = post_beside version.most version.post }
+    record version {
+      release = or_zero (stripped version.release);
+      post = post_beside version.most version.post;
+    }
 
 -- the boundary at the shortest spelling
 abbrev pub shortened : Boundary VersionRecord → Boundary VersionRecord

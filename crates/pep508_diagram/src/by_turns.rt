@@ -1,5 +1,5 @@
-//! Sets as branches: true and false by turns, from each boundary on the other one; and branches whose boundaries
-//! are at versions in their shortest spelling.
+//! Sets as branches: true and false by turns, from each boundary on the other one; and branches whose
+//! boundaries are at versions in their shortest spelling.
 
 ghost use Rattle.std.specs.Prelude.{◌≡◌, IfOk, map};
 ghost use Rattle.pep508_diagram.specs.Branches.{by_turns};

@@ -12,8 +12,8 @@ use std::alloc::{AllocError, Global};
 use std::cmp::Ordering;
 use std::marker::Model;
 
-/// A text of a marker: a bound of a key, a text that stands in another, or an extra that is no name. Compares by
-/// its bytes, and contracts see it as these.
+/// A text of a marker: a bound of a key, a text that stands in another, or an extra that is no name.
+/// Compares by its bytes, and contracts see it as these.
 #[derive(Drop)]
 pub struct MarkerText {
     text: String,

@@ -1,5 +1,6 @@
 -- What a marker environment is as a JSON value, and what refuses one (PEP 508, "Environment Markers").
-use Rattle.std.specs.Prelude.{◌≡◌, ℕ, ◌&&◌, Bool, IsTrue, true, false, not, if◌then◌else◌, List, [], ◌∷◌, ◌++◌, codes, Option, Some, None, is_some, option_and_then, Result, Ok, Err}
+use Rattle.std.specs.Prelude.{◌≡◌, ℕ, ◌&&◌, Bool, IsTrue, true, false, not, if◌then◌else◌, List, [], ◌∷◌}
+use Rattle.std.specs.Prelude.{◌++◌, codes, Option, Some, None, is_some, option_and_then, Result, Ok, Err}
 use Rattle.std.specs.List.{filter_map}
 use Rattle.serde_json.specs.Data.{Data}
 use Rattle.serde_json.specs.Find.{get, as_str, as_object}
@@ -7,9 +8,17 @@ use Rattle.serde_json.specs.Written.{has_float}
 use Rattle.pep440_text.specs.Record.{VersionRecord}
 use Rattle.pep440_text.specs.Reading.{version_of}
 use Rattle.pep508_environment.specs.declared.EnvironmentMember.{EnvironmentMember}
-use Rattle.pep508_environment.specs.declared.EnvironmentMember.TheVariants.{ImplementationName, ImplementationVersion, OsName, PlatformMachine, PlatformPythonImplementation, PlatformRelease, PlatformSystem, PlatformVersion, PythonFullVersion, PythonVersion, SysPlatform}
+use Rattle.pep508_environment.specs.declared.EnvironmentMember.TheVariants.{ImplementationName}
+use Rattle.pep508_environment.specs.declared.EnvironmentMember.TheVariants.{ImplementationVersion, OsName}
+use Rattle.pep508_environment.specs.declared.EnvironmentMember.TheVariants.{PlatformMachine}
+use Rattle.pep508_environment.specs.declared.EnvironmentMember.TheVariants.{PlatformPythonImplementation}
+use Rattle.pep508_environment.specs.declared.EnvironmentMember.TheVariants.{PlatformRelease, PlatformSystem}
+use Rattle.pep508_environment.specs.declared.EnvironmentMember.TheVariants.{PlatformVersion}
+use Rattle.pep508_environment.specs.declared.EnvironmentMember.TheVariants.{PythonFullVersion, PythonVersion}
+use Rattle.pep508_environment.specs.declared.EnvironmentMember.TheVariants.{SysPlatform}
 use Rattle.pep508_environment.specs.declared.EnvironmentError.{EnvironmentError}
-use Rattle.pep508_environment.specs.declared.EnvironmentError.TheVariants.{Float, Shape, Member, Version, Memory}
+use Rattle.pep508_environment.specs.declared.EnvironmentError.TheVariants.{Float, Shape, Member, Version}
+use Rattle.pep508_environment.specs.declared.EnvironmentError.TheVariants.{Memory}
 
 -- an environment (PEP 508, "Environment Markers"): texts, and versions with the texts that they were read of
 pub record EnvironmentRecord : Type 0 where

@@ -3,7 +3,8 @@ use Rattle.std.specs.Prelude.{◌≡◌, ℕ, true, List, [], ◌∷◌, ◌++�
 use Rattle.std.proofs.Common.{ap}
 use Rattle.std.proofs.lemmas.Bool.{and_parts}
 use Rattle.std.specs.Cmp.{IsEquivalence, IsPartialEquivalence, partial_equiv_from_equiv, on_equiv, and_equiv}
-use Rattle.std.specs.Cmp.Lexicographic.{pointwise, lists_equiv, nat_list_eq_equiv, pointwise_decides, bytes_decides}
+use Rattle.std.specs.Cmp.Lexicographic.{pointwise, lists_equiv, nat_list_eq_equiv, pointwise_decides}
+use Rattle.std.specs.Cmp.Lexicographic.{bytes_decides}
 use Rattle.std.specs.Hash as fed
 use Rattle.std.specs.List.{flat_map}
 use Rattle.std.specs.Str.{bytes_eq}
@@ -11,7 +12,8 @@ use Rattle.pep440_text.specs.Record.{VersionRecord}
 use Rattle.pep440_version.specs.Order.{version_eq}
 use Rattle.pep440_version.specs.OrderLaws.{version_eq_equiv, alike_versions}
 use Rattle.pep508_environment.specs.Environment.{EnvironmentRecord}
-use Rattle.pep508_environment.specs.EnvironmentValues.{texts_of, versions_of, environment_eq, fed_version, fed_environment}
+use Rattle.pep508_environment.specs.EnvironmentValues.{texts_of, versions_of, environment_eq, fed_version}
+use Rattle.pep508_environment.specs.EnvironmentValues.{fed_environment}
 
 -- equality is an equivalence
 pub environment_eq_equiv : IsEquivalence environment_eq

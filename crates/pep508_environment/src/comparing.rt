@@ -4,8 +4,10 @@ ghost use Rattle.std.specs.Prelude.{◌≡◌, IfOk};
 ghost use Rattle.std.specs.Cmp.Lexicographic.{pointwise};
 ghost use Rattle.std.specs.Str.{bytes_eq};
 ghost use Rattle.pep440_version.specs.Order.{version_eq};
-ghost use Rattle.pep508_environment.specs.EnvironmentValues.{texts_of, versions_of, environment_eq, fed_environment};
-ghost use Rattle.pep508_environment.specs.EnvironmentLaws.{environment_eq_equiv, environment_eq_partial, alike_environments};
+ghost use Rattle.pep508_environment.specs.EnvironmentValues.{texts_of, versions_of, environment_eq};
+ghost use Rattle.pep508_environment.specs.EnvironmentValues.{fed_environment};
+ghost use Rattle.pep508_environment.specs.EnvironmentLaws.{environment_eq_equiv, environment_eq_partial};
+ghost use Rattle.pep508_environment.specs.EnvironmentLaws.{alike_environments};
 
 use crate::MarkerEnvironment;
 use std::alloc::{AllocError, Global};

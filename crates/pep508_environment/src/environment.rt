@@ -1,12 +1,15 @@
 //! Environments.
 
-ghost use Rattle.std.specs.Prelude.{◌≡◌, ◌⊎◌, IfOk, IfErr, IfSome, OnOk, None, Some, Err, IsTrue, is_some, false, true, option_and_then, option_copied, option_map};
+ghost use Rattle.std.specs.Prelude.{◌≡◌, ◌⊎◌, IfOk, IfErr, IfSome, OnOk, None, Some, Err, IsTrue, is_some};
+ghost use Rattle.std.specs.Prelude.{false, true, option_and_then, option_copied, option_map};
 ghost use Rattle.std.specs.String.{string_bytes};
 ghost use Rattle.serde_json.specs.View.{view};
 ghost use Rattle.pep440_text.specs.Reading.{version_of};
 ghost use Rattle.read_outcome.specs.Outcome.{Answers};
 ghost use Rattle.pep508_environment.specs.declared.EnvironmentMember.{EnvironmentMember};
-ghost use Rattle.pep508_environment.specs.Environment.{EnvironmentRecord, member_text, member_version, member_fault, is_version, environment_of, told_environment, IsReached};
+ghost use Rattle.pep508_environment.specs.Environment.{EnvironmentRecord, member_text, member_version};
+ghost use Rattle.pep508_environment.specs.Environment.{member_fault, is_version, environment_of};
+ghost use Rattle.pep508_environment.specs.Environment.{told_environment, IsReached};
 
 use crate::floats::has_float;
 use crate::{EnvironmentError, EnvironmentMember, StringVersion};

@@ -13,7 +13,8 @@ pub struct Cursor<'a> {
 }
 
 impl<'a> Cursor<'a> {
-    ghost use Rattle.std.specs.Prelude.{◌≡◌, ℕ, ◌∷◌, ◌++◌, [], length, drop, chars, encode_utf8, IfNone, IfSome, MatchOption};
+    ghost use Rattle.std.specs.Prelude.{◌≡◌, ℕ, ◌∷◌, ◌++◌, [], length, drop, chars, encode_utf8, IfNone};
+    ghost use Rattle.std.specs.Prelude.{IfSome, MatchOption};
     ghost use Rattle.std.specs.Str.{skip_leading_whitespace, IsCharBoundary};
     ghost use Rattle.std.specs.Char.{len_utf8};
     ghost use Rattle.pep508_error.specs.Cursors.{rest_of, first_len, IsBehind};

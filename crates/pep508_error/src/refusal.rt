@@ -19,7 +19,8 @@ pub enum RefusalKind {
 
 impl RefusalKind {
     ghost use Rattle.std.specs.Prelude.{◌≡◌, MatchResult};
-    ghost use Rattle.pep508_error.specs.declared.refusal.RefusalKind.TheVariants.{Memory, String, UnsupportedRequirement};
+    ghost use Rattle.pep508_error.specs.declared.refusal.RefusalKind.TheVariants.{Memory, String};
+    ghost use Rattle.pep508_error.specs.declared.refusal.RefusalKind.TheVariants.{UnsupportedRequirement};
 
     /// The message, or want of memory for it.
     pub fn string(message: Result<String, AllocError>) -> RefusalKind

@@ -1,7 +1,7 @@
--- What is warned of where a tree is evaluated: old names of PEP 345 anywhere in it, and the bounds that texts
--- are compared with on the way to the answer (PEP 508, "Environment Markers"). Tests of one variable in a
--- row, each for where the one before is answered by no, are one node; the texts before its first test, between
--- two of them and from its last one on are its edges.
+-- What is warned of where a tree is evaluated: old names of PEP 345 anywhere in it, and the bounds that
+-- texts are compared with on the way to the answer (PEP 508, "Environment Markers"). Tests of one variable
+-- in a row, each for where the one before is answered by no, are one node; the texts before its first test,
+-- between two of them and from its last one on are its edges.
 use Rattle.std.specs.Prelude.{ℕ, Bool, false, cond, List, [], ◌∷◌, ◌++◌, map, Option, Some, None, is_some}
 use Rattle.version_ranges.specs.declared.boundary.Boundary.{Boundary}
 use Rattle.version_ranges.specs.Boundaries.{point_of}

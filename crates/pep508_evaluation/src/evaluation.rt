@@ -51,9 +51,9 @@ pub trait MarkerTreeEvaluation {
             result };
 
     /// Whether versions and texts can be such that the tree holds with just these extras, whether or not an
-    /// environment has them all. Takes no memory. Goes at most once over each path from the root through nodes
-    /// of versions, texts and substrings, of which there can be many more than nodes; it ends at the first
-    /// that holds, and recurses as deep as a path is long.
+    /// environment has them all. Takes no memory. Goes at most once over each path from the root through
+    /// nodes of versions, texts and substrings, of which there can be many more than nodes; it ends at the
+    /// first that holds, and recurses as deep as a path is long.
     fn evaluate_extras(self, interner: &Interner, extras: &[ExtraName]) -> bool
         requires { IsTree interner.now.nodes (tree self) }
         ensures { IsTrue result ↔ CanHold interner.now.nodes (tree self) extras.now };
@@ -68,10 +68,10 @@ pub trait MarkerTreeEvaluation {
         requires { IsTree interner.now.nodes (tree self) }
         ensures { IsTrue result ↔ CanHold interner.now.nodes (tree self) extras.now };
 
-    /// `evaluate`, which tells a reporter first of each old name of PEP 345 in the tree, one warning for each
-    /// path to a node of it, and then of each bound that a text is compared with on the way to the answer. The
-    /// only refusal is want of memory, for a warning's text or the reporter's own. No text is made for a
-    /// reporter that wants none.
+    /// `evaluate`, which tells a reporter first of each old name of PEP 345 in the tree, one warning for
+    /// each path to a node of it, and then of each bound that a text is compared with on the way to the
+    /// answer. The only refusal is want of memory, for a warning's text or the reporter's own. No text is
+    /// made for a reporter that wants none.
     ///
     /// Goes over each path from the root, of which there can be many more than nodes, and recurses as deep as
     /// a path is long.

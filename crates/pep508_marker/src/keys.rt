@@ -1,7 +1,8 @@
 //! The keys that markers compare.
 
 ghost use Rattle.std.specs.Prelude.{◌≡◌, Some};
-ghost use Rattle.pep508_marker.specs.Keys.{version_key_name, text_key_name, text_key_written, is_deprecated, modern};
+ghost use Rattle.pep508_marker.specs.Keys.{version_key_name, text_key_name, text_key_written, is_deprecated};
+ghost use Rattle.pep508_marker.specs.Keys.{modern};
 
 use std::fmt;
 

@@ -2,8 +2,12 @@
 
 ghost use Rattle.std.specs.Prelude.{◌≡◌, None, Some, Err, option_map, option_copied};
 ghost use Rattle.read_outcome.specs.Outcome.{Answers};
-ghost use Rattle.pep508_marker.specs.Operators.{marker_operator_text, behind_not, is_not_in, marker_operator_of, marker_operator_reading, told_text, text_error_text, inverted, marker_negated, specifier_operator};
-ghost use Rattle.pep508_marker.specs.Operators.{extra_operator_text, extra_negated, extra_operator, shown_bound, lower_term, upper_term, bound_terms};
+ghost use Rattle.pep508_marker.specs.Operators.{marker_operator_text, behind_not, is_not_in};
+ghost use Rattle.pep508_marker.specs.Operators.{marker_operator_of, marker_operator_reading, told_text};
+ghost use Rattle.pep508_marker.specs.Operators.{text_error_text, inverted, marker_negated};
+ghost use Rattle.pep508_marker.specs.Operators.{specifier_operator};
+ghost use Rattle.pep508_marker.specs.Operators.{extra_operator_text, extra_negated, extra_operator};
+ghost use Rattle.pep508_marker.specs.Operators.{shown_bound, lower_term, upper_term, bound_terms};
 
 use pep440_operator::Operator;
 use std::alloc::{AllocError, Global};

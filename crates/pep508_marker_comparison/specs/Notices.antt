@@ -1,8 +1,14 @@
 -- What the warnings of comparisons are about (PEP 508, "Environment Markers").
 use Rattle.pep508_marker.specs.declared.warnings.MarkerWarningKind.{MarkerWarningKind}
-use Rattle.pep508_marker.specs.declared.warnings.MarkerWarningKind.TheVariants.{ExtraInvalidComparison, LexicographicComparison, MarkerMarkerComparison, Pep440Error, StringStringComparison}
+use Rattle.pep508_marker.specs.declared.warnings.MarkerWarningKind.TheVariants.{ExtraInvalidComparison}
+use Rattle.pep508_marker.specs.declared.warnings.MarkerWarningKind.TheVariants.{LexicographicComparison}
+use Rattle.pep508_marker.specs.declared.warnings.MarkerWarningKind.TheVariants.{MarkerMarkerComparison}
+use Rattle.pep508_marker.specs.declared.warnings.MarkerWarningKind.TheVariants.{Pep440Error}
+use Rattle.pep508_marker.specs.declared.warnings.MarkerWarningKind.TheVariants.{StringStringComparison}
 use Rattle.pep508_marker_comparison.specs.declared.notice.Notice.{Notice}
-use Rattle.pep508_marker_comparison.specs.declared.notice.Notice.TheVariants.{Unquoted, Listed, Pattern, Operator, Combination, Keys, Compatible, Extra, Name, Quoted}
+use Rattle.pep508_marker_comparison.specs.declared.notice.Notice.TheVariants.{Unquoted, Listed, Pattern}
+use Rattle.pep508_marker_comparison.specs.declared.notice.Notice.TheVariants.{Operator, Combination, Keys}
+use Rattle.pep508_marker_comparison.specs.declared.notice.Notice.TheVariants.{Compatible, Extra, Name, Quoted}
 
 abbrev pub kind_of : Notice → MarkerWarningKind
 kind_of (Unquoted key found) = Pep440Error

@@ -12,7 +12,8 @@ use Rattle.pep508_name.specs.Name.{name_of}
 use Rattle.pep508_error.specs.declared.cursor.Cursor.{Cursor}
 use Rattle.pep508_error.specs.declared.refusal.Refusal.{Refusal}
 use Rattle.pep508_error.specs.declared.refusal.RefusalKind.{RefusalKind}
-use Rattle.pep508_error.specs.declared.refusal.RefusalKind.TheVariants.{Memory, String, UnsupportedRequirement, NumberAtEnd}
+use Rattle.pep508_error.specs.declared.refusal.RefusalKind.TheVariants.{Memory, String}
+use Rattle.pep508_error.specs.declared.refusal.RefusalKind.TheVariants.{UnsupportedRequirement, NumberAtEnd}
 use Rattle.pep508_error.specs.declared.error.Pep508Error.{Pep508Error}
 use Rattle.pep508_error.specs.declared.error.Pep508ErrorSource.{Pep508ErrorSource}
 use Rattle.pep508_error.specs.declared.error.Pep508ErrorSource.TheVariants as sources

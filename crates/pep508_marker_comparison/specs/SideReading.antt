@@ -1,6 +1,7 @@
 -- What there is to read of the sides of a comparison and of the operator between them (PEP 508, "Environment
 -- Markers").
-use Rattle.std.specs.Prelude.{ℕ, ◌==◌, ◌||◌, not, nat_lt, Bool, false, if◌then◌else◌, List, [], ◌∷◌, length, drop, codes, eqb, Option, Some, None, Result, Ok, Err, encode_utf8_all}
+use Rattle.std.specs.Prelude.{ℕ, ◌==◌, ◌||◌, not, nat_lt, Bool, false, if◌then◌else◌, List, [], ◌∷◌, length}
+use Rattle.std.specs.Prelude.{drop, codes, eqb, Option, Some, None, Result, Ok, Err, encode_utf8_all}
 use Rattle.std.specs.Char.{is_whitespace, is_ascii_alphabetic}
 use Rattle.std.specs.List.{before_first, after_first, position_or_len, starts_with}
 use Rattle.std.specs.Str.{skip_leading_whitespace, bytes_eq}

@@ -5,7 +5,8 @@ ghost use Rattle.std.specs.String.{string_bytes};
 ghost use Rattle.pep508_name.specs.Name.{name_of};
 ghost use Rattle.pep508_marker.specs.Operators.{extra_operator};
 ghost use Rattle.pep508_marker.specs.Values as values;
-ghost use Rattle.pep508_marker_comparison.specs.Compared.{text_compared, extra_compared, extra_of, of_extra, warned_of_name};
+ghost use Rattle.pep508_marker_comparison.specs.Compared.{text_compared, extra_compared, extra_of, of_extra};
+ghost use Rattle.pep508_marker_comparison.specs.Compared.{warned_of_name};
 ghost use Rattle.pep508_marker_comparison.specs.Outcome.{IsCompared, IsNamed};
 
 use crate::notice::{Notice, leave_out, warn};

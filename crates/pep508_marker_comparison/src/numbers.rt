@@ -2,7 +2,9 @@
 
 ghost use Rattle.std.specs.Prelude.{◌≡◌, IfOk};
 ghost use Rattle.std.specs.Result.{result_ok};
-ghost use Rattle.pep508_marker_comparison.specs.Compared.{version_before, of_list, of_specifier, specifier_behind, specifier_before, versions_of, runs_of};
+ghost use Rattle.pep508_marker_comparison.specs.Compared.{version_before, of_list, of_specifier};
+ghost use Rattle.pep508_marker_comparison.specs.Compared.{specifier_behind, specifier_before, versions_of};
+ghost use Rattle.pep508_marker_comparison.specs.Compared.{runs_of};
 ghost use Rattle.pep508_marker_comparison.specs.Outcome.{IsCompared};
 
 use crate::notice::{Notice, leave_out, warn};

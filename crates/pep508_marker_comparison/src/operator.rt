@@ -2,7 +2,8 @@
 
 ghost use Rattle.std.specs.Prelude.{◌≡◌};
 ghost use Rattle.pep508_error.specs.Cursors.{IsBehind};
-ghost use Rattle.pep508_marker_comparison.specs.SideReading.{Malformed, operator_at, operator_in, behind_not, in_at, cut_before};
+ghost use Rattle.pep508_marker_comparison.specs.SideReading.{Malformed, operator_at, operator_in, behind_not};
+ghost use Rattle.pep508_marker_comparison.specs.SideReading.{in_at, cut_before};
 ghost use Rattle.pep508_marker_comparison.specs.Stops.{stops_at};
 ghost use Rattle.pep508_marker_comparison.specs.Outcome.{behind, Fits, IsOf, Reads, StaysIn};
 

@@ -3,7 +3,8 @@
 ghost use Rattle.std.specs.Prelude.{◌≡◌, IfErr};
 ghost use Rattle.std.specs.Str.{chars};
 ghost use Rattle.pep508_marker_comparison.specs.SideReading.{expression_at};
-ghost use Rattle.pep508_marker_comparison.specs.Outcome.{behind, IsOf, ReadsExpression, ReadsWhole, SaysExpression};
+ghost use Rattle.pep508_marker_comparison.specs.Outcome.{behind, IsOf, ReadsExpression, ReadsWhole};
+ghost use Rattle.pep508_marker_comparison.specs.Outcome.{SaysExpression};
 
 use crate::comparison::read_comparison;
 use crate::place::{malformed, refuse_rest};

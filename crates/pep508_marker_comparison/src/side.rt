@@ -3,7 +3,8 @@
 ghost use Rattle.std.specs.Prelude.{◌≡◌};
 ghost use Rattle.pep508_error.specs.Cursors.{IsBehind};
 ghost use Rattle.pep508_marker.specs.Values.{value_of};
-ghost use Rattle.pep508_marker_comparison.specs.SideReading.{side_at, quoted_at, key_at, cut_before, ends_key};
+ghost use Rattle.pep508_marker_comparison.specs.SideReading.{side_at, quoted_at, key_at, cut_before};
+ghost use Rattle.pep508_marker_comparison.specs.SideReading.{ends_key};
 ghost use Rattle.pep508_marker_comparison.specs.Outcome.{behind, Reads, StaysIn};
 
 use crate::place::{cut, malformed, refuse_between};

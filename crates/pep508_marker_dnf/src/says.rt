@@ -7,7 +7,8 @@ ghost use Rattle.pep508_diagram.specs.Text.{text_cmp};
 ghost use Rattle.pep508_marker.specs.Expression.{expression_of, String, Extra};
 ghost use Rattle.pep508_marker.specs.Values.{extra_of};
 ghost use Rattle.pep508_marker.specs.declared.operators.ExtraOperator.TheVariants as extras;
-ghost use Rattle.pep508_marker_text.specs.Terms.{key_of_variable, version_saying, text_saying, minor_between, is_minor_of};
+ghost use Rattle.pep508_marker_text.specs.Terms.{key_of_variable, version_saying, text_saying, minor_between};
+ghost use Rattle.pep508_marker_text.specs.Terms.{is_minor_of};
 ghost use Rattle.pep508_marker_text.specs.Terms.{set_term, unset_term, two_numbers};
 ghost use Rattle.pep508_marker_dnf.specs.Said.{said, star_said, text_operator};
 

@@ -5,9 +5,11 @@ ghost use Rattle.std.specs.Range.Bound.{bound_map};
 ghost use Rattle.pep508_marker.specs.Expression.{expression_of};
 ghost use Rattle.pep508_marker_print.specs.Terms.{clause_of, clauses_shown};
 ghost use Rattle.pep508_marker_text.specs.Groups.{points_where};
-ghost use Rattle.pep508_marker_text.specs.Saying.{single, lower_terms, upper_terms, interval_clause, set_clauses};
+ghost use Rattle.pep508_marker_text.specs.Saying.{single, lower_terms, upper_terms, interval_clause};
+ghost use Rattle.pep508_marker_text.specs.Saying.{set_clauses};
 ghost use Rattle.pep508_marker_dnf.specs.Said.{terms_shown};
-ghost use Rattle.pep508_marker_dnf.specs.Spans.{spans, value_between, differs_from, star_from, star_between, left_out_by};
+ghost use Rattle.pep508_marker_dnf.specs.Spans.{spans, value_between, differs_from, star_from, star_between};
+ghost use Rattle.pep508_marker_dnf.specs.Spans.{left_out_by};
 ghost use Rattle.pep508_marker_dnf.specs.Trees.{same_tree};
 
 use crate::intervals::{is_same, next_interval};

@@ -8,7 +8,8 @@ ghost use Rattle.pep508_marker_text.specs.Groups.{firsts, standing};
 ghost use Rattle.pep508_tree.specs.Meaning.{IsTree, Flagged};
 ghost use Rattle.pep508_tree.specs.Nodes.{turned};
 ghost use Rattle.pep508_tree.specs.Roots.{root_of};
-ghost use Rattle.pep508_marker_dnf.specs.Steps.{step_of, steps_shown, steps_to, turned_step, branch_steps, node_steps, root_steps};
+ghost use Rattle.pep508_marker_dnf.specs.Steps.{step_of, steps_shown, steps_to, turned_step, branch_steps};
+ghost use Rattle.pep508_marker_dnf.specs.Steps.{node_steps, root_steps};
 ghost use Rattle.pep508_marker_dnf.specs.Trees.{same_tree, with_tree};
 
 use crate::intervals::is_same;

@@ -6,7 +6,8 @@ ghost use Rattle.pep508_tree.specs.Meaning.{Extends};
 ghost use Rattle.pep508_marker_comparison.specs.SideReading.{TooDeep, begins_by};
 ghost use Rattle.pep508_marker_comparison.specs.Outcome.{behind, Fits, Tells, IsOf, StaysIn};
 ghost use Rattle.pep508_marker_read.specs.MarkerReading.{Marker, closed, part_of};
-ghost use Rattle.pep508_marker_read.specs.TreeReading.{connective, inner_at, enclosed_at, piece_at, chain_at, ReadsPart, ReadsPiece, StaysAt};
+ghost use Rattle.pep508_marker_read.specs.TreeReading.{connective, inner_at, enclosed_at, piece_at, chain_at};
+ghost use Rattle.pep508_marker_read.specs.TreeReading.{ReadsPart, ReadsPiece, StaysAt};
 
 use crate::compared::read_compared;
 use crate::join::{join_all, push_part};

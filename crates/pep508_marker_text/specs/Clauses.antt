@@ -21,8 +21,8 @@ pub record Part : Type 0 where
   pub diagram : Diagram Question
   pub clauses : List Clause
 
--- what a diagram's first variable leads to: from boundaries on, or where a flag is set and where it is not; of
--- a leaf there is none
+-- what a diagram's first variable leads to: from boundaries on, or where a flag is set and where it is not;
+-- of a leaf there is none
 pub data Edges : Type 0 where
   NoEdges : Edges
   Versions : VersionVariable → Part → List (Branch VersionRecord Part) → Edges

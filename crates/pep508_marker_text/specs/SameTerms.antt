@@ -11,7 +11,10 @@ use Rattle.pep440_operator.specs.declared.operator.Operator.{Operator}
 use Rattle.pep508_marker.specs.declared.operators.ExtraOperator.{ExtraOperator}
 use Rattle.pep508_marker.specs.declared.operators.ExtraOperator.TheVariants as extras
 use Rattle.pep508_marker.specs.declared.operators.MarkerOperator.{MarkerOperator}
-use Rattle.pep508_marker.specs.declared.operators.MarkerOperator.TheVariants.{Equal, NotEqual, GreaterThan, GreaterEqual, LessThan, LessEqual, TildeEqual, In, NotIn, Contains, NotContains}
+use Rattle.pep508_marker.specs.declared.operators.MarkerOperator.TheVariants.{Equal, NotEqual, GreaterThan}
+use Rattle.pep508_marker.specs.declared.operators.MarkerOperator.TheVariants.{GreaterEqual, LessThan}
+use Rattle.pep508_marker.specs.declared.operators.MarkerOperator.TheVariants.{LessEqual, TildeEqual, In}
+use Rattle.pep508_marker.specs.declared.operators.MarkerOperator.TheVariants.{NotIn, Contains, NotContains}
 use Rattle.pep508_marker.specs.Expression.{ExpressionRecord, Version, String, Extra}
 use Rattle.pep508_marker.specs.Keys.{version_key_rank, text_key_rank}
 use Rattle.pep508_marker.specs.Operators.{marker_negated, extra_negated}

@@ -14,7 +14,8 @@ use Rattle.pep508_marker.specs.declared.operators.ExtraOperator.TheVariants as e
 use Rattle.pep508_marker.specs.Expression.{ExpressionRecord, Version, String, Extra}
 use Rattle.pep508_marker.specs.Values.{Name, Arbitrary}
 use Rattle.pep508_diagram.specs.declared.variable.VersionVariable.{VersionVariable}
-use Rattle.pep508_diagram.specs.declared.variable.VersionVariable.TheVariants.{ImplementationVersion, PythonFullVersion}
+use Rattle.pep508_diagram.specs.declared.variable.VersionVariable.TheVariants.{ImplementationVersion}
+use Rattle.pep508_diagram.specs.declared.variable.VersionVariable.TheVariants.{PythonFullVersion}
 use Rattle.pep508_diagram.specs.declared.variable.Flag.{Flag}
 use Rattle.pep508_diagram.specs.declared.variable.Flag.TheVariants as flag
 use Rattle.pep508_diagram.specs.Text.{text_cmp}

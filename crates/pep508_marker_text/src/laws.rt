@@ -64,8 +64,8 @@ pub fn a_disjunction_means_its_diagram()
         one_holds (λ term. expression_holds term v) (disjunction diagram) ≡ truth diagram v }
 {}
 
-/// Diagrams that mean the same are the same, and print the same, where each version is in its shortest spelling,
-/// as in the diagrams of all trees.
+/// Diagrams that mean the same are the same, and print the same, where each version is in its shortest
+/// spelling, as in the diagrams of all trees.
 #[tactic(auto, using(crate::proofs::Spelled::one_spelling))]
 pub fn one_meaning_has_one_text()
     ensures diagram { (d e : Diagram Question) → IsCanonical d → IsCanonical e → HasShortVersions d →

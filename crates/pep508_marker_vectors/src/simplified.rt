@@ -51,7 +51,8 @@ fn made(
     }
 }
 
-/// Whether a marker, simplified to a range of versions of Python or held within one, is one tree with another.
+/// Whether a marker, simplified to a range of versions of Python or held within one, is one tree with
+/// another.
 pub fn within(
     alloc: Global,
     asked: &str,

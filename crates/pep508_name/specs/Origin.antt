@@ -1,8 +1,10 @@
 -- Where a requirement comes from, and its JSON value.
-use Rattle.std.specs.Prelude.{ℕ, if◌then◌else◌, List, codes, Option, Some, None, option_and_then, Result, Ok, Err}
+use Rattle.std.specs.Prelude.{ℕ, if◌then◌else◌, List, codes, Option, Some, None, option_and_then, Result, Ok}
+use Rattle.std.specs.Prelude.{Err}
 use Rattle.std.specs.Str.{bytes_eq}
 use Rattle.std.specs.String.{string_bytes}
-use Rattle.serde_json.specs.Data.{Data, null, boolean, number, string, array, object, Items, no_items, item, Members, no_members, member}
+use Rattle.serde_json.specs.Data.{Data, null, boolean, number, string, array, object, Items, no_items, item}
+use Rattle.serde_json.specs.Data.{Members, no_members, member}
 use Rattle.serde_json.specs.Find.{as_str, as_array}
 use Rattle.read_outcome.specs.declared.FromValueError.{FromValueError}
 use Rattle.read_outcome.specs.declared.FromValueError.TheVariants.{Shape, Text}

@@ -1,6 +1,7 @@
 //! Names in normal form: what the names of packages and of extras have in common.
 
-ghost use Rattle.std.specs.Prelude.{◌≡◌, ◌<◌, IsTrue, IfOk, IfSome, Some, Err, option_copied, false, length, map, encode_utf8_all, refl};
+ghost use Rattle.std.specs.Prelude.{◌≡◌, ◌<◌, IsTrue, IfOk, IfSome, Some, Err, option_copied, false, length};
+ghost use Rattle.std.specs.Prelude.{map, encode_utf8_all, refl};
 ghost use Rattle.std.specs.Option.{option_map_or};
 ghost use Rattle.std.specs.Cmp.{partial_equiv_from_equiv};
 ghost use Rattle.std.specs.Cmp.Lexicographic.{nat_list_eq_equiv, nat_list_cmp_total, texts_ties, texts_po};
@@ -10,7 +11,9 @@ ghost use Rattle.std.specs.List.{list_all};
 ghost use Rattle.std.specs.String.{string_bytes};
 ghost use Rattle.std.specs.Str.{chars};
 ghost use Rattle.read_outcome.specs.Outcome.{Answers};
-ghost use Rattle.pep508_name.specs.Name.{is_name, is_name_byte, is_alphanumeric, is_separator, normal_name, name_of, name_reading, told_name, dist_info_byte, name_eq, name_cmp, fed_name};
+ghost use Rattle.pep508_name.specs.Name.{is_name, is_name_byte, is_alphanumeric, is_separator, normal_name};
+ghost use Rattle.pep508_name.specs.Name.{name_of, name_reading, told_name, dist_info_byte, name_eq, name_cmp};
+ghost use Rattle.pep508_name.specs.Name.{fed_name};
 ghost use Rattle.pep508_name.specs.Hashing.{alike_names};
 
 use crate::InvalidNameError;

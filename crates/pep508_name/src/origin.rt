@@ -4,7 +4,8 @@ ghost use Rattle.std.specs.Prelude.{◌≡◌, IfOk, Option, option_map, option_
 ghost use Rattle.read_outcome.specs.Outcome.{Answers};
 ghost use Rattle.serde_json.specs.View.{view};
 ghost use Rattle.serde_json.specs.Find.{as_str, as_array, as_object};
-ghost use Rattle.pep508_name.specs.Origin.{origin_of, told_origin, sole_member, two_texts, file_reading, project_reading};
+ghost use Rattle.pep508_name.specs.Origin.{origin_of, told_origin, sole_member, two_texts, file_reading};
+ghost use Rattle.pep508_name.specs.Origin.{project_reading};
 
 use crate::{InvalidNameError, PackageName};
 use read_outcome::FromValueError;
@@ -23,7 +24,8 @@ pub enum RequirementOrigin {
 }
 
 impl RequirementOrigin {
-    ghost use Rattle.pep508_name.specs.Origin.{origin_of, origin_path, origin_value, origin_reading, told_origin};
+    ghost use Rattle.pep508_name.specs.Origin.{origin_of, origin_path, origin_value, origin_reading};
+    ghost use Rattle.pep508_name.specs.Origin.{told_origin};
 
     /// The path; `(workspace)` for a workspace.
     pub fn path(&self) -> &str

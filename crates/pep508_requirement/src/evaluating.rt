@@ -46,8 +46,8 @@ impl<T: Pep508Url> Requirement<T> {
             .evaluate_extras_and_python_version(interner, extras, python_versions)
     }
 
-    /// `evaluate_markers`, and the warnings of the evaluation in their order. Takes memory for them, and costs
-    /// what `MarkerTree::evaluate_collect_warnings` does.
+    /// `evaluate_markers`, and the warnings of the evaluation in their order. Takes memory for them, and
+    /// costs what `MarkerTree::evaluate_collect_warnings` does.
     pub fn evaluate_markers_and_report(
         &self,
         alloc: Global,
@@ -83,8 +83,8 @@ impl<Url: UnnamedRequirementUrl> UnnamedRequirement<Url> {
         self.marker.evaluate(interner, environment, extras)
     }
 
-    /// The same where there is an environment, and else whether some environment has the requirement meant with
-    /// just these extras. Takes no memory.
+    /// The same where there is an environment, and else whether some environment has the requirement meant
+    /// with just these extras. Takes no memory.
     pub fn evaluate_optional_environment(
         &self,
         interner: &Interner,

@@ -13,7 +13,8 @@ ghost use Rattle.pep508_requirement.specs.MarkerBehind.{marker_behind};
 ghost use Rattle.pep508_requirement.specs.RequirementText.{IsMarkedText, IsUnnamedMarkedText, IsOfText};
 ghost use Rattle.pep508_requirement.specs.RequirementReading.{AsksFor, IsRead, RefusedBy};
 ghost use Rattle.pep508_requirement.specs.UnnamedUrls.{ReadsUnnamed};
-ghost use Rattle.pep508_requirement.specs.UnnamedRequirementReading.{ReadsGiven, IsUnnamedRead, UnnamedRefusedBy};
+ghost use Rattle.pep508_requirement.specs.UnnamedRequirementReading.{ReadsGiven, IsUnnamedRead};
+ghost use Rattle.pep508_requirement.specs.UnnamedRequirementReading.{UnnamedRefusedBy};
 
 use pep508_marker_read::laws::{a_read_marker_is_written, a_written_marker_is_read};
 use pep508_requirement_text::laws::{

@@ -24,10 +24,10 @@ use pep508_url::{UnnamedRequirementUrl, Vars, expand_env_vars};
 use std::alloc::Global;
 
 impl<Url: UnnamedRequirementUrl> UnnamedRequirement<Url> {
-    /// Reads a requirement without a name, as `https://example.org/pip.whl` or `./pip[dev] ; os_name == 'nt'`:
-    /// a URL or a path, extras at its end, and a marker. A relative path stands in the absolute directory,
-    /// where there is one. The URL is given as its text, with variables' names in place of their values,
-    /// without the extras. The marker and its warnings are those of `Requirement::parse_reporter`.
+    /// Reads a requirement without a name, as `https://example.org/pip.whl` or `./pip[dev] ; os_name ==
+    /// 'nt'`: a URL or a path, extras at its end, and a marker. A relative path stands in the absolute
+    /// directory, where there is one. The URL is given as its text, with variables' names in place of their
+    /// values, without the extras. The marker and its warnings are those of `Requirement::parse_reporter`.
     ///
     /// A text whose URL is none is refused as `UrlError`, one whose marker has a version number that can't be
     /// raised as `NumberAtEnd`, and any other that is no such requirement as `String`. What is wrong with the

@@ -17,8 +17,8 @@ use Rattle.pep508_requirement_ref.specs.declared.unnamed_ref.UnnamedRequirementR
 use Rattle.pep508_requirement_ref.specs.RequirementPrint.{requirement_text, unnamed_text}
 
 -- the view shows the requirement, whose marker is a tree of these nodes
-pub record IsViewOf {T E : Type 0} (nodes : List NodeRecord) (r : Requirement T E) (shown : RequirementRef T E)
-    : Type 0 where
+pub record IsViewOf {T E : Type 0} (nodes : List NodeRecord) (r : Requirement T E)
+    (shown : RequirementRef T E) : Type 0 where
   pub name : shown.name.now ≡ r.name
   pub extras : shown.extras.now ≡ r.extras.items
   pub version_or_url : shown.version_or_url.now ≡ r.version_or_url
@@ -56,7 +56,8 @@ abbrev pub printed_unnamed : {T E : Type 0} → (T → Option (List ℕ)) → Un
 printed_unnamed output shown =
     option_map (λ url. unnamed_text url shown.extras.now (marker_text_in shown.marker)) (output shown.url.now)
 
--- they have the same name, extras and specifiers or URL, and markers of one meaning; origins are not looked at
+-- they have the same name, extras and specifiers or URL, and markers of one meaning; origins are not looked
+-- at
 pub record SayTheSame {T E : Type 0} (a b : RequirementRef T E) : Type 0 where
   pub name : a.name.now ≡ b.name.now
   pub extras : a.extras.now ≡ b.extras.now

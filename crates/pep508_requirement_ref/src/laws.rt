@@ -13,7 +13,8 @@ pub fn the_order_is_by_parts<'a, T: Pep508Url + Ord>(
     left: &RequirementRef<'a, T>,
     right: &RequirementRef<'a, T>,
 )
-    ensures { ⟦<RequirementRef<'a, T> as Ord>⟧.cmp left.now right.now ≡ requirement_cmp T.cmp left.now right.now }
+    ensures { ⟦<RequirementRef<'a, T> as Ord>⟧.cmp left.now right.now
+        ≡ requirement_cmp T.cmp left.now right.now }
 {}
 
 /// Requirements of any two interners that say the same print the same.

@@ -2,7 +2,8 @@
 
 ghost use Rattle.std.specs.Prelude.{Some, ◌++◌, option_map};
 ghost use Rattle.std.specs.List.{flat_map};
-ghost use Rattle.pep508_requirement_ref.specs.RequirementPrint.{behind_comma, extras_text, marker_part, source_text};
+ghost use Rattle.pep508_requirement_ref.specs.RequirementPrint.{behind_comma, extras_text, marker_part};
+ghost use Rattle.pep508_requirement_ref.specs.RequirementPrint.{source_text};
 ghost use Rattle.pep508_requirement_ref.specs.Views.{marker_text_in, source_of};
 
 use pep508_name::ExtraName;

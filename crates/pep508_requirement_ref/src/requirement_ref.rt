@@ -24,9 +24,9 @@ use std::fmt;
 /// of other interners (PEP 508).
 ///
 /// Two of them compare by their fields in order, the marker by what it means and not by its place in an
-/// interner; comparing takes no memory. It prints as `requests[security]>=2.8.1,<3 ; os_name == 'nt'`, a URL
-/// behind ` @ `, and a marker only where it doesn't always hold. The marker's text is made while it is printed,
-/// and where memory for it is refused, printing fails with `fmt::Error`.
+/// interner; comparing takes no memory. It prints as `requests[security]>=2.8.1,<3 ; os_name == 'nt'`, a
+/// URL behind ` @ `, and a marker only where it doesn't always hold. The marker's text is made while it is
+/// printed, and where memory for it is refused, printing fails with `fmt::Error`.
 #[derive(PartialEq, Eq, PartialOrd, Ord, Drop)]
 pub struct RequirementRef<'a, T: Pep508Url = VerbatimUrl> {
     name: &'a PackageName,
@@ -37,8 +37,8 @@ pub struct RequirementRef<'a, T: Pep508Url = VerbatimUrl> {
 }
 
 impl<'a, T: Pep508Url> RequirementRef<'a, T> {
-    /// A requirement with its interner, and what gives memory for the marker's text where it is printed. Takes
-    /// none.
+    /// A requirement with its interner, and what gives memory for the marker's text where it is printed.
+    /// Takes none.
     pub fn new(
         alloc: Global,
         interner: &'a Interner,
@@ -56,7 +56,8 @@ impl<'a, T: Pep508Url> RequirementRef<'a, T> {
         }
     }
 
-    /// No question is asked in vain in the marker, and each version is in its shortest spelling. Does nothing.
+    /// No question is asked in vain in the marker, and each version is in its shortest spelling. Does
+    /// nothing.
     pub fn is_canonical(&self)
         ensures canonical { IsCanonical (diagram_in (tree_in self.now.marker)) }
         ensures short { HasShortVersions (diagram_in (tree_in self.now.marker)) }

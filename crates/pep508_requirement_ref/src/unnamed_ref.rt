@@ -18,9 +18,9 @@ use std::fmt;
 
 /// A requirement without a name with the interner that it was read with, so that it can be printed.
 ///
-/// It prints as `https://example.org/pip.whl[extra] ; os_name == 'nt'`, the URL and not the text that it was
-/// given as, and a marker only where it doesn't always hold. The marker's text is made while it is printed, and
-/// where memory for it is refused, printing fails with `fmt::Error`.
+/// It prints as `https://example.org/pip.whl[extra] ; os_name == 'nt'`, the URL and not the text that it
+/// was given as, and a marker only where it doesn't always hold. The marker's text is made while it is
+/// printed, and where memory for it is refused, printing fails with `fmt::Error`.
 #[derive(Drop)]
 pub struct UnnamedRequirementRef<'a, Url: UnnamedRequirementUrl = VerbatimUrl> {
     url: &'a Url,
@@ -29,8 +29,8 @@ pub struct UnnamedRequirementRef<'a, Url: UnnamedRequirementUrl = VerbatimUrl> {
 }
 
 impl<'a, Url: UnnamedRequirementUrl> UnnamedRequirementRef<'a, Url> {
-    /// A requirement with its interner, and what gives memory for the marker's text where it is printed. Takes
-    /// none.
+    /// A requirement with its interner, and what gives memory for the marker's text where it is printed.
+    /// Takes none.
     pub fn new(
         alloc: Global,
         interner: &'a Interner,

@@ -7,7 +7,8 @@ ghost use Rattle.pep508_error.specs.Cursors.{IsBehind};
 ghost use Rattle.pep508_requirement_text.specs.FrontReading.{specifiers_of_text, cut_before, listed};
 ghost use Rattle.pep508_url.specs.Vars.{Variables};
 ghost use Rattle.pep508_requirement_text.specs.FrontFound.{ReadsAs, IsSource, IsUrlIn, enclosed_at};
-ghost use Rattle.pep508_requirement_text.specs.FrontOutcome.{behind, IsAt, ReadsSpecifiers, StaysIn, IsPlain, IsOf};
+ghost use Rattle.pep508_requirement_text.specs.FrontOutcome.{behind, IsAt, ReadsSpecifiers, StaysIn, IsPlain};
+ghost use Rattle.pep508_requirement_text.specs.FrontOutcome.{IsOf};
 
 use crate::message::plain;
 use crate::place::{cut_around, cut_before, pass, refuse_none};

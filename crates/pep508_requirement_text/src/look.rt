@@ -4,7 +4,8 @@ ghost use Rattle.std.specs.Prelude.{◌≡◌, ◌↔◌, IsTrue, IfOk, is_some,
 ghost use Rattle.std.specs.List.{list_any};
 ghost use Rattle.std.specs.Option.{option_map_or};
 ghost use Rattle.pep508_url.specs.Schemes.{scheme_split};
-ghost use Rattle.pep508_requirement_text.specs.Unnamed.{is_slash, begins_with_dot, looks_like_url, IsBeforeExtras, LooksUnnamed};
+ghost use Rattle.pep508_requirement_text.specs.Unnamed.{is_slash, begins_with_dot, looks_like_url};
+ghost use Rattle.pep508_requirement_text.specs.Unnamed.{IsBeforeExtras, LooksUnnamed};
 
 use crate::archive::is_archive;
 use pep508_url::{Vars, expand_env_vars, split_extras, split_scheme};

@@ -1,9 +1,11 @@
 //! Where a URL ends in a requirement's text.
 
-ghost use Rattle.std.specs.Prelude.{◌≡◌, ◌+◌, ◌^◌, ◌<◌, ◌==◌, ◌&&◌, ◌++◌, [], true, false, length, MatchOption};
+ghost use Rattle.std.specs.Prelude.{◌≡◌, ◌+◌, ◌^◌, ◌<◌, ◌==◌, ◌&&◌, ◌++◌, [], true, false, length};
+ghost use Rattle.std.specs.Prelude.{MatchOption};
 ghost use Rattle.std.specs.Char.{is_whitespace};
 ghost use Rattle.std.specs.Str.{chars};
-ghost use Rattle.pep508_requirement_text.specs.UrlEnds.{url_split, depth_behind, is_line_break, is_mark, is_over, begins_with, ends_behind};
+ghost use Rattle.pep508_requirement_text.specs.UrlEnds.{url_split, depth_behind, is_line_break, is_mark};
+ghost use Rattle.pep508_requirement_text.specs.UrlEnds.{is_over, begins_with, ends_behind};
 ghost use Rattle.pep508_requirement_text.specs.UrlTurns.{BeginsWith, AreBlanks, EndsAt, IsTurn};
 
 /// What reading one character, or a run of white space, of a URL leads to.

@@ -9,7 +9,8 @@ use Rattle.pep440_rs.specs.Record.{VersionRecord}
 use Rattle.pep440_rs.specs.Order.{version_cmp}
 use Rattle.pep440_rs.specs.Ranges.{PointTest}
 use Rattle.pep508_diagram.specs.declared.branch.Branch.{Branch}
-use Rattle.pep508_diagram.specs.declared.variable.VersionVariable.TheVariants.{ImplementationVersion, PythonFullVersion}
+use Rattle.pep508_diagram.specs.declared.variable.VersionVariable.TheVariants.{ImplementationVersion}
+use Rattle.pep508_diagram.specs.declared.variable.VersionVariable.TheVariants.{PythonFullVersion}
 use Rattle.pep508_diagram.specs.Branches.{branch_at}
 use Rattle.pep508_diagram.specs.Question.{version_rank}
 use Rattle.pep508_tree.specs.Tree.{Tree}

@@ -40,6 +40,7 @@ is_root_named says (Some (Texts key first later)) = false
 is_root_named says (Some (Flagged flag set unset)) = is_named says flag
 
 -- the tree of a node with other trees in it, in turn; a constant stays as it is
-abbrev pub IsRejoined : List NodeRecord → List NodeRecord → Tree → Option NodeRecord → List Tree → Tree → Type 0
+abbrev pub IsRejoined : List NodeRecord → List NodeRecord → Tree → Option NodeRecord → List Tree → Tree
+    → Type 0
 IsRejoined old new tree node trees made =
     MatchOption node (made ≡ tree) (λ n. Made old new (node_joined n trees) made)

@@ -10,7 +10,8 @@ use Rattle.pep440_rs.specs.Record.{VersionRecord}
 use Rattle.pep440_rs.specs.Order.{version_cmp}
 use Rattle.pep440_rs.specs.Ranges.{PointTest}
 use Rattle.pep508_name.specs.Name.{name_eq}
-use Rattle.pep508_diagram.specs.declared.variable.VersionVariable.TheVariants.{ImplementationVersion, PythonFullVersion}
+use Rattle.pep508_diagram.specs.declared.variable.VersionVariable.TheVariants.{ImplementationVersion}
+use Rattle.pep508_diagram.specs.declared.variable.VersionVariable.TheVariants.{PythonFullVersion}
 use Rattle.pep508_diagram.specs.declared.variable.Flag.{Flag}
 use Rattle.pep508_diagram.specs.declared.variable.Flag.TheVariants.{In, Contains, Extra, Arbitrary}
 use Rattle.pep508_diagram.specs.Question.{Valuation, with_version}

@@ -46,8 +46,8 @@ fn is_root_named<F: Fn(&ExtraName) -> bool>(root: &Root, predicate: &F) -> bool
     }
 }
 
-/// A copy of what stands at a tree's root, a flag with the same on both sides where its extra is named. It stands in
-/// memory of its own, so that a recursion over trees keeps little on the stack.
+/// A copy of what stands at a tree's root, a flag with the same on both sides where its extra is named. It
+/// stands in memory of its own, so that a recursion over trees keeps little on the stack.
 #[inline(never)]
 fn named_root<F: Fn(&ExtraName) -> bool>(
     alloc: Global,

@@ -43,10 +43,11 @@ pub trait MarkerTreeSimplification: Sized {
         ensures keeps { Extends interner.old.nodes interner.new.nodes }
         ensures counts { interner.new.conjunctions ≡ interner.old.conjunctions };
 
-    /// The tree that says the same where `python_full_version` lies between the bounds, and asks of it no more
-    /// than that takes: below them it says what it says where they begin, above them what it says from some
-    /// point on up to their end. Where no point lies between them, what depends on `python_full_version`
-    /// becomes false. Compares each boundary of a version of Python with both bounds, and copies what is kept.
+    /// The tree that says the same where `python_full_version` lies between the bounds, and asks of it no
+    /// more than that takes: below them it says what it says where they begin, above them what it says from
+    /// some point on up to their end. Where no point lies between them, what depends on
+    /// `python_full_version` becomes false. Compares each boundary of a version of Python with both bounds,
+    /// and copies what is kept.
     fn simplify_python_versions(
         self,
         alloc: Global,

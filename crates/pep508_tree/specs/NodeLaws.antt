@@ -4,7 +4,8 @@ use Rattle.std.specs.Cmp.Lexicographic.{lists_total, nat_list_cmp_total}
 use Rattle.std.specs.declared.cmp.Ordering.{Ordering}
 use Rattle.version_ranges.specs.OrderLaws.{boundaries_total}
 use Rattle.pep440_version.specs.OrderLaws.{version_cmp_total}
-use Rattle.pep508_tree.specs.Nodes.{tree_cmp, branch_cmp, node_cmp, node_place, version_branches, text_branches, first_child, second_child}
+use Rattle.pep508_tree.specs.Nodes.{tree_cmp, branch_cmp, node_cmp, node_place, version_branches}
+use Rattle.pep508_tree.specs.Nodes.{text_branches, first_child, second_child}
 
 pub trees_total : IsTotalOrder tree_cmp
 trees_total = then_total (on_total (λ tree. tree.place) nat_cmp_total)

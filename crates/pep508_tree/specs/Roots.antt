@@ -5,7 +5,8 @@ use Rattle.pep508_tree.specs.declared.root.TreeNode.{TreeNode}
 use Rattle.pep508_tree.specs.declared.root.TreeNode.TheVariants as lent
 use Rattle.pep508_tree.specs.Tree.{Tree}
 use Rattle.pep508_tree.specs.Meaning.{NodeRecord, Versions, Texts, Flagged, holds, IsTree}
-use Rattle.pep508_tree.specs.Nodes.{AllChildren, IsRising, ChildrenDiffer, HasBoundary, Above, chosen, node_at, node_place, first_place, signed}
+use Rattle.pep508_tree.specs.Nodes.{AllChildren, IsRising, ChildrenDiffer, HasBoundary, Above, chosen}
+use Rattle.pep508_tree.specs.Nodes.{node_at, node_place, first_place, signed}
 
 -- the node at the tree's place, with the tree's sign put on its children; a constant has none
 abbrev pub root_of : List NodeRecord → Tree → Option NodeRecord

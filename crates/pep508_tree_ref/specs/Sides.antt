@@ -1,11 +1,12 @@
--- What stands at the root of a tree, edge by edge: the question that ends the edge, which the last one has not,
--- and what the edge leads to.
+-- What stands at the root of a tree, edge by edge: the question that ends the edge, which the last one has
+-- not, and what the edge leads to.
 use Rattle.std.specs.Prelude.{ℕ, List, [], ◌∷◌, map, Option, Some, None}
 use Rattle.std.specs.Ordering.{ordering_then}
 use Rattle.std.specs.declared.cmp.Ordering.{Ordering}
 use Rattle.std.specs.declared.cmp.Ordering.TheVariants.{Less, Equal, Greater}
 use Rattle.pep508_diagram.specs.Diagram.{Diagram}
-use Rattle.pep508_diagram.specs.Question.{Question, VersionBelow, TextBelow, IsSet, question_cmp, version_rank, text_rank, flag_rank, flag_text}
+use Rattle.pep508_diagram.specs.Question.{Question, VersionBelow, TextBelow, IsSet, question_cmp}
+use Rattle.pep508_diagram.specs.Question.{version_rank, text_rank, flag_rank, flag_text}
 use Rattle.pep508_evaluation.specs.Steps.{children_of}
 use Rattle.pep508_tree.specs.Meaning.{NodeOf, NodeRecord, Versions, Texts, Flagged, diagram_of}
 use Rattle.pep508_tree.specs.Roots.{root_of}

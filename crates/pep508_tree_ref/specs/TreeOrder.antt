@@ -1,6 +1,6 @@
--- The order of diagrams of markers: by kind, those that always hold and those that never do before all others;
--- then by the first variable; then edge by edge, each by where it ends and then by what it leads to. No place
--- in an interner is in it.
+-- The order of diagrams of markers: by kind, those that always hold and those that never do before all
+-- others; then by the first variable; then edge by edge, each by where it ends and then by what it leads
+-- to. No place in an interner is in it.
 use Rattle.std.specs.Prelude.{Bool, true, not}
 use Rattle.std.specs.declared.cmp.Ordering.{Ordering}
 use Rattle.std.specs.declared.cmp.Ordering.TheVariants.{Less, Greater}
@@ -13,8 +13,8 @@ abbrev pub is_last : Question → Diagram Question → Bool
 is_last q (Leaf b) = true
 is_last q (Test r low high) = not (shares_variable q r)
 
--- A question stands at the end of an edge, and what follows a yes is what the edge leads to; what follows a no
--- are the edges behind it. An edge that ends comes before one without an end.
+-- A question stands at the end of an edge, and what follows a yes is what the edge leads to; what follows a
+-- no are the edges behind it. An edge that ends comes before one without an end.
 abbrev pub diagram_cmp : Diagram Question → Diagram Question → Ordering
 diagram_cmp (Leaf b) (Leaf c) = bool_cmp (not b) (not c)
 diagram_cmp (Leaf b) (Test r low high) = Less

@@ -1,5 +1,6 @@
 -- The order of diagrams is total: it is that of lists of tokens.
-use Rattle.std.proofs.Common.{◌≡◌, Bool, false, not, List, [], ◌∷◌, ◌++◌, refl, sym, ap, ap₂, subst, ◌∙◌, append_assoc, append-nil, Ordering, Less, Equal, Greater}
+use Rattle.std.proofs.Common.{◌≡◌, Bool, false, not, List, [], ◌∷◌, ◌++◌, refl, sym, ap, ap₂, subst, ◌∙◌}
+use Rattle.std.proofs.Common.{append_assoc, append-nil, Ordering, Less, Equal, Greater}
 use Rattle.std.specs.Ordering.{bool_cmp, ordering_then, then_cmp, on}
 use Rattle.std.specs.Cmp.{IsTotalOrder, then_total, on_total, bool_cmp_total}
 use Rattle.std.specs.Cmp.Lexicographic.{slice_cmp, lists_total}
@@ -49,7 +50,8 @@ by_tokens (Test q l h) (Test r m k) xs ys =
     let last = bool_cmp (is_last q h) (is_last r k) in
     let end : Token = record { question = []; flag = is_last q h } in
     let other_end : Token = record { question = []; flag = is_last r k } in
-    ap₂ (λ us vs. ordering_then (ordering_then (ordering_then (question_cmp q r) Equal) Equal) (slice_cmp token_cmp us vs))
+    ap₂ (λ us vs. ordering_then (ordering_then (ordering_then (question_cmp q r) Equal) Equal)
+    (slice_cmp token_cmp us vs))
     (append_assoc (tokens l) (end ∷ tokens h) xs) (append_assoc (tokens m) (other_end ∷ tokens k) ys)
     ∙ ap₂ ordering_then (then_equal (ordering_then (question_cmp q r) Equal) ∙ then_equal (question_cmp q r))
     (by_tokens l m (end ∷ (tokens h ++ xs)) (other_end ∷ (tokens k ++ ys))

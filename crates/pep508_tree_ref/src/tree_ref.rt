@@ -9,17 +9,17 @@ use std::alloc::{AllocError, Global};
 use std::cmp::Ordering;
 use std::fmt;
 
-/// A marker tree with the interner that it was made with, so that trees of different interners can be compared
-/// and printed (PEP 508, "Environment Markers"). Contracts see it by `tree_in`, as the tree with the interner's
-/// nodes.
+/// A marker tree with the interner that it was made with, so that trees of different interners can be
+/// compared and printed (PEP 508, "Environment Markers"). Contracts see it by `tree_in`, as the tree with
+/// the interner's nodes.
 ///
 /// Two of them are equal exactly where their trees mean the same (`laws::equal_trees_mean_the_same`). A
-/// comparison takes no memory and ends at the first difference; trees that are equal are walked along each path
-/// from the root, of which there can be many more than nodes. Trees of one interner are compared in constant time
-/// by the `==` of `MarkerTree`.
+/// comparison takes no memory and ends at the first difference; trees that are equal are walked along each
+/// path from the root, of which there can be many more than nodes. Trees of one interner are compared in
+/// constant time by the `==` of `MarkerTree`.
 ///
-/// It prints as the tree's text, `true` where the tree always holds. The text is made while it is printed, and
-/// where memory for it is refused, printing fails with `fmt::Error`.
+/// It prints as the tree's text, `true` where the tree always holds. The text is made while it is printed,
+/// and where memory for it is refused, printing fails with `fmt::Error`.
 #[derive(Clone, Copy)]
 pub struct MarkerTreeRef<'a> {
     alloc: Global,
@@ -50,8 +50,8 @@ impl<'a> MarkerTreeRef<'a> {
         }
     }
 
-    /// The text of the tree, made by the allocator of `new`; none where the tree always holds. Takes memory as
-    /// `MarkerTreeText::try_to_string`.
+    /// The text of the tree, made by the allocator of `new`; none where the tree always holds. Takes memory
+    /// as `MarkerTreeText::try_to_string`.
     pub fn try_to_string(&self) -> Result<Option<String>, AllocError>
         ensures { IfOk result (λ text.
             option_map string_bytes text ≡ marker_text (diagram_in (tree_in self.now))) }

@@ -1,5 +1,6 @@
 -- Cuts of a text, and where a path begins.
-use Rattle.std.specs.Prelude.{ℕ, ◌==◌, nat_lt, eqb, Bool, if◌then◌else◌, List, length, slice_index, drop, Option, Some, None}
+use Rattle.std.specs.Prelude.{ℕ, ◌==◌, nat_lt, eqb, Bool, if◌then◌else◌, List, length, slice_index, drop}
+use Rattle.std.specs.Prelude.{Option, Some, None}
 use Rattle.std.specs.List.{starts_with, position_or_len, before_first, after_first}
 
 -- what follows a word, where it stands at the front

@@ -1,5 +1,6 @@
 -- Schemes of URLs: the text before the first `:` (RFC 3986, section 3.1).
-use Rattle.std.specs.Prelude.{ℕ, ◌==◌, ◌&&◌, ◌||◌, Bool, if◌then◌else◌, List, slice_index, codes, bytes_eq, find, Option, Some, None, option_and_then}
+use Rattle.std.specs.Prelude.{ℕ, ◌==◌, ◌&&◌, ◌||◌, Bool, if◌then◌else◌, List, slice_index, codes, bytes_eq}
+use Rattle.std.specs.Prelude.{find, Option, Some, None, option_and_then}
 use Rattle.std.specs.List.{list_all}
 use Rattle.std.specs.Char.{is_ascii_alphabetic, is_ascii_alphanumeric}
 use Rattle.url.specs.Input.{trim_c0_control_and_space}

@@ -1,5 +1,6 @@
 -- The host before a path of a `file` URL, and the extras behind a URL.
-use Rattle.std.specs.Prelude.{◌≡◌, ℕ, ◌<◌, ◌==◌, ◌||◌, Bool, true, false, if◌then◌else◌, List, [], ◌∷◌, ◌++◌, length, slice_index, All, codes, Option, Some, None, unwrap_or, option_and_then}
+use Rattle.std.specs.Prelude.{◌≡◌, ℕ, ◌<◌, ◌==◌, ◌||◌, Bool, true, false, if◌then◌else◌, List, [], ◌∷◌, ◌++◌}
+use Rattle.std.specs.Prelude.{length, slice_index, All, codes, Option, Some, None, unwrap_or, option_and_then}
 use Rattle.pep508_url.specs.Cuts.{behind, is_absolute}
 
 abbrev pub if_absolute : List ℕ → Option (List ℕ)

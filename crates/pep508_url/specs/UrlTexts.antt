@@ -1,5 +1,6 @@
 -- Which text is which URL. What the crate `url` reads, it reads by the URL Standard.
-use Rattle.std.specs.Prelude.{ℕ, ◌==◌, ◌||◌, ◌&&◌, not, Bool, if◌then◌else◌, List, ◌∷◌, [], ◌++◌, codes, bytes_eq, flat_map, Option, Some, None, Result, Ok, Err}
+use Rattle.std.specs.Prelude.{ℕ, ◌==◌, ◌||◌, ◌&&◌, not, Bool, if◌then◌else◌, List, ◌∷◌, [], ◌++◌, codes}
+use Rattle.std.specs.Prelude.{bytes_eq, flat_map, Option, Some, None, Result, Ok, Err}
 use Rattle.std.specs.declared.cmp.Ordering.{Ordering}
 use Rattle.std.specs.Ordering.{nat_cmp}
 use Rattle.std.specs.Cmp.Lexicographic.{slice_cmp}

@@ -1,5 +1,6 @@
 -- The variables that a text may name.
-use Rattle.std.specs.Prelude.{◌≡◌, ℕ, true, if◌then◌else◌, List, [], ◌∷◌, codes, bytes_eq, String, string_bytes, Option, Some, None}
+use Rattle.std.specs.Prelude.{◌≡◌, ℕ, true, if◌then◌else◌, List, [], ◌∷◌, codes, bytes_eq, String}
+use Rattle.std.specs.Prelude.{string_bytes, Option, Some, None}
 use Rattle.std.specs.Option.{option_or}
 use Rattle.pep508_url.specs.Cuts.{is_absolute}
 

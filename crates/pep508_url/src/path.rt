@@ -4,7 +4,8 @@ ghost use Rattle.std.specs.Prelude.{◌≡◌, ◌==◌, ◌++◌, map, IfOk, op
 ghost use Rattle.std.specs.Cow.{cow_str_bytes};
 ghost use Rattle.std.specs.List.{slice_split, join_with_byte};
 ghost use Rattle.read_outcome.specs.Outcome.{Answers};
-ghost use Rattle.pep508_url.specs.Paths.{normal_parts, normal_reading, changes_nothing, utf8_decoded, decoded, joined, root_of, absolute_reading};
+ghost use Rattle.pep508_url.specs.Paths.{normal_parts, normal_reading, changes_nothing, utf8_decoded};
+ghost use Rattle.pep508_url.specs.Paths.{decoded, joined, root_of, absolute_reading};
 ghost use Rattle.pep508_url.specs.UrlFaults.{told_url};
 
 use crate::VerbatimUrlError;

@@ -3,7 +3,9 @@
 ghost use Rattle.std.specs.Prelude.{◌≡◌, ◌++◌, IfOk, OnOk, option_copied, option_map, string_bytes};
 ghost use Rattle.read_outcome.specs.Outcome.{Answers};
 ghost use Rattle.pep508_url.specs.UrlFaults.{told_url, error_of};
-ghost use Rattle.pep508_url.specs.UrlTexts.{text_reading, file_text, with_fragment, file_reading, path_reading, url_reading, path_of, local_path, is_local_file, path_byte, is_path_byte};
+ghost use Rattle.pep508_url.specs.UrlTexts.{text_reading, file_text, with_fragment, file_reading};
+ghost use Rattle.pep508_url.specs.UrlTexts.{path_reading, url_reading, path_of, local_path, is_local_file};
+ghost use Rattle.pep508_url.specs.UrlTexts.{path_byte, is_path_byte};
 
 use crate::cuts::cut;
 use crate::path::{absolute_path, normalize_absolute_path, normalize_url_path, utf8_decoded};

@@ -1,6 +1,7 @@
 //! What a requirement asks of its type of URLs.
 
-ghost use Rattle.std.specs.Prelude.{◌≡◌, IfSome, Bool, List, ℕ, Option, Some, None, Result, option_copied, string_bytes};
+ghost use Rattle.std.specs.Prelude.{◌≡◌, IfSome, Bool, List, ℕ, Option, Some, None, Result, option_copied};
+ghost use Rattle.std.specs.Prelude.{string_bytes};
 ghost use Rattle.read_outcome.specs.Outcome.{Answers};
 ghost use Rattle.url.specs.Parser.{Gives, parse_url};
 ghost use Rattle.pep508_url.specs.Lacking as lacking;

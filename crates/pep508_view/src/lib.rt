@@ -1,6 +1,7 @@
 //! Views of marker trees (PEP 508, "Environment Markers"), which are read one variable at a time:
-//! `MarkerTreeView::kind` tells the variable, and a view leads from each of its edges, an interval of versions or
-//! texts or one of two truths, to a subtree. Contracts see a view as the node at the tree's root.
+//! `MarkerTreeView::kind` tells the variable, and a view leads from each of its edges, an interval of
+//! versions or texts or one of two truths, to a subtree. Contracts see a view as the node at the tree's
+//! root.
 #![tactic(auto)]
 
 mod contains_view;

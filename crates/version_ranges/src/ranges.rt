@@ -1,5 +1,6 @@
 //! Sets of intervals: makers, questions and combinations.
-ghost use Rattle.std.specs.Prelude.{◌≡◌, true, false, not, ◌&&◌, ◌||◌, ◌↔◌, [], ◌∷◌, IfOk, IsTrue, MatchOption, map};
+ghost use Rattle.std.specs.Prelude.{◌≡◌, true, false, not, ◌&&◌, ◌||◌, ◌↔◌, [], ◌∷◌, IfOk, IsTrue};
+ghost use Rattle.std.specs.Prelude.{MatchOption, map};
 ghost use Rattle.std.specs.Option.{option_map};
 ghost use Rattle.std.specs.Cmp.Lexicographic.{slice_cmp};
 ghost use Rattle.std.specs.Range.Bound.{bound_map};
@@ -8,7 +9,8 @@ ghost use Rattle.std.specs.declared.ops.Bound.TheVariants.{Included, Excluded, U
 ghost use Rattle.version_ranges.specs.Point.{Point, At};
 ghost use Rattle.version_ranges.specs.Turns.{Rising};
 ghost use Rattle.version_ranges.specs.Held.{holds_at, HoldSamePoints, HoldsOnly, IsNormal};
-ghost use Rattle.version_ranges.specs.Bounds.{starts_by, goes_on_to, is_within, single_value, intervals, last_upper, hull, lent_bounds};
+ghost use Rattle.version_ranges.specs.Bounds.{starts_by, goes_on_to, is_within, single_value, intervals};
+ghost use Rattle.version_ranges.specs.Bounds.{last_upper, hull, lent_bounds};
 ghost use Rattle.version_ranges.specs.Boundaries.{point_of, boundary_cmp, turns_of};
 
 use crate::boundary::Boundary;
