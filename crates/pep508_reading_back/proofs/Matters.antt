@@ -1,11 +1,12 @@
 -- A canonical diagram whose truth some questions settle asks none but these.
-use Rattle.std.proofs.Common.{◌≡◌, Bool, true, false, ◌&&◌, cond, List, [], ◌∷◌, ◌⊎◌, inl, inr, refl, sym, ap, ◌∙◌, true≢false, Ordering, Less, Equal, Greater, is_lt, is_eq, is_gt}
+use Rattle.std.proofs.Common.{◌≡◌, Bool, true, false, ◌&&◌, cond, List, [], ◌∷◌, ◌⊎◌, inl, inr, refl, sym, ap, ◌∙◌, true≢false, Ordering, Less, Equal, Greater, is_lt, is_gt}
 use Rattle.std.specs.List.{AllByRecursion}
 use Rattle.std.proofs.lemmas.Bool.{cases_Bool}
 use Rattle.std.proofs.lemmas.Cmp.{tied_itself}
 use Rattle.version_ranges.proofs.Membership.{all_weaker}
 use Rattle.pep508_diagram.specs.Diagram.{Diagram, Leaf, Test, Asking, IsAsking, truth_by, front_by, IsCanonicalBy}
 use Rattle.pep508_diagram.specs.Question.{Question, Valuation, question_cmp, marker, truth, IsCanonical}
+use Rattle.pep508_diagram.specs.Shortened.{AsksOfShort, HasShortVersions}
 use Rattle.pep508_diagram.proofs.Alike.{three_ways}
 use Rattle.pep508_diagram.proofs.Canonical.{one_diagram, front_canonical}
 use Rattle.pep508_diagram.proofs.Moved.{DiffersAt, skip, below_differs, at_differs, at_answer, at_below, front_where_yes, at_low, at_high}
@@ -62,8 +63,8 @@ module _ {Q V : Type 0} {ask : Asking Q V} (laws : IsAsking ask) where
   below_alike asked q v w alike =
       all_weaker (λ r. ask.answer v r ≡ ask.answer w r)
       (λ r. ask.answer (ask.below_all v q) r ≡ ask.answer (ask.below_all w q) r)
-      (λ r e. laws.moved_below v q r ∙ ap (λ b. cond (ask.shares q r) true b) e ∙ sym (laws.moved_below w q r))
-      asked alike
+      (λ r e. laws.moved_below v q r ∙ ap (λ b. cond (ask.shares q r) true b) e
+      ∙ sym (laws.moved_below w q r)) asked alike
 
   pub low_settled : (asked : List Q) (q : Q) (l h : Diagram Q) → IsCanonicalBy ask (Test q l h) →
       Settle ask asked (Test q l h) → Settle ask asked l
@@ -75,8 +76,8 @@ module _ {Q V : Type 0} {ask : Asking Q V} (laws : IsAsking ask) where
   -- ---- the second branch
 
   -- where the question is answered by no, so is each that doesn't come later
-  no_sooner : (q r : Q) (v : V) → ask.shares q r ≡ true → ask.answer v q ≡ false → is_lt (ask.cmp q r) ≡ false →
-      ask.answer v r ≡ false
+  no_sooner : (q r : Q) (v : V) → ask.shares q r ≡ true → ask.answer v q ≡ false →
+      is_lt (ask.cmp q r) ≡ false → ask.answer v r ≡ false
   no_sooner q r v shared over sooner = elim (three_ways (ask.cmp q r)) [
     | inl less ↦ absurd (true≢false (sym (ap is_lt less) ∙ sooner))
     | inr (inl same) ↦ sym (laws.answers_equal v q r same) ∙ over
@@ -88,8 +89,8 @@ module _ {Q V : Type 0} {ask : Asking Q V} (laws : IsAsking ask) where
     ]
   ]
 
-  yes_later : (q r : Q) (v : V) → ask.shares q r ≡ true → ask.answer v q ≡ true → is_lt (ask.cmp q r) ≡ true →
-      ask.answer v r ≡ true
+  yes_later : (q r : Q) (v : V) → ask.shares q r ≡ true → ask.answer v q ≡ true →
+      is_lt (ask.cmp q r) ≡ true → ask.answer v r ≡ true
   yes_later q r v shared below later = laws.below_later v q r shared (is_less (ask.cmp q r) later) below
 
   denied_yes : (q r : Q) (v : V) → ask.shares q r ≡ true → ask.answer v q ≡ true →
@@ -165,7 +166,9 @@ module _ {Q V : Type 0} {ask : Asking Q V} (laws : IsAsking ask) where
         is_lt (ask.cmp r t) ≡ is_lt (ask.cmp q t)
     later_same t on e = elim (cases_Bool (is_lt (ask.cmp q t))) [
       | inl later ↦
-          ap is_lt (laws.total.trans r q t (greater_turned q r more) (is_less (ask.cmp q t) later)) ∙ sym later
+          let less : ask.cmp r t ≡ Less =
+          laws.total.trans r q t (greater_turned q r more) (is_less (ask.cmp q t) later) in
+          ap is_lt less ∙ sym later
       | inr sooner ↦ elim (cases_Bool (is_lt (ask.cmp r t))) [
         | inl too ↦
             let there : ask.shares r t ≡ true = sym (laws.shares_on q r t shared) ∙ on in
@@ -191,10 +194,10 @@ module _ {Q V : Type 0} {ask : Asking Q V} (laws : IsAsking ask) where
       at_answer laws r q v (laws.shares_turned r q ∙ shared) ∙ ap is_lt (greater_turned q r more),
       (
         at_answer laws r r v (shares_itself r) ∙ ap is_lt (tied_itself laws.total r)
-        ∙ sym (at_answer laws q r v shared ∙ ap is_lt more),
+            ∙ sym (at_answer laws q r v shared ∙ ap is_lt more),
         all_weaker (λ t. ask.answer u t ≡ ask.answer (ask.at_place v q) t)
-        (λ t. ask.answer (ask.at_place v r) t ≡ ask.answer (ask.at_place v q) t)
-        (λ t e. moved_same t e) asked agree,
+            (λ t. ask.answer (ask.at_place v r) t ≡ ask.answer (ask.at_place v q) t)
+            (λ t e. moved_same t e) asked agree,
       ),
     )
 
@@ -275,17 +278,20 @@ asks_these_alone asked (Test q l h) c settled = (
 
 -- ---- what holds of the questions that settle a diagram
 
-module _ (P : Question → Type 0) (equal_too : (q r : Question) → question_cmp q r ≡ Equal → P r → P q) where
-  among_holds : (asked : List Question) (q : Question) → AllByRecursion P asked → IsAmong asked q → P q
-  among_holds [] q each among = absurd among
-  among_holds (r ∷ asked) q each (inl same) = equal_too q r same each.0
-  among_holds (r ∷ asked) q each (inr among) = among_holds asked q each.1 among
+-- what goes over to each equal question whose version is short
+module _ (P : Question → Type 0)
+    (equal_too : (q r : Question) → AsksOfShort q → question_cmp q r ≡ Equal → P r → P q) where
+  among_holds : (asked : List Question) (q : Question) → AsksOfShort q → AllByRecursion P asked →
+      IsAmong asked q → P q
+  among_holds [] q short each among = absurd among
+  among_holds (r ∷ asked) q short each (inl same) = equal_too q r short same each.0
+  among_holds (r ∷ asked) q short each (inr among) = among_holds asked q short each.1 among
 
-  pub all_hold : (asked : List Question) (d : Diagram Question) → AllByRecursion P asked →
-      AllQuestions (IsAmong asked) d → AllQuestions P d
-  all_hold asked (Leaf b) each among = tt
-  all_hold asked (Test q l h) each among = (
-    among_holds asked q each among.0,
-    all_hold asked l each among.1,
-    all_hold asked h each among.2,
+  pub all_hold : (asked : List Question) (d : Diagram Question) → HasShortVersions d →
+      AllByRecursion P asked → AllQuestions (IsAmong asked) d → AllQuestions P d
+  all_hold asked (Leaf b) short each among = tt
+  all_hold asked (Test q l h) short each among = (
+    among_holds asked q short.0 each among.0,
+    all_hold asked l short.1 each among.1,
+    all_hold asked h short.2 each among.2,
   )
