@@ -156,7 +156,8 @@ module _ {Q V : Type 0} {ask : Asking Q V} (laws : IsAsking ask) where
 
   -- ---- the question itself
 
-  -- what stands at an earlier place of the variable, where `u` has none of these in between
+  -- the variable at the place of an earlier question `r`, which `u` answers by yes: where `u` answered the
+  -- questions as at the place of `q`, so does this
   module _ (q r : Q) (v u : V) (shared : ask.shares q r ≡ true) (more : ask.cmp q r ≡ Greater)
       (below : ask.answer u r ≡ true) where
     free_too : (t : Q) → ask.shares q t ≡ false → ask.shares r t ≡ false
