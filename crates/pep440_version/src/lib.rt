@@ -11,6 +11,7 @@ mod pattern;
 mod print;
 mod range_value;
 mod setters;
+mod suffixes;
 mod value;
 mod version;
 

@@ -144,13 +144,13 @@ impl Version {
     fn class(&self) -> u64
         ensures { result ≡ class_of self.now }
     {
-        if self.least.is_some() {
+        if self.min().is_some() {
             return 0;
         }
-        if let Some(pre) = self.pre {
+        if let Some(pre) = self.pre() {
             return 2 + rank(pre.kind);
         }
-        match (self.post, self.dev, self.most) {
+        match (self.post(), self.dev(), self.max()) {
             (None, Some(_), None) => 1,
             (None, None, None) => 5,
             _ => 6,
@@ -172,10 +172,10 @@ impl Version {
     {
         let release = compare_releases(&self.release, &other.release);
         let class = compare_numbers(self.class(), other.class());
-        let pre = compare_pre(self.pre, other.pre);
-        let post = compare_post(self.post, self.most, other.post, other.most);
-        let least = compare_absent_first(self.least, other.least);
-        let dev = compare_absent_last(self.dev, other.dev);
+        let pre = compare_pre(self.pre(), other.pre());
+        let post = compare_post(self.post(), self.max(), other.post(), other.max());
+        let least = compare_absent_first(self.min(), other.min());
+        let dev = compare_absent_last(self.dev(), other.dev());
         compare_numbers(self.epoch, other.epoch).then(release.then(class.then(pre.then(post.then(
             least.then(dev),
         )))))
@@ -330,10 +330,10 @@ impl Hash for Version {
         feed_number(self.epoch, state);
         feed_numbers(without_end_zeros(&self.release), state);
         feed_number(self.class(), state);
-        feed_pre(self.pre, state);
-        feed_post(self.post, self.most, state);
-        feed_absent_first(self.least, state);
-        feed_absent_last(self.dev, state);
+        feed_pre(self.pre(), state);
+        feed_post(self.post(), self.max(), state);
+        feed_absent_first(self.min(), state);
+        feed_absent_last(self.dev(), state);
         feed_local(&self.local, state);
     }
 }

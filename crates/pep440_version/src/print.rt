@@ -106,9 +106,9 @@ impl fmt::Display for Version {
     fn fmt<W: fmt::Write>(&self, f: &mut fmt::Formatter<W>) -> fmt::Result {
         write_epoch(self.epoch, f)?;
         write_release(&self.release, f)?;
-        write_pre(self.pre, f)?;
-        write_numbered(".post", self.post, f)?;
-        write_numbered(".dev", self.dev, f)?;
+        write_pre(self.pre(), f)?;
+        write_numbered(".post", self.post(), f)?;
+        write_numbered(".dev", self.dev(), f)?;
         write_local(&self.local, f)
     }
 }

@@ -53,7 +53,7 @@ impl Version {
     pub fn with_pre(mut self, pre: Option<Prerelease>) -> Version
         ensures { result ≡ record self { pre = pre } }
     {
-        self.pre = pre;
+        self.suffixes.set_pre(pre);
         self
     }
 
@@ -61,7 +61,7 @@ impl Version {
     pub fn with_post(mut self, post: Option<u64>) -> Version
         ensures { result ≡ record self { post = post } }
     {
-        self.post = post;
+        self.suffixes.set_post(post);
         self
     }
 
@@ -69,7 +69,7 @@ impl Version {
     pub fn with_dev(mut self, dev: Option<u64>) -> Version
         ensures { result ≡ record self { dev = dev } }
     {
-        self.dev = dev;
+        self.suffixes.set_dev(dev);
         self
     }
 
@@ -95,7 +95,7 @@ impl Version {
         requires dev { self.dev ≡ None }
         ensures { result ≡ record self { least = min } }
     {
-        self.least = min;
+        self.suffixes.set_least(min);
         self
     }
 
@@ -105,7 +105,7 @@ impl Version {
         requires dev { self.dev ≡ None }
         ensures { result ≡ record self { most = max } }
     {
-        self.most = max;
+        self.suffixes.set_most(max);
         self
     }
 
@@ -116,7 +116,7 @@ impl Version {
         ensures { IsTrue result ↔ (self.now ≡ release_record self.now.release) }
     {
         let suffixed = self.is_pre() || self.is_post() || self.is_dev() || self.is_local();
-        let at_end = self.least.is_some() || self.most.is_some();
+        let at_end = self.min().is_some() || self.max().is_some();
         self.epoch == 0 && !suffixed && !at_end
     }
 

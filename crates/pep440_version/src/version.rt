@@ -7,7 +7,8 @@ ghost use Rattle.pep440_version.specs.declared.parse_error.VersionParseError.The
 ghost use Rattle.pep440_version.specs.VersionReading.{NoLeadingNumber, version_reading, told_version};
 ghost use Rattle.pep440_version.specs.Changes.{is_prerelease, has_local, early_version};
 
-use crate::{LocalSegment, Prerelease, PrereleaseKind, VersionParseError};
+use crate::suffixes::Suffixes;
+use crate::{LocalSegment, Prerelease, VersionParseError};
 use pep440_text::VersionParts;
 use std::alloc::{AllocError, Global};
 use std::marker::Model;
@@ -20,12 +21,8 @@ use std::marker::Model;
 pub struct Version {
     pub(crate) epoch: u64,
     pub(crate) release: Vec<u64>,
-    pub(crate) pre: Option<Prerelease>,
-    pub(crate) post: Option<u64>,
-    pub(crate) dev: Option<u64>,
+    pub(crate) suffixes: Suffixes,
     pub(crate) local: Vec<LocalSegment>,
-    pub(crate) least: Option<u64>,
-    pub(crate) most: Option<u64>,
 }
 
 impl Model for Version {
@@ -37,12 +34,12 @@ impl Model for Version {
     ghost view = { λ v. record {
       epoch = v.epoch;
       release = v.release.items;
-      pre = v.pre;
-      post = v.post;
-      dev = v.dev;
+      pre = v.suffixes.pre;
+      post = v.suffixes.post;
+      dev = v.suffixes.dev;
       local = map segment_of v.local.items;
-      least = v.least;
-      most = v.most;
+      least = v.suffixes.least;
+      most = v.suffixes.most;
     } };
 
     ghost invariant = { λ v. 0 < length v.release.items };
@@ -81,12 +78,8 @@ impl Version {
         Version {
             epoch: parts.epoch,
             release: parts.release,
-            pre: parts.pre,
-            post: parts.post,
-            dev: parts.dev,
+            suffixes: Suffixes::new(parts.pre, parts.post, parts.dev),
             local: parts.local,
-            least: None,
-            most: None,
         }
     }
 
@@ -97,12 +90,8 @@ impl Version {
         Version {
             epoch: 0,
             release,
-            pre: None,
-            post: None,
-            dev: None,
+            suffixes: Suffixes::absent(),
             local: Vec::new(alloc),
-            least: None,
-            most: None,
         }
     }
 
@@ -113,12 +102,8 @@ impl Version {
         Ok(Version {
             epoch: self.epoch,
             release: Vec::from_slice(alloc, &self.release)?,
-            pre: self.pre,
-            post: self.post,
-            dev: self.dev,
+            suffixes: self.suffixes.copied(),
             local: copy_segments(alloc, &self.local)?,
-            least: self.least,
-            most: self.most,
         })
     }
 
@@ -141,21 +126,21 @@ impl Version {
     pub fn pre(&self) -> Option<Prerelease>
         ensures { result ≡ self.now.pre }
     {
-        self.pre
+        self.suffixes.pre()
     }
 
     /// The number of the post-release, if it is one (PEP 440, "Post-releases").
     pub fn post(&self) -> Option<u64>
         ensures { result ≡ self.now.post }
     {
-        self.post
+        self.suffixes.post()
     }
 
     /// The number of the developmental release, if it is one (PEP 440, "Developmental releases").
     pub fn dev(&self) -> Option<u64>
         ensures { result ≡ self.now.dev }
     {
-        self.dev
+        self.suffixes.dev()
     }
 
     /// The segments of the local part, none where there is no such part (PEP 440, "Local version
@@ -171,7 +156,7 @@ impl Version {
     pub fn min(&self) -> Option<u64>
         ensures { result ≡ self.now.least }
     {
-        self.least
+        self.suffixes.least()
     }
 
     /// The number by which it stands above every post-release of its release, as the upper end of a range; no
@@ -179,7 +164,7 @@ impl Version {
     pub fn max(&self) -> Option<u64>
         ensures { result ≡ self.now.most }
     {
-        self.most
+        self.suffixes.most()
     }
 
     /// Whether it is a pre-release or a developmental release.
@@ -200,21 +185,21 @@ impl Version {
     pub fn is_pre(&self) -> bool
         ensures { result ≡ is_some self.now.pre }
     {
-        self.pre.is_some()
+        self.suffixes.pre().is_some()
     }
 
     /// Whether it is a developmental release (PEP 440, "Developmental releases").
     pub fn is_dev(&self) -> bool
         ensures { result ≡ is_some self.now.dev }
     {
-        self.dev.is_some()
+        self.suffixes.dev().is_some()
     }
 
     /// Whether it is a post-release (PEP 440, "Post-releases").
     pub fn is_post(&self) -> bool
         ensures { result ≡ is_some self.now.post }
     {
-        self.post.is_some()
+        self.suffixes.post().is_some()
     }
 
     /// Whether it has a local part (PEP 440, "Local version identifiers").
