@@ -161,7 +161,7 @@ impl Version {
     pub fn cmp_release(&self, other: &Version) -> Ordering
         ensures { result ≡ slice_cmp nat_cmp (stripped self.now.release) (stripped other.now.release) }
     {
-        compare_releases(&self.release, &other.release)
+        compare_releases(self.release(), other.release())
     }
 
     /// Compares all but the local parts, in one walk over both versions (PEP 440, "Local version
@@ -170,7 +170,7 @@ impl Version {
     pub fn cmp_public(&self, other: &Version) -> Ordering
         ensures { result ≡ version_cmp (without_local self.now) (without_local other.now) }
     {
-        let release = compare_releases(&self.release, &other.release);
+        let release = compare_releases(self.release(), other.release());
         let class = compare_numbers(self.class(), other.class());
         let pre = compare_pre(self.pre(), other.pre());
         let post = compare_post(self.post(), self.max(), other.post(), other.max());
@@ -328,7 +328,7 @@ impl Hash for Version {
     #[tactic(auto, unfolding(crate::specs::Order::key_of))]
     fn hash<H: Hasher>(&self, state: &mut H) {
         feed_number(self.epoch, state);
-        feed_numbers(without_end_zeros(&self.release), state);
+        feed_numbers(without_end_zeros(self.release()), state);
         feed_number(self.class(), state);
         feed_pre(self.pre(), state);
         feed_post(self.post(), self.max(), state);

@@ -5,8 +5,10 @@ ghost use Rattle.pep440_text.specs.Record.{VersionRecord, release_record, said, 
 ghost use Rattle.read_outcome.specs.Outcome.{Answers};
 ghost use Rattle.pep440_version.specs.declared.parse_error.VersionParseError.TheVariants as errors;
 ghost use Rattle.pep440_version.specs.VersionReading.{NoLeadingNumber, version_reading, told_version};
+ghost use Rattle.pep440_version.specs.Releases.{numbers_of};
 ghost use Rattle.pep440_version.specs.Changes.{is_prerelease, has_local, early_version};
 
+use crate::release::Release;
 use crate::suffixes::Suffixes;
 use crate::{LocalSegment, Prerelease, VersionParseError};
 use pep440_text::VersionParts;
@@ -20,7 +22,7 @@ use std::marker::Model;
 #[derive(Drop)]
 pub struct Version {
     pub(crate) epoch: u64,
-    pub(crate) release: Vec<u64>,
+    pub(crate) release: Release,
     pub(crate) suffixes: Suffixes,
     pub(crate) local: Vec<LocalSegment>,
 }
@@ -28,12 +30,13 @@ pub struct Version {
 impl Model for Version {
     ghost use Rattle.std.specs.Prelude.{◌<◌, length, map};
     ghost use Rattle.pep440_text.specs.Record.{VersionRecord, segment_of};
+    ghost use Rattle.pep440_version.specs.Releases.{numbers_of};
 
     ghost Value = { VersionRecord };
 
     ghost view = { λ v. record {
       epoch = v.epoch;
-      release = v.release.items;
+      release = numbers_of v.release;
       pre = v.suffixes.pre;
       post = v.suffixes.post;
       dev = v.suffixes.dev;
@@ -42,16 +45,16 @@ impl Model for Version {
       most = v.suffixes.most;
     } };
 
-    ghost invariant = { λ v. 0 < length v.release.items };
+    ghost invariant = { λ v. 0 < length (numbers_of v.release) };
 }
 
 impl Version {
-    /// The version with these release numbers and no other part. Takes memory for the numbers.
+    /// The version with these release numbers and no other part. Takes memory for more than three numbers.
     pub fn new(alloc: Global, release: &[u64]) -> Result<Version, AllocError>
         requires { 0 < length release.now }
         ensures { IfOk result (λ version. version ≡ release_record release.now) }
     {
-        Ok(Version::of_release(alloc, Vec::from_slice(alloc, release)?))
+        Ok(Version::of_release(alloc, Release::from_slice(alloc, release)?))
     }
 
     /// Reads a version, as `1!2.0rc1.post2.dev3+ubuntu.1`: letters in either case, every spelling that PEP
@@ -77,15 +80,15 @@ impl Version {
     {
         Version {
             epoch: parts.epoch,
-            release: parts.release,
+            release: Release::from_vec(parts.release),
             suffixes: Suffixes::new(parts.pre, parts.post, parts.dev),
             local: parts.local,
         }
     }
 
-    pub(crate) fn of_release(alloc: Global, release: Vec<u64>) -> Version
-        requires { 0 < length release.items }
-        ensures { result ≡ release_record release.items }
+    pub(crate) fn of_release(alloc: Global, release: Release) -> Version
+        requires { 0 < length (numbers_of release) }
+        ensures { result ≡ release_record (numbers_of release) }
     {
         Version {
             epoch: 0,
@@ -101,7 +104,7 @@ impl Version {
     {
         Ok(Version {
             epoch: self.epoch,
-            release: Vec::from_slice(alloc, &self.release)?,
+            release: Release::from_slice(alloc, self.release.numbers())?,
             suffixes: self.suffixes.copied(),
             local: copy_segments(alloc, &self.local)?,
         })
@@ -119,7 +122,7 @@ impl Version {
         ensures numbers { result.now ≡ self.now.release }
         ensures some { 0 < length self.now.release }
     {
-        &self.release
+        self.release.numbers()
     }
 
     /// The pre-release, if it is one (PEP 440, "Pre-releases").
