@@ -1,4 +1,4 @@
-use Rattle.std.proofs.Common.{Vec, Global, ◌≡◌, ℕ, ◌++◌, ◌∷◌, [], List, Some, None, ap, sym, ◌∙◌}
+use Rattle.std.proofs.Common.{Vec, Global, ◌≡◌, ℕ, Some, None, ap, sym, ◌∙◌}
 use Rattle.std.specs.Option.{option_map}
 use Rattle.pep440_version.specs.Changes.{raised}
 use Rattle.pep440_version.proofs.Releases.{raised_last}
