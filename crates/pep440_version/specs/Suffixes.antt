@@ -1,4 +1,5 @@
--- What a version says beside its epoch, its release and its local part, and how a number that may be absent is kept.
+-- What a version says beside its epoch, its release and its local part, and how numbers that may be absent
+-- are kept.
 use Rattle.std.specs.Prelude.{ℕ, Bool, true, false, Option, Some, None}
 use Rattle.pep440_text.specs.declared.Prerelease.{Prerelease}
 use Rattle.pep440_text.specs.declared.PrereleaseKind.{PrereleaseKind}

@@ -1,6 +1,6 @@
 //! The release numbers of versions.
 
-ghost use Rattle.std.specs.Prelude.{◌≡◌, ◌<◌, length, take, IfOk, IfSome, None};
+ghost use Rattle.std.specs.Prelude.{◌≡◌, ◌<◌, length, take, IfOk, IfSome};
 ghost use Rattle.std.specs.Option.{option_map};
 ghost use Rattle.pep440_version.specs.Changes.{raised, last_raised};
 ghost use Rattle.pep440_version.specs.Releases.{numbers_of};

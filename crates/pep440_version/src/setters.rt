@@ -34,7 +34,7 @@ impl Version {
         self
     }
 
-    /// The version with other release numbers, of which there is at least one. Takes memory for more than three.
+    /// The version with other release numbers, at least one. Takes memory for more than three.
     pub fn with_release(mut self, alloc: Global, release: &[u64]) -> Result<Version, AllocError>
         requires { 0 < length release.now }
         ensures { IfOk result (λ version. version ≡ record self { release = release.now }) }

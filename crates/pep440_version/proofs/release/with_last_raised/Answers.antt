@@ -7,9 +7,11 @@ use Rattle.pep440_version.proofs.release.with_last_raised.Goals as goal
 pub returns-in_err-next-clause-raised : goal.returns-in_err-next-clause-raised
 returns-in_err-next-clause-raised c =
     let next : None ≡ raised c.in_ok-last.last = c.in_err-next.ensures in
-    ap (option_map (λ (v : Vec ℕ Global). v.items)) c.from_residual-in_err-next.ensures ∙ sym (raised_last _ c.pop.new.self.items c.in_ok-last.last None c.in_ok-last.ensures.items next)
+    ap (option_map (λ (v : Vec ℕ Global). v.items)) c.from_residual-in_err-next.ensures
+    ∙ sym (raised_last _ c.pop.new.self.items c.in_ok-last.last None c.in_ok-last.ensures.items next)
 
 pub returns-clause-raised : goal.returns-clause-raised
 returns-clause-raised c =
     let next : Some c.in_ok-next.next ≡ raised c.in_ok-last.last = c.in_ok-next.ensures in
-    ap Some c.in-Ok.ensures.items ∙ sym (raised_last _ c.pop.new.self.items c.in_ok-last.last (Some c.in_ok-next.next) c.in_ok-last.ensures.items next)
+    let rest = raised_last _ c.pop.new.self.items c.in_ok-last.last _ c.in_ok-last.ensures.items next in
+    ap Some c.in-Ok.ensures.items ∙ sym rest
