@@ -1,6 +1,6 @@
 //! Reading the text of a list.
 
-ghost use Rattle.std.specs.Prelude.{◌≡◌, length, IfErr, IsOk};
+ghost use Rattle.std.specs.Prelude.{◌≡◌, [], length, IfErr, IfOk, IsOk};
 ghost use Rattle.read_outcome.specs.Outcome.{Answers};
 ghost use Rattle.pep440_specifier.specs.SpecifierReading.{specifier_reading};
 ghost use Rattle.pep440_specifier_list.specs.Places.{IsPlaced};
@@ -9,7 +9,7 @@ ghost use Rattle.pep440_specifier_list.specs.ListReading.{told_list, TellsOrMemo
 
 use crate::{RefusedPiece, VersionSpecifiers, VersionSpecifiersParseError};
 use pep440_specifier::{VersionSpecifier, VersionSpecifierParseError};
-use std::alloc::Global;
+use std::alloc::{AllocError, Global};
 
 impl VersionSpecifiers {
     /// Reads specifiers with commas between them, as `>=1.16, <2.0`; the empty text is the empty list (PEP
@@ -36,6 +36,14 @@ impl VersionSpecifiers {
     }
 }
 
+/// Room for as many members as there are pieces between commas, or for four where there are more.
+fn few_places(alloc: Global, text: &str) -> Result<Vec<VersionSpecifier>, AllocError>
+    ensures { IfOk result (λ places. places.items ≡ []) }
+{
+    let commas = text.as_bytes().iter().filter(|byte| **byte == b',').count();
+    Vec::with_capacity(alloc, commas.min(3) + 1)
+}
+
 /// The members that the pieces between commas are, in the order given.
 fn read_members(
     alloc: Global,
@@ -45,7 +53,7 @@ fn read_members(
         (pieces_reading text.now 0 (pieces_of text.now)) }
     ensures plain { IfErr result TellsOrMemory }
 {
-    let mut members = Vec::new(alloc);
+    let mut members = few_places(alloc, text)?;
     let mut start = 0;
     for piece in text.split(',') {
         let end = start + piece.len();

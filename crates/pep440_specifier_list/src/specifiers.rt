@@ -63,7 +63,7 @@ impl VersionSpecifiers {
     ) -> Result<VersionSpecifiers, AllocError>
         ensures { IfOk result (λ list. list ≡ specifier ∷ []) }
     {
-        let mut members = Vec::new(alloc);
+        let mut members = Vec::with_capacity(alloc, 1)?;
         members.push(specifier)?;
         Ok(VersionSpecifiers { members })
     }

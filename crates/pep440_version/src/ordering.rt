@@ -144,13 +144,13 @@ impl Version {
     fn class(&self) -> u64
         ensures { result ≡ class_of self.now }
     {
-        if self.least.is_some() {
+        if self.min().is_some() {
             return 0;
         }
-        if let Some(pre) = self.pre {
+        if let Some(pre) = self.pre() {
             return 2 + rank(pre.kind);
         }
-        match (self.post, self.dev, self.most) {
+        match (self.post(), self.dev(), self.max()) {
             (None, Some(_), None) => 1,
             (None, None, None) => 5,
             _ => 6,
@@ -161,7 +161,7 @@ impl Version {
     pub fn cmp_release(&self, other: &Version) -> Ordering
         ensures { result ≡ slice_cmp nat_cmp (stripped self.now.release) (stripped other.now.release) }
     {
-        compare_releases(&self.release, &other.release)
+        compare_releases(self.release(), other.release())
     }
 
     /// Compares all but the local parts, in one walk over both versions (PEP 440, "Local version
@@ -170,12 +170,12 @@ impl Version {
     pub fn cmp_public(&self, other: &Version) -> Ordering
         ensures { result ≡ version_cmp (without_local self.now) (without_local other.now) }
     {
-        let release = compare_releases(&self.release, &other.release);
+        let release = compare_releases(self.release(), other.release());
         let class = compare_numbers(self.class(), other.class());
-        let pre = compare_pre(self.pre, other.pre);
-        let post = compare_post(self.post, self.most, other.post, other.most);
-        let least = compare_absent_first(self.least, other.least);
-        let dev = compare_absent_last(self.dev, other.dev);
+        let pre = compare_pre(self.pre(), other.pre());
+        let post = compare_post(self.post(), self.max(), other.post(), other.max());
+        let least = compare_absent_first(self.min(), other.min());
+        let dev = compare_absent_last(self.dev(), other.dev());
         compare_numbers(self.epoch, other.epoch).then(release.then(class.then(pre.then(post.then(
             least.then(dev),
         )))))
@@ -328,12 +328,12 @@ impl Hash for Version {
     #[tactic(auto, unfolding(crate::specs::Order::key_of))]
     fn hash<H: Hasher>(&self, state: &mut H) {
         feed_number(self.epoch, state);
-        feed_numbers(without_end_zeros(&self.release), state);
+        feed_numbers(without_end_zeros(self.release()), state);
         feed_number(self.class(), state);
-        feed_pre(self.pre, state);
-        feed_post(self.post, self.most, state);
-        feed_absent_first(self.least, state);
-        feed_absent_last(self.dev, state);
+        feed_pre(self.pre(), state);
+        feed_post(self.post(), self.max(), state);
+        feed_absent_first(self.min(), state);
+        feed_absent_last(self.dev(), state);
         feed_local(&self.local, state);
     }
 }

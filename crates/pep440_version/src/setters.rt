@@ -3,21 +3,15 @@
 ghost use Rattle.std.specs.Prelude.{◌≡◌, ◌↔◌, ◌<◌, length, map, Some, None, IfOk, IsTrue};
 ghost use Rattle.std.specs.Option.{option_map};
 ghost use Rattle.pep440_text.specs.Record.{release_record, segment_of, without_local};
-ghost use Rattle.pep440_version.specs.Changes.{early_version, without_end_zeros, raised, last_raised};
+ghost use Rattle.pep440_version.specs.Changes.{early_version, without_end_zeros, last_raised};
 
 use crate::ordering::without_end_zeros;
+use crate::release::Release;
 use crate::{LocalSegment, Prerelease, PrereleaseKind, Version};
 use std::alloc::{AllocError, Global};
 
-/// One more, where 64 bits hold it.
-fn raised(number: u64) -> Option<u64>
-    ensures { result ≡ raised number }
-{
-    number.checked_add(1)
-}
-
 impl Version {
-    /// An early version: `0a0.dev0`. Some versions lie below it, as `0.dev0`. Takes memory for its number.
+    /// An early version: `0a0.dev0`. Some versions lie below it, as `0.dev0`.
     pub fn min_version(alloc: Global) -> Result<Version, AllocError>
         ensures { IfOk result (λ version. version ≡ early_version) }
     {
@@ -40,12 +34,12 @@ impl Version {
         self
     }
 
-    /// The version with other release numbers, of which there is at least one. Takes memory for them.
+    /// The version with other release numbers, at least one. Takes memory for more than three.
     pub fn with_release(mut self, alloc: Global, release: &[u64]) -> Result<Version, AllocError>
         requires { 0 < length release.now }
         ensures { IfOk result (λ version. version ≡ record self { release = release.now }) }
     {
-        self.release = Vec::from_slice(alloc, release)?;
+        self.release = Release::from_slice(alloc, release)?;
         Ok(self)
     }
 
@@ -53,7 +47,7 @@ impl Version {
     pub fn with_pre(mut self, pre: Option<Prerelease>) -> Version
         ensures { result ≡ record self { pre = pre } }
     {
-        self.pre = pre;
+        self.suffixes.set_pre(pre);
         self
     }
 
@@ -61,7 +55,7 @@ impl Version {
     pub fn with_post(mut self, post: Option<u64>) -> Version
         ensures { result ≡ record self { post = post } }
     {
-        self.post = post;
+        self.suffixes.set_post(post);
         self
     }
 
@@ -69,7 +63,7 @@ impl Version {
     pub fn with_dev(mut self, dev: Option<u64>) -> Version
         ensures { result ≡ record self { dev = dev } }
     {
-        self.dev = dev;
+        self.suffixes.set_dev(dev);
         self
     }
 
@@ -95,7 +89,7 @@ impl Version {
         requires dev { self.dev ≡ None }
         ensures { result ≡ record self { least = min } }
     {
-        self.least = min;
+        self.suffixes.set_least(min);
         self
     }
 
@@ -105,7 +99,7 @@ impl Version {
         requires dev { self.dev ≡ None }
         ensures { result ≡ record self { most = max } }
     {
-        self.most = max;
+        self.suffixes.set_most(max);
         self
     }
 
@@ -116,7 +110,7 @@ impl Version {
         ensures { IsTrue result ↔ (self.now ≡ release_record self.now.release) }
     {
         let suffixed = self.is_pre() || self.is_post() || self.is_dev() || self.is_local();
-        let at_end = self.least.is_some() || self.most.is_some();
+        let at_end = self.min().is_some() || self.max().is_some();
         self.epoch == 0 && !suffixed && !at_end
     }
 
@@ -127,8 +121,8 @@ impl Version {
     pub fn without_end_zeros(mut self) -> Version
         ensures { result ≡ without_end_zeros self }
     {
-        let count = without_end_zeros(&self.release).len();
-        self.release.truncate(count.max(1));
+        let count = without_end_zeros(self.release()).len();
+        self.release = self.release.truncated(count.max(1));
         self
     }
 
@@ -138,20 +132,15 @@ impl Version {
         ensures { result
             ≡ option_map (λ numbers. record self { release = numbers }) (last_raised self.release) }
     {
-        let last = self.release.pop()?;
-        match raised(last) {
-            None => None,
-            Some(next) => match self.release.push(next) {
-                Ok(()) => Some(self),
-                Err(_) => unreachable!(),
-            },
-        }
+        self.release = self.release.with_last_raised()?;
+        Some(self)
     }
 
-    /// The version of its release numbers alone, without epoch and suffixes. Takes memory for them.
+    /// The version of its release numbers alone, without epoch and suffixes. Takes memory for more than
+    /// three.
     pub fn only_release(&self, alloc: Global) -> Result<Version, AllocError>
         ensures { IfOk result (λ version. version ≡ release_record self.now.release) }
     {
-        Ok(Version::of_release(alloc, Vec::from_slice(alloc, &self.release)?))
+        Ok(Version::of_release(alloc, Release::from_slice(alloc, self.release())?))
     }
 }

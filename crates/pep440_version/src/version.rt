@@ -5,9 +5,12 @@ ghost use Rattle.pep440_text.specs.Record.{VersionRecord, release_record, said, 
 ghost use Rattle.read_outcome.specs.Outcome.{Answers};
 ghost use Rattle.pep440_version.specs.declared.parse_error.VersionParseError.TheVariants as errors;
 ghost use Rattle.pep440_version.specs.VersionReading.{NoLeadingNumber, version_reading, told_version};
+ghost use Rattle.pep440_version.specs.Releases.{numbers_of};
 ghost use Rattle.pep440_version.specs.Changes.{is_prerelease, has_local, early_version};
 
-use crate::{LocalSegment, Prerelease, PrereleaseKind, VersionParseError};
+use crate::release::Release;
+use crate::suffixes::Suffixes;
+use crate::{LocalSegment, Prerelease, VersionParseError};
 use pep440_text::VersionParts;
 use std::alloc::{AllocError, Global};
 use std::marker::Model;
@@ -19,42 +22,39 @@ use std::marker::Model;
 #[derive(Drop)]
 pub struct Version {
     pub(crate) epoch: u64,
-    pub(crate) release: Vec<u64>,
-    pub(crate) pre: Option<Prerelease>,
-    pub(crate) post: Option<u64>,
-    pub(crate) dev: Option<u64>,
+    pub(crate) release: Release,
+    pub(crate) suffixes: Suffixes,
     pub(crate) local: Vec<LocalSegment>,
-    pub(crate) least: Option<u64>,
-    pub(crate) most: Option<u64>,
 }
 
 impl Model for Version {
     ghost use Rattle.std.specs.Prelude.{◌<◌, length, map};
     ghost use Rattle.pep440_text.specs.Record.{VersionRecord, segment_of};
+    ghost use Rattle.pep440_version.specs.Releases.{numbers_of};
 
     ghost Value = { VersionRecord };
 
     ghost view = { λ v. record {
       epoch = v.epoch;
-      release = v.release.items;
-      pre = v.pre;
-      post = v.post;
-      dev = v.dev;
+      release = numbers_of v.release;
+      pre = v.suffixes.pre;
+      post = v.suffixes.post;
+      dev = v.suffixes.dev;
       local = map segment_of v.local.items;
-      least = v.least;
-      most = v.most;
+      least = v.suffixes.least;
+      most = v.suffixes.most;
     } };
 
-    ghost invariant = { λ v. 0 < length v.release.items };
+    ghost invariant = { λ v. 0 < length (numbers_of v.release) };
 }
 
 impl Version {
-    /// The version with these release numbers and no other part. Takes memory for the numbers.
+    /// The version with these release numbers and no other part. Takes memory for more than three numbers.
     pub fn new(alloc: Global, release: &[u64]) -> Result<Version, AllocError>
         requires { 0 < length release.now }
         ensures { IfOk result (λ version. version ≡ release_record release.now) }
     {
-        Ok(Version::of_release(alloc, Vec::from_slice(alloc, release)?))
+        Ok(Version::of_release(alloc, Release::from_slice(alloc, release)?))
     }
 
     /// Reads a version, as `1!2.0rc1.post2.dev3+ubuntu.1`: letters in either case, every spelling that PEP
@@ -80,29 +80,21 @@ impl Version {
     {
         Version {
             epoch: parts.epoch,
-            release: parts.release,
-            pre: parts.pre,
-            post: parts.post,
-            dev: parts.dev,
+            release: Release::from_vec(parts.release),
+            suffixes: Suffixes::new(parts.pre, parts.post, parts.dev),
             local: parts.local,
-            least: None,
-            most: None,
         }
     }
 
-    pub(crate) fn of_release(alloc: Global, release: Vec<u64>) -> Version
-        requires { 0 < length release.items }
-        ensures { result ≡ release_record release.items }
+    pub(crate) fn of_release(alloc: Global, release: Release) -> Version
+        requires { 0 < length (numbers_of release) }
+        ensures { result ≡ release_record (numbers_of release) }
     {
         Version {
             epoch: 0,
             release,
-            pre: None,
-            post: None,
-            dev: None,
+            suffixes: Suffixes::absent(),
             local: Vec::new(alloc),
-            least: None,
-            most: None,
         }
     }
 
@@ -112,13 +104,9 @@ impl Version {
     {
         Ok(Version {
             epoch: self.epoch,
-            release: Vec::from_slice(alloc, &self.release)?,
-            pre: self.pre,
-            post: self.post,
-            dev: self.dev,
+            release: Release::from_slice(alloc, self.release.numbers())?,
+            suffixes: self.suffixes.copied(),
             local: copy_segments(alloc, &self.local)?,
-            least: self.least,
-            most: self.most,
         })
     }
 
@@ -134,28 +122,28 @@ impl Version {
         ensures numbers { result.now ≡ self.now.release }
         ensures some { 0 < length self.now.release }
     {
-        &self.release
+        self.release.numbers()
     }
 
     /// The pre-release, if it is one (PEP 440, "Pre-releases").
     pub fn pre(&self) -> Option<Prerelease>
         ensures { result ≡ self.now.pre }
     {
-        self.pre
+        self.suffixes.pre()
     }
 
     /// The number of the post-release, if it is one (PEP 440, "Post-releases").
     pub fn post(&self) -> Option<u64>
         ensures { result ≡ self.now.post }
     {
-        self.post
+        self.suffixes.post()
     }
 
     /// The number of the developmental release, if it is one (PEP 440, "Developmental releases").
     pub fn dev(&self) -> Option<u64>
         ensures { result ≡ self.now.dev }
     {
-        self.dev
+        self.suffixes.dev()
     }
 
     /// The segments of the local part, none where there is no such part (PEP 440, "Local version
@@ -171,7 +159,7 @@ impl Version {
     pub fn min(&self) -> Option<u64>
         ensures { result ≡ self.now.least }
     {
-        self.least
+        self.suffixes.least()
     }
 
     /// The number by which it stands above every post-release of its release, as the upper end of a range; no
@@ -179,7 +167,7 @@ impl Version {
     pub fn max(&self) -> Option<u64>
         ensures { result ≡ self.now.most }
     {
-        self.most
+        self.suffixes.most()
     }
 
     /// Whether it is a pre-release or a developmental release.
@@ -200,21 +188,21 @@ impl Version {
     pub fn is_pre(&self) -> bool
         ensures { result ≡ is_some self.now.pre }
     {
-        self.pre.is_some()
+        self.suffixes.pre().is_some()
     }
 
     /// Whether it is a developmental release (PEP 440, "Developmental releases").
     pub fn is_dev(&self) -> bool
         ensures { result ≡ is_some self.now.dev }
     {
-        self.dev.is_some()
+        self.suffixes.dev().is_some()
     }
 
     /// Whether it is a post-release (PEP 440, "Post-releases").
     pub fn is_post(&self) -> bool
         ensures { result ≡ is_some self.now.post }
     {
-        self.post.is_some()
+        self.suffixes.post().is_some()
     }
 
     /// Whether it has a local part (PEP 440, "Local version identifiers").

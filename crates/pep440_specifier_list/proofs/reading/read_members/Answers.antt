@@ -9,7 +9,7 @@ use Rattle.pep440_specifier_list.proofs.Places.{piece_placed}
 use Rattle.pep440_specifier_list.proofs.reading.read_members.Goals as goal
 
 pub loop-piece-init : goal.loop-piece-init
-loop-piece-init c = reading_begins c.args.text.now c.new-members.result.items c.new-members.ensures.items
+loop-piece-init c = reading_begins c.args.text.now c.in_ok-members.members.items c.in_ok-members.ensures
 
 pub overflow_add-end : goal.overflow_add-end
 overflow_add-end c =
@@ -44,7 +44,7 @@ returns-in_err-read_piece c =
     tells_at c.args.text.now (length c.loop-piece.yielded) c.loop-piece.members.items c.loop-piece.start
     c.in-Some.piece.now c.loop-piece.invariant at (told_list c.in_err-read_piece.field-0.0)
     c.in_err-read_piece.ensures.answered in
-    let returned = err_from_is_err_and c.from_residual.result c.from_residual.ensures.1 in
+    let returned = err_from_is_err_and c.from_residual-in_err-read_piece.result c.from_residual-in_err-read_piece.ensures.1 in
     rw (returned.1, returned.2) (record { answered = fault; plain = c.in_err-read_piece.ensures.plain })
 
 pub overflow_add-start : goal.overflow_add-start

@@ -1,0 +1,133 @@
+//! The release numbers of versions.
+
+ghost use Rattle.std.specs.Prelude.{◌≡◌, ◌<◌, length, take, IfOk, IfSome};
+ghost use Rattle.std.specs.Option.{option_map};
+ghost use Rattle.pep440_version.specs.Changes.{raised, last_raised};
+ghost use Rattle.pep440_version.specs.Releases.{numbers_of};
+
+use std::alloc::{AllocError, Global};
+
+/// Release numbers: up to three in their place, as most releases have, and more in memory of their own.
+#[derive(Drop)]
+pub(crate) enum Release {
+    One([u64; 1]),
+    Two([u64; 2]),
+    Three([u64; 3]),
+    More(Vec<u64>),
+}
+
+/// The numbers in their place, where they are one, two or three.
+fn few(numbers: &[u64]) -> Option<Release>
+    ensures { IfSome result (λ release. numbers_of release ≡ numbers.now) }
+{
+    match numbers {
+        [a] => Some(Release::One([*a])),
+        [a, b] => Some(Release::Two([*a, *b])),
+        [a, b, c] => Some(Release::Three([*a, *b, *c])),
+        _ => None,
+    }
+}
+
+impl Release {
+    /// These numbers. Takes memory for more than three.
+    pub(crate) fn from_slice(alloc: Global, numbers: &[u64]) -> Result<Release, AllocError>
+        ensures { IfOk result (λ release. numbers_of release ≡ numbers.now) }
+    {
+        match few(numbers) {
+            Some(release) => Ok(release),
+            None => Ok(Release::More(Vec::from_slice(alloc, numbers)?)),
+        }
+    }
+
+    /// These numbers, whose memory is let go of where they are few.
+    pub(crate) fn from_vec(numbers: Vec<u64>) -> Release
+        ensures { numbers_of result ≡ numbers.items }
+    {
+        match few(&numbers) {
+            Some(release) => release,
+            None => Release::More(numbers),
+        }
+    }
+
+    pub(crate) fn numbers(&self) -> &[u64]
+        ensures { result.now ≡ numbers_of self.now }
+    {
+        match self {
+            Release::One(numbers) => numbers,
+            Release::Two(numbers) => numbers,
+            Release::Three(numbers) => numbers,
+            Release::More(numbers) => numbers,
+        }
+    }
+
+    /// The first of the numbers, so many or all.
+    pub(crate) fn truncated(self, count: usize) -> Release
+        requires { 0 < count }
+        ensures { numbers_of result ≡ take count (numbers_of self) }
+    {
+        match self {
+            Release::One(numbers) => Release::One(numbers),
+            Release::Two(numbers) => {
+                let [a, b] = numbers;
+                match count {
+                    1 => Release::One([a]),
+                    _ => Release::Two([a, b]),
+                }
+            }
+            Release::Three(numbers) => {
+                let [a, b, c] = numbers;
+                match count {
+                    1 => Release::One([a]),
+                    2 => Release::Two([a, b]),
+                    _ => Release::Three([a, b, c]),
+                }
+            }
+            Release::More(mut numbers) => {
+                numbers.truncate(count);
+                Release::from_vec(numbers)
+            }
+        }
+    }
+
+    /// With the last number raised by one, where 64 bits hold that.
+    pub(crate) fn with_last_raised(self) -> Option<Release>
+        ensures raised { option_map numbers_of result ≡ last_raised (numbers_of self) }
+        ensures some { IfSome result (λ release. 0 < length (numbers_of release)) }
+    {
+        match self {
+            Release::One(numbers) => {
+                let [a] = numbers;
+                Some(Release::One([raised(a)?]))
+            }
+            Release::Two(numbers) => {
+                let [a, b] = numbers;
+                Some(Release::Two([a, raised(b)?]))
+            }
+            Release::Three(numbers) => {
+                let [a, b, c] = numbers;
+                Some(Release::Three([a, b, raised(c)?]))
+            }
+            Release::More(numbers) => Some(Release::More(with_last_raised(numbers)?)),
+        }
+    }
+}
+
+/// One more, where 64 bits hold it.
+fn raised(number: u64) -> Option<u64>
+    ensures { result ≡ raised number }
+{
+    number.checked_add(1)
+}
+
+/// The numbers with the last raised by one, where 64 bits hold that.
+fn with_last_raised(mut numbers: Vec<u64>) -> Option<Vec<u64>>
+    ensures raised { option_map (λ raised. raised.items) result ≡ last_raised numbers.items }
+    ensures some { IfSome result (λ raised. 0 < length raised.items) }
+{
+    let last = numbers.pop()?;
+    let next = raised(last)?;
+    match numbers.push(next) {
+        Ok(()) => Some(numbers),
+        Err(_) => unreachable!(),
+    }
+}
