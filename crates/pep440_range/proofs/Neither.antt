@@ -11,7 +11,8 @@ use Rattle.std.specs.Cmp.Lexicographic.{nat_list_cmp_total}
 use Rattle.version_ranges.specs.Point.{At, JustAbove}
 use Rattle.pep440_text.specs.declared.Prerelease.{Prerelease}
 use Rattle.pep440_version.specs.Record.{Segment, VersionRecord}
-use Rattle.pep440_version.specs.Changes.{is_prerelease, raised}
+use Rattle.pep440_version.specs.Changes.{is_prerelease}
+use Rattle.pep440_text.specs.Releases.{raised}
 use Rattle.pep440_version.specs.Order.{kind_rank, pre_key, post_key, absent_last, segment_key}
 use Rattle.pep440_version.specs.Order.{version_cmp, key_cmp}
 use Rattle.pep440_version.specs.OrderLaws.{version_cmp_total}

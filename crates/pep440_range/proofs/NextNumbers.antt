@@ -11,7 +11,7 @@ use Rattle.pep440_version.specs.Record.{VersionRecord, release_record}
 use Rattle.pep440_version.specs.Order.{key_of, key_cmp, before_stripped, stripped, version_cmp}
 use Rattle.pep440_version.specs.OrderLaws.{same_key}
 use Rattle.pep440_version.specs.Order.{version_eq}
-use Rattle.pep440_version.specs.Changes.{last_raised}
+use Rattle.pep440_text.specs.Releases.{last_raised}
 use Rattle.pep440_specifier.specs.Bounds.{next_minor, equals_release}
 
 -- ---- equal versions

@@ -8,7 +8,7 @@ use Rattle.std.specs.declared.cmp.Ordering.TheVariants.{Less, Equal, Greater}
 use Rattle.std.specs.Ordering.{ordering_then, nat_cmp, is_eq, is_gt, MatchOrdering}
 use Rattle.std.specs.Cmp.{ranks, unsigned_ties}
 use Rattle.pep440_version.specs.Order.{beside_zeros, zeros_beside, padded_cmp}
-use Rattle.pep440_version.specs.Changes.{raised, last_raised}
+use Rattle.pep440_text.specs.Releases.{raised, last_raised}
 use Rattle.pep440_specifier.specs.Matching.{begins_padded}
 use Rattle.pep440_range.proofs.Orderings.{neither_greater, last_not_greater, later_greater, and_true}
 use Rattle.pep440_range.proofs.Orderings.{mapped_from}

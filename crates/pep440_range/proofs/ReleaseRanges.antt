@@ -8,7 +8,7 @@ use Rattle.version_ranges.specs.Point.{At}
 use Rattle.pep440_version.specs.Record.{VersionRecord, release_record}
 use Rattle.pep440_version.specs.Order.{padded_cmp, version_cmp}
 use Rattle.pep440_version.specs.OrderLaws.{version_cmp_total}
-use Rattle.pep440_version.specs.Changes.{last_raised}
+use Rattle.pep440_text.specs.Releases.{last_raised}
 use Rattle.pep440_operator.specs.declared.operator.Operator.{Operator}
 use Rattle.pep440_operator.specs.declared.operator.Operator.TheVariants as operators
 use Rattle.pep440_specifier.specs.Matching.{begins_padded, without_last, same_release, matches}

@@ -7,7 +7,8 @@ use Rattle.std.specs.Ordering.{ordering_then, is_eq, is_lt, is_gt}
 use Rattle.std.specs.declared.ops.Bound.TheVariants.{Included, Excluded}
 use Rattle.version_ranges.specs.Point.{At}
 use Rattle.pep440_version.specs.Record.{VersionRecord}
-use Rattle.pep440_version.specs.Changes.{is_prerelease, raised}
+use Rattle.pep440_version.specs.Changes.{is_prerelease}
+use Rattle.pep440_text.specs.Releases.{raised}
 use Rattle.pep440_version.specs.Order.{version_cmp, key_cmp}
 use Rattle.pep440_version.specs.OrderLaws.{version_cmp_total}
 use Rattle.pep440_specifier.specs.Matching.{same_release}

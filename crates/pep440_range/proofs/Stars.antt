@@ -8,7 +8,7 @@ use Rattle.version_ranges.specs.Point.{At}
 use Rattle.pep440_version.specs.Record.{VersionRecord}
 use Rattle.pep440_version.specs.Order.{padded_cmp, version_cmp, key_cmp}
 use Rattle.pep440_version.specs.OrderLaws.{version_cmp_total}
-use Rattle.pep440_version.specs.Changes.{last_raised}
+use Rattle.pep440_text.specs.Releases.{last_raised}
 use Rattle.pep440_specifier.specs.Matching.{begins_padded, has_front, without_last}
 use Rattle.pep440_range.specs.Ranges.{PointTest, up_to, first_of, star_range, compatible_range}
 use Rattle.pep440_range.specs.Agreement.{IsSaid}

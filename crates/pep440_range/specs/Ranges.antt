@@ -11,7 +11,8 @@ use Rattle.version_ranges.specs.Point.{Point, At, point_cmp}
 use Rattle.version_ranges.specs.Held.{holds_at}
 use Rattle.version_ranges.specs.Bounds.{starts_by, goes_on_to, is_within}
 use Rattle.pep440_version.specs.Record.{VersionRecord, release_record, epoch_record}
-use Rattle.pep440_version.specs.Changes.{is_prerelease, raised, last_raised}
+use Rattle.pep440_version.specs.Changes.{is_prerelease}
+use Rattle.pep440_text.specs.Releases.{raised, last_raised}
 use Rattle.pep440_version.specs.Order.{version_cmp}
 use Rattle.pep440_operator.specs.declared.operator.Operator.{Operator}
 use Rattle.pep440_operator.specs.declared.operator.Operator.TheVariants.{Equal, EqualStar, ExactEqual}

@@ -1,7 +1,7 @@
 //! Release numbers that are raised by one.
 
 ghost use Rattle.std.specs.Prelude.{◌<◌, length, IfOk};
-ghost use Rattle.pep440_version.specs.Changes.{raised, last_raised};
+ghost use Rattle.pep440_text.specs.Releases.{raised, last_raised};
 ghost use Rattle.pep440_range.specs.Numbers.{Raises};
 
 use crate::RangeError;

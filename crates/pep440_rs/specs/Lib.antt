@@ -5,6 +5,7 @@ pub use Rattle.pep440_text.specs.Reading
 pub use Rattle.pep440_text.specs.Print
 pub use Rattle.pep440_text.specs.Printable
 pub use Rattle.pep440_text.specs.Faults
+pub use Rattle.pep440_text.specs.Releases
 pub use Rattle.pep440_version.specs.Order
 pub use Rattle.pep440_version.specs.Changes
 pub use Rattle.pep440_version.specs.PatternOrder

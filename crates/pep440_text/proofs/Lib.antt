@@ -7,7 +7,7 @@ pub mod Fronts
 pub mod FrontDigits
 pub mod Releases
 pub mod WordTables
-pub mod Suffixes
+pub mod SuffixTexts
 pub mod Parts
 pub mod Spans
 pub mod Locals
@@ -19,3 +19,4 @@ pub mod PrintedHeads
 pub mod Prints
 pub mod Cuts
 pub mod FirstNumber
+pub mod LastRaised

@@ -11,7 +11,7 @@ use Rattle.pep440_text.specs.Reading.{◌>>=◌, after_separator, marked_number_
 use Rattle.pep440_text.proofs.Fronts.{Ends, Whole, Broken, Reads, Absent, Present, Single}
 use Rattle.pep440_text.proofs.FrontDigits.{Small, ends_at, marked_reads, marked_single}
 use Rattle.pep440_text.proofs.WordTables.{AllLow, one_of_letters, pre_table, post_table, dev_table}
-use Rattle.pep440_text.proofs.Suffixes.{SmallSaid, suffix_inside, suffix_single, suffix_reads, digit_no_low}
+use Rattle.pep440_text.proofs.SuffixTexts.{SmallSaid, suffix_inside, suffix_single, suffix_reads, digit_no_low}
 
 -- ---- the value in another form
 

@@ -17,7 +17,7 @@ use Rattle.pep440_text.specs.Reading.{◌>>=◌, after_separator, leading_digits
 use Rattle.pep440_text.proofs.Fronts.{Ends, Whole, Broken}
 use Rattle.pep440_text.proofs.FrontDigits.{Small, NoDigit, digits_again, number_ends, number_of_ends}
 use Rattle.pep440_text.proofs.Parts.{SmallPre, as_pre}
-use Rattle.pep440_text.proofs.Suffixes.{none_here, digits_first}
+use Rattle.pep440_text.proofs.SuffixTexts.{none_here, digits_first}
 
 -- ---- a number's print
 

@@ -4,3 +4,5 @@ pub mod Text
 pub mod Reading
 pub mod Faults
 pub mod Printable
+pub mod Releases
+pub mod Kept

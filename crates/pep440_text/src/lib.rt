@@ -12,6 +12,8 @@ use std::alloc::{AllocError, AllocFailed, Global};
 pub mod laws;
 mod print;
 mod reading;
+pub mod release;
+pub mod suffixes;
 
 pub use reading::{read_pattern, read_version};
 

@@ -1,6 +1,5 @@
 -- What is asked of a version, and versions that stand to another one.
-use Rattle.std.specs.Prelude.{ℕ, ◌+◌, ◌^◌, ◌||◌, Bool, true, false, nat_lt, if◌then◌else◌, List, [], ◌∷◌, Option, Some, None, is_some}
-use Rattle.std.specs.Option.{option_map}
+use Rattle.std.specs.Prelude.{ℕ, ◌||◌, Bool, true, false, List, [], ◌∷◌, Some, is_some}
 use Rattle.pep440_text.specs.declared.PrereleaseKind.TheVariants.{Alpha}
 use Rattle.pep440_text.specs.Record.{Segment, VersionRecord, release_record}
 use Rattle.pep440_version.specs.Order.{stripped}
@@ -30,13 +29,3 @@ or_zero (number ∷ numbers) = number ∷ numbers
 -- the version without the zeros at its release's end, down to one number (PEP 440, "Final releases")
 abbrev pub without_end_zeros : VersionRecord → VersionRecord
 without_end_zeros version = record version { release = or_zero (stripped version.release) }
-
--- one more, where 64 bits hold it
-abbrev pub raised : ℕ → Option ℕ
-raised number = if nat_lt (number + 1) (2 ^ 64) then Some (number + 1) else None
-
--- release numbers, of which there is at least one, with the last of them raised
-abbrev pub last_raised : List ℕ → Option (List ℕ)
-last_raised [] = None
-last_raised (number ∷ []) = option_map (λ next. next ∷ []) (raised number)
-last_raised (number ∷ other ∷ numbers) = option_map (λ later. number ∷ later) (last_raised (other ∷ numbers))

@@ -5,8 +5,6 @@ pub use Rattle.pep440_text.specs.Print
 pub use Rattle.pep440_text.specs.Printable
 pub use Rattle.pep440_text.specs.Faults
 pub use Rattle.read_outcome.specs.Outcome
-pub mod Suffixes
-pub mod Releases
 pub mod Order
 pub mod Changes
 pub mod PatternOrder

@@ -10,9 +10,7 @@ mod parse_error;
 mod pattern;
 mod print;
 mod range_value;
-mod release;
 mod setters;
-mod suffixes;
 mod value;
 mod version;
 

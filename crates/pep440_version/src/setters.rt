@@ -3,11 +3,12 @@
 ghost use Rattle.std.specs.Prelude.{◌≡◌, ◌↔◌, ◌<◌, length, map, Some, None, IfOk, IsTrue};
 ghost use Rattle.std.specs.Option.{option_map};
 ghost use Rattle.pep440_text.specs.Record.{release_record, segment_of, without_local};
-ghost use Rattle.pep440_version.specs.Changes.{early_version, without_end_zeros, last_raised};
+ghost use Rattle.pep440_version.specs.Changes.{early_version, without_end_zeros};
+ghost use Rattle.pep440_text.specs.Releases.{last_raised};
 
 use crate::ordering::without_end_zeros;
-use crate::release::Release;
 use crate::{LocalSegment, Prerelease, PrereleaseKind, Version};
+use pep440_text::release::Release;
 use std::alloc::{AllocError, Global};
 
 impl Version {

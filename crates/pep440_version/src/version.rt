@@ -5,13 +5,13 @@ ghost use Rattle.pep440_text.specs.Record.{VersionRecord, release_record, said, 
 ghost use Rattle.read_outcome.specs.Outcome.{Answers};
 ghost use Rattle.pep440_version.specs.declared.parse_error.VersionParseError.TheVariants as errors;
 ghost use Rattle.pep440_version.specs.VersionReading.{NoLeadingNumber, version_reading, told_version};
-ghost use Rattle.pep440_version.specs.Releases.{numbers_of};
+ghost use Rattle.pep440_text.specs.Releases.{numbers_of};
 ghost use Rattle.pep440_version.specs.Changes.{is_prerelease, has_local, early_version};
 
-use crate::release::Release;
-use crate::suffixes::Suffixes;
 use crate::{LocalSegment, Prerelease, VersionParseError};
 use pep440_text::VersionParts;
+use pep440_text::release::Release;
+use pep440_text::suffixes::Suffixes;
 use std::alloc::{AllocError, Global};
 use std::marker::Model;
 
@@ -30,7 +30,7 @@ pub struct Version {
 impl Model for Version {
     ghost use Rattle.std.specs.Prelude.{◌<◌, length, map};
     ghost use Rattle.pep440_text.specs.Record.{VersionRecord, segment_of};
-    ghost use Rattle.pep440_version.specs.Releases.{numbers_of};
+    ghost use Rattle.pep440_text.specs.Releases.{numbers_of};
 
     ghost Value = { VersionRecord };
 

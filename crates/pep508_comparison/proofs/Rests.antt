@@ -6,7 +6,7 @@ use Rattle.std.specs.Option.{option_map, is_some}
 use Rattle.std.specs.List.{list_all}
 use Rattle.std.specs.declared.ops.Bound.TheVariants.{Included, Excluded}
 use Rattle.pep440_rs.specs.Record.{VersionRecord, release_record}
-use Rattle.pep440_rs.specs.Changes.{last_raised}
+use Rattle.pep440_rs.specs.Releases.{last_raised}
 use Rattle.pep440_rs.specs.Operators.{negated}
 use Rattle.pep440_rs.specs.Ranges.{PointTest, all_but, from_bound, to_bound, star_releases}
 use Rattle.pep440_operator.specs.declared.operator.Operator.{Operator}

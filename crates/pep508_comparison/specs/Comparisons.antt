@@ -8,7 +8,8 @@ use Rattle.std.specs.Option.{option_map, is_some}
 use Rattle.std.specs.declared.ops.Bound.TheVariants.{Included, Excluded}
 use Rattle.pep440_rs.specs.Record.{VersionRecord, release_record}
 use Rattle.pep440_rs.specs.Order.{stripped}
-use Rattle.pep440_rs.specs.Changes.{last_raised, or_zero}
+use Rattle.pep440_rs.specs.Changes.{or_zero}
+use Rattle.pep440_rs.specs.Releases.{last_raised}
 use Rattle.pep440_rs.specs.Matching.{SpecifierRecord}
 use Rattle.pep440_rs.specs.Ranges.{PointTest, at_version, from_bound, to_bound, all_but, range_holds}
 use Rattle.pep440_rs.specs.Ranges.{release_range_by, star_releases}

@@ -3,7 +3,8 @@
 ghost use Rattle.std.specs.Prelude.{◌≡◌, ◌<◌, length};
 ghost use Rattle.std.specs.List.{list_all};
 ghost use Rattle.pep440_rs.specs.Order.{stripped};
-ghost use Rattle.pep440_rs.specs.Changes.{or_zero, last_raised};
+ghost use Rattle.pep440_rs.specs.Changes.{or_zero};
+ghost use Rattle.pep440_rs.specs.Releases.{last_raised};
 ghost use Rattle.pep440_rs.specs.Numbers.{Raises};
 ghost use Rattle.pep508_comparison.specs.Comparisons.{minor_of, compared_numbers, is_zero};
 

@@ -1,7 +1,7 @@
 //! The suffixes of versions.
 
 ghost use Rattle.std.specs.Prelude.{◌≡◌};
-ghost use Rattle.pep440_version.specs.Suffixes.{kept, no_suffixes};
+ghost use Rattle.pep440_text.specs.Kept.{kept, no_suffixes};
 
 use crate::{Prerelease, PrereleaseKind};
 use std::marker::Model;
@@ -11,7 +11,7 @@ use std::marker::Model;
 /// The numbers lie side by side, and whether each is there is told behind them all: five `Option`s would take
 /// 40 bytes more, and a list of candidates is mostly versions.
 #[derive(Drop)]
-pub(crate) struct Suffixes {
+pub struct Suffixes {
     pre_number: u64,
     post_number: u64,
     dev_number: u64,
@@ -25,7 +25,7 @@ pub(crate) struct Suffixes {
 }
 
 impl Model for Suffixes {
-    ghost use Rattle.pep440_version.specs.Suffixes.{SuffixRecord, kept, kept_pre};
+    ghost use Rattle.pep440_text.specs.Kept.{SuffixRecord, kept, kept_pre};
 
     ghost Value = { SuffixRecord };
 
@@ -40,7 +40,7 @@ impl Model for Suffixes {
 
 impl Suffixes {
     /// None of them.
-    pub(crate) fn absent() -> Suffixes
+    pub fn absent() -> Suffixes
         ensures { result ≡ no_suffixes }
     {
         Suffixes {
@@ -58,7 +58,7 @@ impl Suffixes {
     }
 
     /// These suffixes, and no marks.
-    pub(crate) fn new(pre: Option<Prerelease>, post: Option<u64>, dev: Option<u64>) -> Suffixes
+    pub fn new(pre: Option<Prerelease>, post: Option<u64>, dev: Option<u64>) -> Suffixes
         ensures { result ≡ record no_suffixes { pre = pre; post = post; dev = dev } }
     {
         let mut suffixes = Suffixes::absent();
@@ -68,7 +68,7 @@ impl Suffixes {
         suffixes
     }
 
-    pub(crate) fn copied(&self) -> Suffixes
+    pub fn copied(&self) -> Suffixes
         ensures { result ≡ self.now }
     {
         Suffixes {
@@ -85,7 +85,7 @@ impl Suffixes {
         }
     }
 
-    pub(crate) fn pre(&self) -> Option<Prerelease>
+    pub fn pre(&self) -> Option<Prerelease>
         ensures { result ≡ self.now.pre }
     {
         match self.pre_kind {
@@ -97,31 +97,31 @@ impl Suffixes {
         }
     }
 
-    pub(crate) fn post(&self) -> Option<u64>
+    pub fn post(&self) -> Option<u64>
         ensures { result ≡ self.now.post }
     {
         number_where(self.has_post, self.post_number)
     }
 
-    pub(crate) fn dev(&self) -> Option<u64>
+    pub fn dev(&self) -> Option<u64>
         ensures { result ≡ self.now.dev }
     {
         number_where(self.has_dev, self.dev_number)
     }
 
-    pub(crate) fn least(&self) -> Option<u64>
+    pub fn least(&self) -> Option<u64>
         ensures { result ≡ self.now.least }
     {
         number_where(self.has_least, self.least_number)
     }
 
-    pub(crate) fn most(&self) -> Option<u64>
+    pub fn most(&self) -> Option<u64>
         ensures { result ≡ self.now.most }
     {
         number_where(self.has_most, self.most_number)
     }
 
-    pub(crate) fn set_pre(&mut self, pre: Option<Prerelease>)
+    pub fn set_pre(&mut self, pre: Option<Prerelease>)
         ensures { self.new ≡ record self.old { pre = pre } }
     {
         match pre {
@@ -133,28 +133,28 @@ impl Suffixes {
         }
     }
 
-    pub(crate) fn set_post(&mut self, post: Option<u64>)
+    pub fn set_post(&mut self, post: Option<u64>)
         ensures { self.new ≡ record self.old { post = post } }
     {
         self.has_post = post.is_some();
         self.post_number = post.unwrap_or(0);
     }
 
-    pub(crate) fn set_dev(&mut self, dev: Option<u64>)
+    pub fn set_dev(&mut self, dev: Option<u64>)
         ensures { self.new ≡ record self.old { dev = dev } }
     {
         self.has_dev = dev.is_some();
         self.dev_number = dev.unwrap_or(0);
     }
 
-    pub(crate) fn set_least(&mut self, least: Option<u64>)
+    pub fn set_least(&mut self, least: Option<u64>)
         ensures { self.new ≡ record self.old { least = least } }
     {
         self.has_least = least.is_some();
         self.least_number = least.unwrap_or(0);
     }
 
-    pub(crate) fn set_most(&mut self, most: Option<u64>)
+    pub fn set_most(&mut self, most: Option<u64>)
         ensures { self.new ≡ record self.old { most = most } }
     {
         self.has_most = most.is_some();

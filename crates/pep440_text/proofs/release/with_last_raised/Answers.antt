@@ -1,8 +1,8 @@
 use Rattle.std.proofs.Common.{Vec, Global, ◌≡◌, ℕ, Some, None, ap, sym, ◌∙◌}
 use Rattle.std.specs.Option.{option_map}
-use Rattle.pep440_version.specs.Changes.{raised}
-use Rattle.pep440_version.proofs.Releases.{raised_last}
-use Rattle.pep440_version.proofs.release.with_last_raised.Goals as goal
+use Rattle.pep440_text.specs.Releases.{raised}
+use Rattle.pep440_text.proofs.LastRaised.{raised_last}
+use Rattle.pep440_text.proofs.release.with_last_raised.Goals as goal
 
 pub returns-in_err-next-clause-raised : goal.returns-in_err-next-clause-raised
 returns-in_err-next-clause-raised c =

@@ -2,14 +2,13 @@
 
 ghost use Rattle.std.specs.Prelude.{◌≡◌, ◌<◌, length, take, IfOk, IfSome};
 ghost use Rattle.std.specs.Option.{option_map};
-ghost use Rattle.pep440_version.specs.Changes.{raised, last_raised};
-ghost use Rattle.pep440_version.specs.Releases.{numbers_of};
+ghost use Rattle.pep440_text.specs.Releases.{numbers_of, raised, last_raised};
 
 use std::alloc::{AllocError, Global};
 
 /// Release numbers: up to three in their place, as most releases have, and more in memory of their own.
 #[derive(Drop)]
-pub(crate) enum Release {
+pub enum Release {
     One([u64; 1]),
     Two([u64; 2]),
     Three([u64; 3]),
@@ -30,7 +29,7 @@ fn few(numbers: &[u64]) -> Option<Release>
 
 impl Release {
     /// These numbers. Takes memory for more than three.
-    pub(crate) fn from_slice(alloc: Global, numbers: &[u64]) -> Result<Release, AllocError>
+    pub fn from_slice(alloc: Global, numbers: &[u64]) -> Result<Release, AllocError>
         ensures { IfOk result (λ release. numbers_of release ≡ numbers.now) }
     {
         match few(numbers) {
@@ -40,7 +39,7 @@ impl Release {
     }
 
     /// These numbers, whose memory is let go of where they are few.
-    pub(crate) fn from_vec(numbers: Vec<u64>) -> Release
+    pub fn from_vec(numbers: Vec<u64>) -> Release
         ensures { numbers_of result ≡ numbers.items }
     {
         match few(&numbers) {
@@ -49,7 +48,7 @@ impl Release {
         }
     }
 
-    pub(crate) fn numbers(&self) -> &[u64]
+    pub fn numbers(&self) -> &[u64]
         ensures { result.now ≡ numbers_of self.now }
     {
         match self {
@@ -61,7 +60,7 @@ impl Release {
     }
 
     /// The first of the numbers, so many or all.
-    pub(crate) fn truncated(self, count: usize) -> Release
+    pub fn truncated(self, count: usize) -> Release
         requires { 0 < count }
         ensures { numbers_of result ≡ take count (numbers_of self) }
     {
@@ -90,7 +89,7 @@ impl Release {
     }
 
     /// With the last number raised by one, where 64 bits hold that.
-    pub(crate) fn with_last_raised(self) -> Option<Release>
+    pub fn with_last_raised(self) -> Option<Release>
         ensures raised { option_map numbers_of result ≡ last_raised (numbers_of self) }
         ensures some { IfSome result (λ release. 0 < length (numbers_of release)) }
     {
