@@ -2,7 +2,7 @@
 use Rattle.std.proofs.Common.{◌≡◌, ◌∙◌, ℕ, List, [], ◌∷◌, ◌++◌, Some, Err, refl, ap}
 use Rattle.std.specs.Option.{option_map}
 use Rattle.pep440_text.specs.Releases.{raised, last_raised}
-use Rattle.pep440_version.proofs.Releases.{raised_last}
+use Rattle.pep440_text.proofs.LastRaised.{raised_last}
 use Rattle.pep440_range.specs.declared.range_error.RangeError.{RangeError}
 use Rattle.pep440_range.specs.declared.range_error.RangeError.TheVariants.{NumberAtEnd, Memory}
 use Rattle.pep440_range.specs.Numbers.{Raises}
