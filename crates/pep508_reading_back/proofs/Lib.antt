@@ -9,3 +9,4 @@ pub mod Dotless
 pub mod Requirements
 pub mod ReadRequirements
 pub mod Views
+pub mod SortedLists

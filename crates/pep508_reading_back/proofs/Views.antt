@@ -5,6 +5,7 @@ use Rattle.pep508_diagram.specs.Diagram.{Leaf}
 use Rattle.pep508_diagram.specs.Question.{Valuation, truth, IsCanonical}
 use Rattle.pep508_error.specs.declared.error.Pep508Error.{Pep508Error}
 use Rattle.pep440_specifier.specs.Matching.{SpecifierRecord}
+use Rattle.pep440_specifier_list.specs.Lists.{IsByVersion}
 use Rattle.pep508_reading_back.specs.Diagrams.{IsReadableDiagram}
 use Rattle.pep508_error.specs.declared.error.Pep508ErrorSource.{Pep508ErrorSource}
 use Rattle.pep508_error.specs.declared.error.Pep508ErrorSource.TheVariants as sources
@@ -25,6 +26,7 @@ use Rattle.pep508_reading_back.specs.ReadableRequirements.{IsReadableFront, IsRe
 use Rattle.pep508_reading_back.specs.Views.{AsksAgain, IsReadableAsked, IsReadableView, IsWantOfMemory, ReadsBack}
 use Rattle.pep508_reading_back.proofs.ReadRequirements.{WrittenIsRead, one_answer, printed_read}
 use Rattle.pep508_reading_back.proofs.Requirements.{requirement_read}
+use Rattle.pep508_reading_back.proofs.SortedLists.{in_order_again}
 use Rattle.pep508_tree.specs.Meaning.{NodeRecord, holds}
 use Rattle.pep508_tree_ref.specs.Lent.{tree_in}
 use Rattle.pep508_tree_ref.specs.TreeIn.{diagram_in}
@@ -76,12 +78,12 @@ nothing_again : {T E : Type 0} (Reads : List ℕ → Result T E → Type 0) (oth
 nothing_again Reads None h = tt
 nothing_again Reads (Some other) h = h
 
-specifiers_again : {T E : Type 0} (Reads : List ℕ → Result T E → Type 0) (list : List SpecifierRecord)
-    (other : Option (VersionOrUrl T E)) → AsksFor Reads (Specifiers list) other
+specifiers_again : {T E : Type 0} (Reads : List ℕ → Result T E → Type 0) (list : List SpecifierRecord) →
+    IsByVersion list → (other : Option (VersionOrUrl T E)) → AsksFor Reads (Specifiers list) other
     → AsksAgain (Some (asked.VersionSpecifier list)) other
-specifiers_again Reads list None h = h
-specifiers_again Reads list (Some (asked.Url url)) h = h
-specifiers_again Reads list (Some (asked.VersionSpecifier other)) h = h
+specifiers_again Reads list sorted None h = h
+specifiers_again Reads list sorted (Some (asked.Url url)) h = h
+specifiers_again Reads list sorted (Some (asked.VersionSpecifier other)) h = sym (in_order_again list other sorted h)
 
 -- what is read, by what was asked for
 abbrev SaysAt : {T E : Type 0} → List NodeRecord → RequirementRef T E → Option (VersionOrUrl T E)
@@ -134,7 +136,7 @@ by_asked Reads lacks vars nodes written taken output shown None n ns a c g k tex
 by_asked Reads lacks vars nodes written taken output shown (Some (asked.VersionSpecifier list)) n ns a c g k text e
     result h =
     by_front Reads lacks vars nodes written taken shown (Some (asked.VersionSpecifier list)) (Specifiers list)
-    (specifiers_again Reads list) (record { is_name = n; are_names = ns; is_source = a }) c g k text
+    (specifiers_again Reads list a.1) (record { is_name = n; are_names = ns; is_source = (a.0, a.2) }) c g k text
     (the_text _ text e) result h
 by_asked Reads lacks vars nodes written taken output shown (Some (asked.Url url)) n ns a c g k text e result h =
     absurd a
