@@ -10,3 +10,4 @@ pub mod Requirements
 pub mod ReadRequirements
 pub mod Views
 pub mod SortedLists
+pub mod ReadFronts

@@ -3,3 +3,4 @@ pub mod Clauses
 pub mod Diagrams
 pub mod ReadableRequirements
 pub mod Views
+pub mod ReadViews
