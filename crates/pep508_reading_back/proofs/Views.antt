@@ -6,7 +6,8 @@ use Rattle.pep508_diagram.specs.Question.{Valuation, truth, IsCanonical}
 use Rattle.pep508_error.specs.declared.error.Pep508Error.{Pep508Error}
 use Rattle.pep440_specifier.specs.Matching.{SpecifierRecord}
 use Rattle.pep440_specifier_list.specs.Lists.{IsByVersion}
-use Rattle.pep508_reading_back.specs.Diagrams.{IsReadableDiagram}
+use Rattle.pep508_marker_read.specs.MarkerOutcome.{IsTreeOf}
+use Rattle.pep508_reading_back.specs.Diagrams.{SaysDiagram}
 use Rattle.pep508_error.specs.declared.error.Pep508ErrorSource.{Pep508ErrorSource}
 use Rattle.pep508_error.specs.declared.error.Pep508ErrorSource.TheVariants as sources
 use Rattle.pep508_marker_read.specs.MarkerReading.{Marker}
@@ -24,7 +25,7 @@ use Rattle.pep508_requirement_ref.specs.Views.{printed, source_of}
 use Rattle.pep508_requirement_ref.specs.declared.requirement_ref.RequirementRef.{RequirementRef}
 use Rattle.pep508_reading_back.specs.ReadableRequirements.{IsReadableFront, IsReadableSource}
 use Rattle.pep508_reading_back.specs.Views.{AsksAgain, IsReadableAsked, IsReadableView, IsWantOfMemory, ReadsBack}
-use Rattle.pep508_reading_back.proofs.ReadRequirements.{WrittenIsRead, one_answer, printed_read}
+use Rattle.pep508_reading_back.proofs.ReadRequirements.{WrittenIsRead, one_answer, written_again}
 use Rattle.pep508_reading_back.proofs.Requirements.{requirement_read}
 use Rattle.pep508_reading_back.proofs.SortedLists.{in_order_again}
 use Rattle.pep508_tree.specs.Meaning.{NodeRecord, holds}
@@ -85,66 +86,97 @@ specifiers_again Reads list sorted None h = h
 specifiers_again Reads list sorted (Some (asked.Url url)) h = h
 specifiers_again Reads list sorted (Some (asked.VersionSpecifier other)) h = sym (in_order_again list other sorted h)
 
--- what is read, by what was asked for
-abbrev SaysAt : {T E : Type 0} → List NodeRecord → RequirementRef T E → Option (VersionOrUrl T E)
-    → Result (Requirement T E) (Pep508Error T E) → Type 0
-SaysAt nodes shown what (Ok r) =
+-- what is read, by what was asked for: a tree of a marker of which this is said
+abbrev pub SaysAt : {T E : Type 0} → List NodeRecord → RequirementRef T E → (Marker → Type 0)
+    → Option (VersionOrUrl T E) → Result (Requirement T E) (Pep508Error T E) → Type 0
+SaysAt nodes shown Said what (Ok r) =
     (r.name ≡ shown.name.now) × (r.extras.items ≡ shown.extras.now) × AsksAgain what r.version_or_url
-    × ((v : Valuation) → holds nodes r.marker v ≡ truth (diagram_in (tree_in shown.marker)) v)
-SaysAt nodes shown what (Err error) = IsWantOfMemory error.message
+    × (marker : Marker) × Said marker × IsTreeOf nodes r.marker marker.formula
+SaysAt nodes shown Said what (Err error) = IsWantOfMemory error.message
+
+-- the text of a front and a marker is that of one of which this is said
+abbrev pub MakesMarker : Option (List ℕ) → (Marker → Type 0) → Type 0
+MakesMarker text Said =
+    (front : Front) → IsReadableFront front
+    → (marker : Marker) × IsMarkedText (requirement_text front text) front marker × Said marker
 
 by_front : {T E : Type 0} (Reads : List ℕ → Result T E → Type 0) (lacks : E → Bool) (vars : Variables)
     (nodes : List NodeRecord) (written : WrittenIsRead) (taken : WrittenIsTaken Reads lacks vars)
     (shown : RequirementRef T E) (what : Option (VersionOrUrl T E)) (source : Source) →
     ((other : Option (VersionOrUrl T E)) → AsksFor Reads source other → AsksAgain what other) →
-    IsReadableFront (shown_front shown source) → IsCanonical (diagram_in (tree_in shown.marker)) →
-    IsReadableDiagram (diagram_in (tree_in shown.marker)) → diagram_in (tree_in shown.marker) ≢ Leaf false →
-    (text : List ℕ) → requirement_text (shown_front shown source) (marker_text (diagram_in (tree_in shown.marker))) ≡ text →
+    IsReadableSource source → (Said : Marker → Type 0) (marker : Marker) → Said marker →
+    (text : List ℕ) → IsMarkedText text (shown_front shown source) marker →
     (result : Result (Requirement T E) (Pep508Error T E)) →
-    ReadsRequirement Reads lacks vars nodes text result → SaysAt nodes shown what result
-by_front Reads lacks vars nodes written taken shown what source same good canonical readable k text e (Ok r) h =
-    let front = shown_front shown source in
-    let d = diagram_in (tree_in shown.marker) in
-    let whole = requirement_read front d good canonical readable k in
-    let said = printed_read written Reads nodes (requirement_text front (marker_text d)) front d r whole
-    (subst (λ t. IsRead Reads nodes t r) (sym e) h) in
-    (said.0, said.1, same r.version_or_url said.2, said.3)
-by_front Reads lacks vars nodes written taken shown what source same good canonical readable k text e (Err error) h =
-    let front = shown_front shown source in
-    let d = diagram_in (tree_in shown.marker) in
-    let whole = requirement_read front d good canonical readable k in
-    wants_memory Reads lacks vars written taken text front whole.0 good.is_source
-    (subst (λ t. IsMarkedText t front whole.0) e whole.1) error.message h.cause
+    ReadsRequirement Reads lacks vars nodes text result → SaysAt nodes shown Said what result
+by_front Reads lacks vars nodes written taken shown what source same good Said marker says text m (Ok r) h =
+    let again = written_again written Reads nodes text (shown_front shown source) marker r m h in
+    (again.0, again.1, same r.version_or_url again.2, marker, says, again.3)
+by_front Reads lacks vars nodes written taken shown what source same good Said marker says text m (Err error) h =
+    wants_memory Reads lacks vars written taken text (shown_front shown source) marker good m error.message h.cause
 
 the_text : (text other : List ℕ) → Some text ≡ Some other → text ≡ other
 the_text text other e = cc
 
+by_source : {T E : Type 0} (Reads : List ℕ → Result T E → Type 0) (lacks : E → Bool) (vars : Variables)
+    (nodes : List NodeRecord) (written : WrittenIsRead) (taken : WrittenIsTaken Reads lacks vars)
+    (shown : RequirementRef T E) (what : Option (VersionOrUrl T E)) (source : Source) →
+    ((other : Option (VersionOrUrl T E)) → AsksFor Reads source other → AsksAgain what other) →
+    IsReadableFront (shown_front shown source) → (behind : Option (List ℕ)) (Said : Marker → Type 0) →
+    MakesMarker behind Said → (text : List ℕ) →
+    Some (requirement_text (shown_front shown source) behind) ≡ Some text →
+    (result : Result (Requirement T E) (Pep508Error T E)) →
+    ReadsRequirement Reads lacks vars nodes text result → SaysAt nodes shown Said what result
+by_source Reads lacks vars nodes written taken shown what source same good behind Said makes text e result h =
+    let front = shown_front shown source in
+    let made = makes front good in
+    by_front Reads lacks vars nodes written taken shown what source same good.is_source Said made.0 made.2 text
+    (subst (λ t. IsMarkedText t front made.0) (the_text (requirement_text front behind) text e) made.1) result h
+
+-- names in normal form, and no URL
+pub record IsReadableShown {T E : Type 0} (shown : RequirementRef T E) (what : Option (VersionOrUrl T E)) : Type 0 where
+  pub name : name_of shown.name.now ≡ Some shown.name.now
+  pub extras : AllByRecursion (λ name. name_of name ≡ Some name) shown.extras.now
+  pub asked : IsReadableAsked what
+
 by_asked : {T E : Type 0} (Reads : List ℕ → Result T E → Type 0) (lacks : E → Bool) (vars : Variables)
     (nodes : List NodeRecord) (written : WrittenIsRead) (taken : WrittenIsTaken Reads lacks vars)
     (output : T → Option (List ℕ)) (shown : RequirementRef T E) (what : Option (VersionOrUrl T E)) →
-    name_of shown.name.now ≡ Some shown.name.now →
-    AllByRecursion (λ name. name_of name ≡ Some name) shown.extras.now → IsReadableAsked what →
-    IsCanonical (diagram_in (tree_in shown.marker)) → IsReadableDiagram (diagram_in (tree_in shown.marker)) →
-    diagram_in (tree_in shown.marker) ≢ Leaf false → (text : List ℕ) →
-    option_map (λ front. requirement_text front (marker_text (diagram_in (tree_in shown.marker))))
-    (option_map (shown_front shown) (source_of output what)) ≡ Some text →
+    IsReadableShown shown what → (behind : Option (List ℕ)) (Said : Marker → Type 0) → MakesMarker behind Said →
+    (text : List ℕ) →
+    option_map (λ front. requirement_text front behind) (option_map (shown_front shown) (source_of output what))
+    ≡ Some text →
     (result : Result (Requirement T E) (Pep508Error T E)) →
-    ReadsRequirement Reads lacks vars nodes text result → SaysAt nodes shown what result
-by_asked Reads lacks vars nodes written taken output shown None n ns a c g k text e result h =
-    by_front Reads lacks vars nodes written taken shown None Any (nothing_again Reads)
-    (record { is_name = n; are_names = ns; is_source = tt }) c g k text (the_text _ text e) result h
-by_asked Reads lacks vars nodes written taken output shown (Some (asked.VersionSpecifier list)) n ns a c g k text e
-    result h =
-    by_front Reads lacks vars nodes written taken shown (Some (asked.VersionSpecifier list)) (Specifiers list)
-    (specifiers_again Reads list a.1) (record { is_name = n; are_names = ns; is_source = (a.0, a.2) }) c g k text
-    (the_text _ text e) result h
-by_asked Reads lacks vars nodes written taken output shown (Some (asked.Url url)) n ns a c g k text e result h =
-    absurd a
+    ReadsRequirement Reads lacks vars nodes text result → SaysAt nodes shown Said what result
+by_asked Reads lacks vars nodes written taken output shown None good behind Said makes text e result h =
+    by_source Reads lacks vars nodes written taken shown None Any (nothing_again Reads)
+    (record { is_name = good.name; are_names = good.extras; is_source = tt }) behind Said makes text e result h
+by_asked Reads lacks vars nodes written taken output shown (Some (asked.VersionSpecifier list)) good behind Said makes
+    text e result h =
+    by_source Reads lacks vars nodes written taken shown (Some (asked.VersionSpecifier list)) (Specifiers list)
+    (specifiers_again Reads list good.asked.1)
+    (record { is_name = good.name; are_names = good.extras; is_source = (good.asked.0, good.asked.2) })
+    behind Said makes text e result h
+by_asked Reads lacks vars nodes written taken output shown (Some (asked.Url url)) good behind Said makes text e result
+    h = absurd good.asked
+
+-- what is printed before and with a marker's text is read again
+pub shown_again : {T E : Type 0} (Reads : List ℕ → Result T E → Type 0) (lacks : E → Bool) (vars : Variables)
+    (nodes : List NodeRecord) (written : WrittenIsRead) (taken : WrittenIsTaken Reads lacks vars)
+    (output : T → Option (List ℕ)) (shown : RequirementRef T E) →
+    IsReadableShown shown shown.version_or_url.now → (Said : Marker → Type 0) →
+    MakesMarker (marker_text (diagram_in (tree_in shown.marker))) Said → (text : List ℕ) →
+    printed output shown ≡ Some text → (result : Result (Requirement T E) (Pep508Error T E)) →
+    ReadsRequirement Reads lacks vars nodes text result → SaysAt nodes shown Said shown.version_or_url.now result
+shown_again Reads lacks vars nodes written taken output shown good Said makes text e result h =
+    by_asked Reads lacks vars nodes written taken output shown shown.version_or_url.now good
+    (marker_text (diagram_in (tree_in shown.marker))) Said makes text e result h
 
 said_back : {T E : Type 0} (nodes : List NodeRecord) (shown : RequirementRef T E)
     (result : Result (Requirement T E) (Pep508Error T E)) →
-    SaysAt nodes shown shown.version_or_url.now result → ReadsBack nodes shown result
-said_back nodes shown (Ok r) h = record { name = h.0; extras = h.1; asks = h.2; marker = h.3 }
+    SaysAt nodes shown (SaysDiagram (diagram_in (tree_in shown.marker))) shown.version_or_url.now result →
+    ReadsBack nodes shown result
+said_back nodes shown (Ok r) h =
+    record { name = h.0; extras = h.1; asks = h.2; marker = λ v. h.5.truth v ∙ h.4 v }
 said_back nodes shown (Err error) h = h
 
 pub view_reads_back : {T E : Type 0} (Reads : List ℕ → Result T E → Type 0) (lacks : E → Bool) (vars : Variables)
@@ -154,6 +186,8 @@ pub view_reads_back : {T E : Type 0} (Reads : List ℕ → Result T E → Type 0
     (result : Result (Requirement T E) (Pep508Error T E)) →
     ReadsRequirement Reads lacks vars nodes text result → ReadsBack nodes shown result
 view_reads_back Reads lacks vars nodes written taken output shown c good text e result h =
+    let d = diagram_in (tree_in shown.marker) in
     said_back nodes shown result
-    (by_asked Reads lacks vars nodes written taken output shown shown.version_or_url.now good.name good.extras
-    good.asked c good.marker good.sometimes text e result h)
+    (shown_again Reads lacks vars nodes written taken output shown
+    (record { name = good.name; extras = good.extras; asked = good.asked }) (SaysDiagram d)
+    (λ front readable. requirement_read front d readable c good.marker good.sometimes) text e result h)
