@@ -11,3 +11,4 @@ pub mod ReadRequirements
 pub mod Views
 pub mod SortedLists
 pub mod ReadFronts
+pub mod ReadViews

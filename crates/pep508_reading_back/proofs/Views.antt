@@ -1,8 +1,7 @@
 -- What a requirement with its interner prints is read as what it shows.
-use Rattle.std.proofs.Common.{◌≡◌, ◌≢◌, ℕ, Bool, false, List, Option, Some, None, Result, Ok, Err, option_map, ap, sym, subst, ◌∙◌}
+use Rattle.std.proofs.Common.{◌≡◌, ℕ, Bool, List, Option, Some, None, Result, Ok, Err, option_map, ap, sym, subst, ◌∙◌}
 use Rattle.std.specs.List.{AllByRecursion}
-use Rattle.pep508_diagram.specs.Diagram.{Leaf}
-use Rattle.pep508_diagram.specs.Question.{Valuation, truth, IsCanonical}
+use Rattle.pep508_diagram.specs.Question.{IsCanonical}
 use Rattle.pep508_error.specs.declared.error.Pep508Error.{Pep508Error}
 use Rattle.pep440_specifier.specs.Matching.{SpecifierRecord}
 use Rattle.pep440_specifier_list.specs.Lists.{IsByVersion}
@@ -18,7 +17,7 @@ use Rattle.pep508_requirement_text.specs.FrontReading.Source.{Any, Specifiers, U
 use Rattle.pep508_requirement.specs.declared.requirement.Requirement.{Requirement}
 use Rattle.pep508_requirement.specs.declared.version_or_url.VersionOrUrl.{VersionOrUrl}
 use Rattle.pep508_requirement.specs.declared.version_or_url.VersionOrUrl.TheVariants as asked
-use Rattle.pep508_requirement.specs.RequirementReading.{AsksFor, IsRead, RefusedBy, ReadsRequirement}
+use Rattle.pep508_requirement.specs.RequirementReading.{AsksFor, RefusedBy, ReadsRequirement}
 use Rattle.pep508_requirement.specs.RequirementText.{IsMarkedText, IsOfText}
 use Rattle.pep508_requirement_ref.specs.RequirementPrint.{requirement_text}
 use Rattle.pep508_requirement_ref.specs.Views.{printed, source_of}
@@ -28,7 +27,7 @@ use Rattle.pep508_reading_back.specs.Views.{AsksAgain, IsReadableAsked, IsReadab
 use Rattle.pep508_reading_back.proofs.ReadRequirements.{WrittenIsRead, one_answer, written_again}
 use Rattle.pep508_reading_back.proofs.Requirements.{requirement_read}
 use Rattle.pep508_reading_back.proofs.SortedLists.{in_order_again}
-use Rattle.pep508_tree.specs.Meaning.{NodeRecord, holds}
+use Rattle.pep508_tree.specs.Meaning.{NodeRecord}
 use Rattle.pep508_tree_ref.specs.Lent.{tree_in}
 use Rattle.pep508_tree_ref.specs.TreeIn.{diagram_in}
 use Rattle.pep508_url.specs.Vars.{Variables}
