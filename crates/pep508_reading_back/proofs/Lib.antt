@@ -12,3 +12,4 @@ pub mod Views
 pub mod SortedLists
 pub mod ReadFronts
 pub mod ReadViews
+pub mod Matters

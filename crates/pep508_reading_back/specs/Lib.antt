@@ -4,3 +4,5 @@ pub mod Diagrams
 pub mod ReadableRequirements
 pub mod Views
 pub mod ReadViews
+pub mod Questions
+pub mod Asked

@@ -21,6 +21,8 @@ ghost use Rattle.pep508_tree.specs.Meaning.{NodeRecord, holds};
 ghost use Rattle.pep508_requirement.specs.RequirementReading.{AsksFor, IsRead};
 ghost use Rattle.pep508_requirement.specs.RequirementReading as reading;
 ghost use Rattle.pep508_reading_back.specs.Views.{IsReadableView, ReadsBack};
+ghost use Rattle.pep508_reading_back.specs.Asked.{AnswerAlike, IsAmong};
+ghost use Rattle.pep508_reading_back.specs.Questions.{AllQuestions};
 
 use pep508_requirement::laws::{
     a_written_requirement_is_not_refused, a_written_requirement_is_read,
@@ -96,3 +98,11 @@ pub fn a_printed_view_reads_back<'a, T: Pep508Url>(shown: &RequirementRef<'a, T>
     a_written_requirement_is_read();
     a_written_requirement_is_not_refused::<T>();
 }
+
+/// A marker whose truth some questions settle asks these questions alone, up to the spelling of equal
+/// versions.
+pub fn a_marker_asks_what_its_meaning_asks()
+    ensures { (asked : List Question) (diagram : Diagram Question) → IsCanonical diagram
+        → ((v w : Valuation) → AnswerAlike asked v w → truth diagram v ≡ truth diagram w)
+        → AllQuestions (IsAmong asked) diagram }
+{}
