@@ -21,11 +21,15 @@ ghost use Rattle.pep508_tree.specs.Meaning.{NodeRecord, holds};
 ghost use Rattle.pep508_requirement.specs.RequirementReading.{AsksFor, IsRead};
 ghost use Rattle.pep508_requirement.specs.RequirementReading as reading;
 ghost use Rattle.pep508_reading_back.specs.Views.{IsReadableView, ReadsBack};
+ghost use Rattle.pep508_reading_back.specs.ReadViews.{AsksNoUrl, IsOfMarker, KeepsFront, ShowsRead};
+ghost use Rattle.pep508_tree_ref.specs.Lent.{tree_in};
+ghost use Rattle.pep508_tree_ref.specs.TreeIn.{diagram_in};
 ghost use Rattle.pep508_reading_back.specs.Asked.{AnswerAlike, IsAmong};
 ghost use Rattle.pep508_reading_back.specs.Questions.{AllQuestions};
 
 use pep508_requirement::laws::{
-    a_written_requirement_is_not_refused, a_written_requirement_is_read,
+    a_read_requirement_is_written, a_written_requirement_is_not_refused,
+    a_written_requirement_is_read,
 };
 use pep508_requirement_ref::RequirementRef;
 use pep508_url::Pep508Url;
@@ -106,3 +110,20 @@ pub fn a_marker_asks_what_its_meaning_asks()
         → ((v w : Valuation) → AnswerAlike asked v w → truth diagram v ≡ truth diagram w)
         → AllQuestions (IsAmong asked) diagram }
 {}
+
+/// What a requirement that was read without a URL prints with its interner is read by `Requirement::parse` with
+/// any interner, unless memory runs out, with its name, its extras and its specifiers: where the text of its
+/// marker is that of a marker.
+pub fn a_read_requirement_reads_back<'a, T: Pep508Url>(shown: &RequirementRef<'a, T>)
+    ensures { (vars others : Variables) (directory other : Option (List ℕ)) (given text : List ℕ)
+        (nodes : List NodeRecord) (answer : _) → ShowsRead (λ url. T.reads vars url directory) given shown.now
+        → AsksNoUrl shown.now.version_or_url.now
+        → IsOfMarker (marker_text (diagram_in (tree_in shown.now.marker)))
+        → ⟦<RequirementRef<'a, T> as fmt::Display>⟧.output shown.now ≡ Some text
+        → reading.ReadsRequirement (λ url. T.reads others url other) T.lacks_memory others nodes text answer
+        → KeepsFront shown.now answer }
+{
+    a_read_requirement_is_written::<T>();
+    a_written_requirement_is_read();
+    a_written_requirement_is_not_refused::<T>();
+}
