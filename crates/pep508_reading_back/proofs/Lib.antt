@@ -9,3 +9,6 @@ pub mod Dotless
 pub mod Requirements
 pub mod ReadRequirements
 pub mod Views
+pub mod ToldPoints
+pub mod ToldRanges
+pub mod ToldAnswers

@@ -20,6 +20,10 @@ ghost use Rattle.pep508_url.specs.Vars.{Variables};
 ghost use Rattle.pep508_tree.specs.Meaning.{NodeRecord, holds};
 ghost use Rattle.pep508_requirement.specs.RequirementReading.{AsksFor, IsRead};
 ghost use Rattle.pep508_requirement.specs.RequirementReading as reading;
+ghost use Rattle.pep508_marker_read.specs.Formula.{Formula, formula_holds};
+ghost use Rattle.pep508_expression.specs.Expressions.{expression_holds};
+ghost use Rattle.pep508_reading_back.specs.Asked.{AnswerAlike};
+ghost use Rattle.pep508_reading_back.specs.Told.{questions_of};
 ghost use Rattle.pep508_reading_back.specs.Views.{IsReadableView, ReadsBack};
 
 use pep508_requirement::laws::{
@@ -96,3 +100,9 @@ pub fn a_printed_view_reads_back<'a, T: Pep508Url>(shown: &RequirementRef<'a, T>
     a_written_requirement_is_read();
     a_written_requirement_is_not_refused::<T>();
 }
+
+/// Scratch.
+pub fn scratch_asked()
+    ensures { (f : Formula ExpressionRecord) (v w : Valuation) → AnswerAlike (questions_of f) v w →
+        formula_holds (λ t. expression_holds t v) f ≡ formula_holds (λ t. expression_holds t w) f }
+{}
