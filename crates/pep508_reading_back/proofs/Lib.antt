@@ -9,6 +9,7 @@ pub mod Dotless
 pub mod Requirements
 pub mod ReadRequirements
 pub mod Views
+pub mod Matters
 pub mod ToldPoints
 pub mod ToldRanges
 pub mod ToldAnswers

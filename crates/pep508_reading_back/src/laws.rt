@@ -22,9 +22,10 @@ ghost use Rattle.pep508_requirement.specs.RequirementReading.{AsksFor, IsRead};
 ghost use Rattle.pep508_requirement.specs.RequirementReading as reading;
 ghost use Rattle.pep508_marker_read.specs.Formula.{Formula, formula_holds};
 ghost use Rattle.pep508_expression.specs.Expressions.{expression_holds};
-ghost use Rattle.pep508_reading_back.specs.Asked.{AnswerAlike};
 ghost use Rattle.pep508_reading_back.specs.Told.{questions_of};
 ghost use Rattle.pep508_reading_back.specs.Views.{IsReadableView, ReadsBack};
+ghost use Rattle.pep508_reading_back.specs.Asked.{AnswerAlike, IsAmong};
+ghost use Rattle.pep508_reading_back.specs.Questions.{AllQuestions};
 
 use pep508_requirement::laws::{
     a_written_requirement_is_not_refused, a_written_requirement_is_read,
@@ -101,8 +102,16 @@ pub fn a_printed_view_reads_back<'a, T: Pep508Url>(shown: &RequirementRef<'a, T>
     a_written_requirement_is_not_refused::<T>();
 }
 
-/// Scratch.
-pub fn scratch_asked()
+/// A marker whose truth some questions settle asks these questions alone, up to the spelling of equal
+/// versions.
+pub fn a_marker_asks_what_its_meaning_asks()
+    ensures { (asked : List Question) (diagram : Diagram Question) → IsCanonical diagram
+        → ((v w : Valuation) → AnswerAlike asked v w → truth diagram v ≡ truth diagram w)
+        → AllQuestions (IsAmong asked) diagram }
+{}
+
+/// Where the questions of a formula's comparisons are answered alike, it holds alike.
+pub fn a_formula_hangs_on_its_questions()
     ensures { (f : Formula ExpressionRecord) (v w : Valuation) → AnswerAlike (questions_of f) v w →
         formula_holds (λ t. expression_holds t v) f ≡ formula_holds (λ t. expression_holds t w) f }
 {}
