@@ -13,3 +13,6 @@ pub mod Matters
 pub mod ToldPoints
 pub mod ToldRanges
 pub mod ToldAnswers
+pub mod ToldReleases
+pub mod ToldCompared
+pub mod ToldMarkers

@@ -1,10 +1,11 @@
 //! Laws over the definitions. The functions do nothing: each one's contract is its law.
-ghost use Rattle.std.specs.Prelude.{◌≡◌, ◌≢◌, ℕ, false, List, Option, Some, None};
-ghost use Rattle.std.specs.Str.{chars};
+ghost use Rattle.std.specs.Prelude.{◌≡◌, ◌≢◌, ℕ, true, false, List, Option, Some, None, Ok};
+ghost use Rattle.std.specs.Str.{chars, all_scalars};
+ghost use Rattle.std.specs.List.{AllByRecursion};
 ghost use Rattle.pep508_marker.specs.Expression.{ExpressionRecord, expression_text};
 ghost use Rattle.pep508_diagram.specs.Diagram.{Diagram, Leaf};
 ghost use Rattle.pep508_diagram.specs.Question.{Question, Valuation, truth, IsCanonical};
-ghost use Rattle.pep508_marker_read.specs.MarkerReading.{Marker};
+ghost use Rattle.pep508_marker_read.specs.MarkerReading.{Marker, marker_at};
 ghost use Rattle.pep508_marker_read.specs.MarkerText.{IsMarkerText};
 ghost use Rattle.pep508_marker_text.specs.MarkerText.{clauses_text, marker_text};
 ghost use Rattle.pep508_marker_text.specs.Saying.{Clause};
@@ -22,7 +23,7 @@ ghost use Rattle.pep508_requirement.specs.RequirementReading.{AsksFor, IsRead};
 ghost use Rattle.pep508_requirement.specs.RequirementReading as reading;
 ghost use Rattle.pep508_marker_read.specs.Formula.{Formula, formula_holds};
 ghost use Rattle.pep508_expression.specs.Expressions.{expression_holds};
-ghost use Rattle.pep508_reading_back.specs.Told.{questions_of};
+ghost use Rattle.pep508_reading_back.specs.Told.{questions_of, IsTold};
 ghost use Rattle.pep508_reading_back.specs.Views.{IsReadableView, ReadsBack};
 ghost use Rattle.pep508_reading_back.specs.Asked.{AnswerAlike, IsAmong};
 ghost use Rattle.pep508_reading_back.specs.Questions.{AllQuestions};
@@ -30,6 +31,7 @@ ghost use Rattle.pep508_reading_back.specs.Questions.{AllQuestions};
 use pep508_requirement::laws::{
     a_written_requirement_is_not_refused, a_written_requirement_is_read,
 };
+use pep508_marker_read::laws::a_read_marker_is_written;
 use pep508_requirement_ref::RequirementRef;
 use pep508_url::Pep508Url;
 use std::fmt;
@@ -115,3 +117,11 @@ pub fn a_formula_hangs_on_its_questions()
     ensures { (f : Formula ExpressionRecord) (v w : Valuation) → AnswerAlike (questions_of f) v w →
         formula_holds (λ t. expression_holds t v) f ≡ formula_holds (λ t. expression_holds t w) f }
 {}
+
+/// Scratch.
+pub fn scratch_asked()
+    ensures { (cs : List ℕ) (marker : Marker) → marker_at cs ≡ Ok marker → all_scalars cs ≡ true →
+        AllByRecursion IsTold (questions_of marker.formula) }
+{
+    a_read_marker_is_written();
+}
