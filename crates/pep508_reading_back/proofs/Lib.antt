@@ -16,3 +16,5 @@ pub mod ToldAnswers
 pub mod ToldReleases
 pub mod ToldCompared
 pub mod ToldMarkers
+pub mod ToldQuestions
+pub mod Told

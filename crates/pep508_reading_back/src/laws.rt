@@ -1,16 +1,16 @@
 //! Laws over the definitions. The functions do nothing: each one's contract is its law.
-ghost use Rattle.std.specs.Prelude.{◌≡◌, ◌≢◌, ℕ, true, false, List, Option, Some, None, Ok};
-ghost use Rattle.std.specs.Str.{chars, all_scalars};
-ghost use Rattle.std.specs.List.{AllByRecursion};
+ghost use Rattle.std.specs.Prelude.{◌≡◌, ◌≢◌, ℕ, false, List, Option, Some, None};
+ghost use Rattle.std.specs.Str.{chars, IsUtf8};
 ghost use Rattle.pep508_marker.specs.Expression.{ExpressionRecord, expression_text};
 ghost use Rattle.pep508_diagram.specs.Diagram.{Diagram, Leaf};
 ghost use Rattle.pep508_diagram.specs.Question.{Question, Valuation, truth, IsCanonical};
-ghost use Rattle.pep508_marker_read.specs.MarkerReading.{Marker, marker_at};
+ghost use Rattle.pep508_diagram.specs.Shortened.{HasShortVersions};
+ghost use Rattle.pep508_marker_read.specs.MarkerReading.{Marker};
 ghost use Rattle.pep508_marker_read.specs.MarkerText.{IsMarkerText};
 ghost use Rattle.pep508_marker_text.specs.MarkerText.{clauses_text, marker_text};
 ghost use Rattle.pep508_marker_text.specs.Saying.{Clause};
 ghost use Rattle.pep508_reading_back.specs.Clauses.{AreReadable, ReadsClauses};
-ghost use Rattle.pep508_reading_back.specs.Diagrams.{IsReadableDiagram, ReadsDiagram};
+ghost use Rattle.pep508_reading_back.specs.Diagrams.{IsReadableDiagram, SaysDiagram, ReadsDiagram};
 ghost use Rattle.pep508_requirement_text.specs.FrontReading.{Front};
 ghost use Rattle.pep508_requirement.specs.MarkerBehind.{no_marker};
 ghost use Rattle.pep508_requirement.specs.RequirementText.{IsMarkedText};
@@ -31,7 +31,6 @@ ghost use Rattle.pep508_reading_back.specs.Questions.{AllQuestions};
 use pep508_requirement::laws::{
     a_written_requirement_is_not_refused, a_written_requirement_is_read,
 };
-use pep508_marker_read::laws::a_read_marker_is_written;
 use pep508_requirement_ref::RequirementRef;
 use pep508_url::Pep508Url;
 use std::fmt;
@@ -118,10 +117,10 @@ pub fn a_formula_hangs_on_its_questions()
         formula_holds (λ t. expression_holds t v) f ≡ formula_holds (λ t. expression_holds t w) f }
 {}
 
-/// Scratch.
-pub fn scratch_asked()
-    ensures { (cs : List ℕ) (marker : Marker) → marker_at cs ≡ Ok marker → all_scalars cs ≡ true →
-        AllByRecursion IsTold (questions_of marker.formula) }
-{
-    a_read_marker_is_written();
-}
+/// The diagram of a marker that was read of a text asks for what texts can say alone: for versions and texts
+/// that could stand in it, and for extras by their normal names.
+pub fn a_read_marker_asks_what_texts_say()
+    ensures { (text : List ℕ) (front : Front) (marker : Marker) (diagram : Diagram Question) → IsUtf8 text
+        → IsMarkedText text front marker → IsCanonical diagram → HasShortVersions diagram
+        → SaysDiagram diagram marker → AllQuestions IsTold diagram }
+{}
