@@ -41,7 +41,7 @@ use Rattle.pep508_reading_back.proofs.Clauses.{clauses_are_read}
 abbrev AllSmall : List ℕ → Type 0
 AllSmall = AllByRecursion (λ number. number < 2 ^ 64)
 
-release_printable : (numbers : List ℕ) → AllSmall numbers → 0 < length numbers →
+pub release_printable : (numbers : List ℕ) → AllSmall numbers → 0 < length numbers →
     IsPrintable (release_record numbers)
 release_printable numbers small some = record {
   no_least = refl;

@@ -13,3 +13,11 @@ pub mod SortedLists
 pub mod ReadFronts
 pub mod ReadViews
 pub mod Matters
+pub mod ToldPoints
+pub mod ToldRanges
+pub mod ToldAnswers
+pub mod ToldReleases
+pub mod ToldCompared
+pub mod ToldMarkers
+pub mod ToldQuestions
+pub mod Told

@@ -6,3 +6,4 @@ pub mod Views
 pub mod ReadViews
 pub mod Questions
 pub mod Asked
+pub mod Told

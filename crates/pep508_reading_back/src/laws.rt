@@ -1,15 +1,16 @@
 //! Laws over the definitions. The functions do nothing: each one's contract is its law.
 ghost use Rattle.std.specs.Prelude.{◌≡◌, ◌≢◌, ℕ, false, List, Option, Some, None};
-ghost use Rattle.std.specs.Str.{chars};
+ghost use Rattle.std.specs.Str.{chars, IsUtf8};
 ghost use Rattle.pep508_marker.specs.Expression.{ExpressionRecord, expression_text};
 ghost use Rattle.pep508_diagram.specs.Diagram.{Diagram, Leaf};
 ghost use Rattle.pep508_diagram.specs.Question.{Question, Valuation, truth, IsCanonical};
+ghost use Rattle.pep508_diagram.specs.Shortened.{HasShortVersions};
 ghost use Rattle.pep508_marker_read.specs.MarkerReading.{Marker};
 ghost use Rattle.pep508_marker_read.specs.MarkerText.{IsMarkerText};
 ghost use Rattle.pep508_marker_text.specs.MarkerText.{clauses_text, marker_text};
 ghost use Rattle.pep508_marker_text.specs.Saying.{Clause};
 ghost use Rattle.pep508_reading_back.specs.Clauses.{AreReadable, ReadsClauses};
-ghost use Rattle.pep508_reading_back.specs.Diagrams.{IsReadableDiagram, ReadsDiagram};
+ghost use Rattle.pep508_reading_back.specs.Diagrams.{IsReadableDiagram, SaysDiagram, ReadsDiagram};
 ghost use Rattle.pep508_requirement_text.specs.FrontReading.{Front};
 ghost use Rattle.pep508_requirement.specs.MarkerBehind.{no_marker};
 ghost use Rattle.pep508_requirement.specs.RequirementText.{IsMarkedText};
@@ -20,6 +21,9 @@ ghost use Rattle.pep508_url.specs.Vars.{Variables};
 ghost use Rattle.pep508_tree.specs.Meaning.{NodeRecord, holds};
 ghost use Rattle.pep508_requirement.specs.RequirementReading.{AsksFor, IsRead};
 ghost use Rattle.pep508_requirement.specs.RequirementReading as reading;
+ghost use Rattle.pep508_marker_read.specs.Formula.{Formula, formula_holds};
+ghost use Rattle.pep508_expression.specs.Expressions.{expression_holds};
+ghost use Rattle.pep508_reading_back.specs.Told.{questions_of, IsTold};
 ghost use Rattle.pep508_reading_back.specs.Views.{IsReadableView, ReadsBack};
 ghost use Rattle.pep508_reading_back.specs.ReadViews.{AsksNoUrl, IsOfMarker, KeepsFront, ShowsRead};
 ghost use Rattle.pep508_tree_ref.specs.Lent.{tree_in};
@@ -109,6 +113,20 @@ pub fn a_marker_asks_what_its_meaning_asks()
     ensures { (asked : List Question) (diagram : Diagram Question) → IsCanonical diagram
         → ((v w : Valuation) → AnswerAlike asked v w → truth diagram v ≡ truth diagram w)
         → AllQuestions (IsAmong asked) diagram }
+{}
+
+/// Where the questions of a formula's comparisons are answered alike, it holds alike.
+pub fn a_formula_hangs_on_its_questions()
+    ensures { (f : Formula ExpressionRecord) (v w : Valuation) → AnswerAlike (questions_of f) v w →
+        formula_holds (λ t. expression_holds t v) f ≡ formula_holds (λ t. expression_holds t w) f }
+{}
+
+/// The diagram of a marker that was read of a text asks for what texts can say alone: for versions and texts
+/// that could stand in it, and for extras by their normal names.
+pub fn a_read_marker_asks_what_texts_say()
+    ensures { (text : List ℕ) (front : Front) (marker : Marker) (diagram : Diagram Question) → IsUtf8 text
+        → IsMarkedText text front marker → IsCanonical diagram → HasShortVersions diagram
+        → SaysDiagram diagram marker → AllQuestions IsTold diagram }
 {}
 
 /// What a requirement that was read without a URL prints with its interner is read by `Requirement::parse` with
