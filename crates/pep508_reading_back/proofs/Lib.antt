@@ -21,3 +21,4 @@ pub mod ToldCompared
 pub mod ToldMarkers
 pub mod ToldQuestions
 pub mod Told
+pub mod Unquoted

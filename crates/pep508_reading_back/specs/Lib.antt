@@ -7,3 +7,4 @@ pub mod ReadViews
 pub mod Questions
 pub mod Asked
 pub mod Told
+pub mod Unquoted

@@ -26,6 +26,7 @@ ghost use Rattle.pep508_expression.specs.Expressions.{expression_holds};
 ghost use Rattle.pep508_reading_back.specs.Told.{questions_of, IsTold};
 ghost use Rattle.pep508_reading_back.specs.Views.{IsReadableView, ReadsBack};
 ghost use Rattle.pep508_reading_back.specs.ReadViews.{AsksNoUrl, IsOfMarker, KeepsFront, ShowsRead};
+ghost use Rattle.pep508_reading_back.specs.Unquoted.{IsPlainDiagram};
 ghost use Rattle.pep508_tree_ref.specs.Lent.{tree_in};
 ghost use Rattle.pep508_tree_ref.specs.TreeIn.{diagram_in};
 ghost use Rattle.pep508_reading_back.specs.Asked.{AnswerAlike, IsAmong};
@@ -144,4 +145,21 @@ pub fn a_read_requirement_reads_back<'a, T: Pep508Url>(shown: &RequirementRef<'a
     a_read_requirement_is_written::<T>();
     a_written_requirement_is_read();
     a_written_requirement_is_not_refused::<T>();
+}
+
+/// The marker of a requirement that was read without a URL reads back too, as a tree that means the same: where
+/// its texts have no single quote, its versions are releases of epoch 0, its keys are no old names, and it
+/// sometimes holds.
+pub fn a_read_marker_reads_back<'a, T: Pep508Url>(shown: &RequirementRef<'a, T>)
+    ensures { (vars others : Variables) (directory other : Option (List ℕ)) (given text : List ℕ)
+        (nodes : List NodeRecord) (answer : _) → IsUtf8 given
+        → ShowsRead (λ url. T.reads vars url directory) given shown.now
+        → AsksNoUrl shown.now.version_or_url.now → IsPlainDiagram (diagram_in (tree_in shown.now.marker))
+        → ⟦<RequirementRef<'a, T> as fmt::Display>⟧.output shown.now ≡ Some text
+        → reading.ReadsRequirement (λ url. T.reads others url other) T.lacks_memory others nodes text answer
+        → ReadsBack nodes shown.now answer }
+{
+    shown.is_canonical();
+    a_read_requirement_is_written::<T>();
+    a_printed_view_reads_back(shown);
 }
