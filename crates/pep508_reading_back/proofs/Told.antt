@@ -1,5 +1,5 @@
 -- What the diagram of a marker that was read asks is told by texts.
-use Rattle.std.proofs.Common.{◌≡◌, ◌∙◌, ℕ, true, List, [], ◌∷◌, ◌++◌, inl, inr, refl, ap, sym, subst}
+use Rattle.std.proofs.Common.{◌≡◌, ◌∙◌, ℕ, List, [], ◌∷◌, ◌++◌, inl, inr, refl, ap, sym, subst}
 use Rattle.std.proofs.lemmas.Str.{scalars-chars}
 use Rattle.std.specs.List.{AllByRecursion}
 use Rattle.std.specs.Str.{chars, IsUtf8}
@@ -11,12 +11,11 @@ use Rattle.pep508_expression.specs.Expressions.{expression_holds}
 use Rattle.pep508_marker_read.specs.Formula.{Formula, formula_holds}
 use Rattle.pep508_marker_read.specs.MarkerOutcome.{IsTreeOf}
 use Rattle.pep508_marker_read.specs.MarkerReading.{Marker}
-use Rattle.pep508_requirement.specs.MarkerBehind.{no_marker}
 use Rattle.pep508_requirement.specs.RequirementText.{IsBehindText, IsMarkedText}
 use Rattle.pep508_requirement_text.specs.FrontReading.{Front}
 use Rattle.pep508_requirement_text.specs.FrontText.{IsFrontText}
 use Rattle.pep508_tree.proofs.Diagrams.{holds_kept}
-use Rattle.pep508_tree.specs.Meaning.{NodeRecord, Extends, diagram_of, holds}
+use Rattle.pep508_tree.specs.Meaning.{NodeRecord, Extends}
 use Rattle.pep508_tree.specs.Tree.{Tree}
 use Rattle.pep508_tree_ref.specs.TreeIn.{TreeIn, diagram_in}
 use Rattle.pep508_reading_back.specs.Questions.{AllQuestions}

@@ -1,11 +1,10 @@
 -- What a formula says hangs on the answers to its questions alone.
-use Rattle.std.proofs.Common.{◌≡◌, ◌∙◌, ℕ, Bool, true, not, ◌&&◌, ◌||◌, List, [], ◌∷◌, Option, Some, None, refl, ap, ap₂, sym}
+use Rattle.std.proofs.Common.{◌≡◌, ℕ, true, not, ◌&&◌, ◌||◌, List, Some, refl, ap, ap₂}
 use Rattle.std.specs.List.{AllByRecursion}
 use Rattle.std.specs.Prelude.{unwrap_or}
 use Rattle.std.specs.Cmp.Lexicographic.{nat_list_cmp_total}
 use Rattle.pep440_text.specs.Record.{VersionRecord, release_record}
 use Rattle.pep440_version.specs.Order.{version_cmp}
-use Rattle.version_ranges.specs.Point.{Point}
 use Rattle.version_ranges.proofs.Membership.{all_weaker}
 use Rattle.pep508_marker.specs.declared.keys.MarkerValueVersion.{MarkerValueVersion}
 use Rattle.pep508_marker.specs.declared.keys.MarkerValueString.{MarkerValueString}

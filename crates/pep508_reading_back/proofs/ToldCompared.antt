@@ -1,5 +1,5 @@
 -- What a comparison of two sides asks, where a text can say the sides.
-use Rattle.std.proofs.Common.{◌≡◌, ◌∙◌, ℕ, ◌<◌, ◌^◌, Bool, true, false, ◌&&◌, not, if◌then◌else◌, nat_lt, length, List, [], ◌∷◌, ◌++◌, Option, Some, None, option_map, Result, Ok, Err, refl, ap, sym, subst, ◌↔◌, cond}
+use Rattle.std.proofs.Common.{◌≡◌, ℕ, Bool, true, false, ◌&&◌, not, if◌then◌else◌, nat_lt, length, List, [], ◌∷◌, Option, Some, None, Result, Ok, Err, refl}
 use Rattle.std.specs.List.{AllByRecursion, flat_map}
 use Rattle.std.specs.Option.{option_and_then}
 use Rattle.std.specs.Result.{result_ok}
@@ -11,7 +11,7 @@ use Rattle.pep440_text.specs.Record.{VersionRecord, PatternRecord, release_recor
 use Rattle.pep440_text.specs.Text.{IsPatternText}
 use Rattle.pep440_text.proofs.Prints.{read_printable}
 use Rattle.pep440_text.proofs.Releases.{by_recursion}
-use Rattle.pep440_text.proofs.Whole.{version_read, pattern_read}
+use Rattle.pep440_text.proofs.Whole.{pattern_read}
 use Rattle.pep440_version.specs.Changes.{has_local}
 use Rattle.pep440_operator.specs.declared.operator.Operator.{Operator}
 use Rattle.pep440_operator.specs.Operators.{takes_local, is_tilde, starred}
@@ -28,10 +28,10 @@ use Rattle.pep508_marker.specs.declared.operators.MarkerOperator.TheVariants.{Gr
 use Rattle.pep508_marker.specs.declared.operators.MarkerOperator.TheVariants.{LessEqual, TildeEqual, In}
 use Rattle.pep508_marker.specs.declared.operators.MarkerOperator.TheVariants.{NotIn, Contains, NotContains}
 use Rattle.pep508_marker.specs.declared.operators.ExtraOperator.{ExtraOperator}
-use Rattle.pep508_marker.specs.Expression.{ExpressionRecord, Version, VersionIn, String, Extra}
+use Rattle.pep508_marker.specs.Expression.{ExpressionRecord}
 use Rattle.pep508_marker.specs.Operators.{inverted, specifier_operator, extra_operator}
 use Rattle.pep508_marker.specs.Values.{ValueRecord, VersionKey, TextKey, ExtraKey, Quoted}
-use Rattle.pep508_marker_comparison.specs.Compared.{Compared, left_out, says, of_specifier, specifier_behind, specifier_before, runs_of, with_version, versions_of, of_list, version_before, version_behind, text_compared, extra_of, of_extra, warned_of_name, extra_compared, compared}
+use Rattle.pep508_marker_comparison.specs.Compared.{Compared, of_specifier, specifier_behind, specifier_before, runs_of, with_version, versions_of, of_list, version_before, version_behind, text_compared, extra_of, of_extra, warned_of_name, extra_compared, compared}
 use Rattle.pep508_reading_back.specs.Told.{asked_releases, version_questions, release_questions, listed_questions, text_questions, questions_of_term, IsTold}
 use Rattle.pep508_reading_back.proofs.Diagrams.{release_printable}
 use Rattle.pep508_reading_back.proofs.ToldReleases.{IsSmallRelease, asked_small}

@@ -1,22 +1,21 @@
 -- What a marker that is written in some characters asks is told by texts.
-use Rattle.std.proofs.Common.{◌≡◌, ◌⊎◌, ◌∙◌, ℕ, zero, suc, ◌==◌, Bool, true, false, ◌&&◌, if◌then◌else◌, List, [], ◌∷◌, ◌++◌, Option, Some, None, option_map, Result, Ok, Err, inl, inr, refl, ap, sym, subst}
+use Rattle.std.proofs.Common.{◌≡◌, ◌⊎◌, ◌∙◌, ℕ, zero, suc, Bool, true, false, ◌&&◌, if◌then◌else◌, List, [], ◌∷◌, ◌++◌, Option, Some, None, option_map, Ok, Err, inl, inr, refl, ap, sym, subst}
 use Rattle.std.proofs.lemmas.Bool.{and_parts}
 use Rattle.std.specs.List.{AllByRecursion}
-use Rattle.std.specs.Prelude.{codes, encode_utf8_all}
-use Rattle.std.specs.Str.{IsUtf8}
+use Rattle.std.specs.Prelude.{codes}
 use Rattle.version_ranges.proofs.Membership.{all_append}
 use Rattle.pep508_marker.specs.declared.warnings.MarkerWarningKind.{MarkerWarningKind}
 use Rattle.pep508_marker.specs.declared.operators.MarkerOperator.{MarkerOperator}
 use Rattle.pep508_marker.specs.declared.keys.MarkerValueVersion.{MarkerValueVersion}
 use Rattle.pep508_marker.specs.declared.keys.MarkerValueString.{MarkerValueString}
 use Rattle.pep508_marker.specs.Expression.{ExpressionRecord}
-use Rattle.pep508_marker.specs.Values.{ValueRecord, VersionKey, TextKey, ExtraKey, Quoted, version_key_of, text_key_of, other_key_of, version_key_or, key_of_text}
+use Rattle.pep508_marker.specs.Values.{ValueRecord, VersionKey, TextKey, ExtraKey, version_key_of, text_key_of, other_key_of, version_key_or, key_of_text}
 use Rattle.pep508_marker_comparison.specs.Compared.{compared}
 use Rattle.pep508_marker_comparison.specs.SideReading.{AtEnd, Reading}
 use Rattle.pep508_expression.specs.Expressions.{has_points}
-use Rattle.pep508_marker_read.specs.Formula.{Formula, Says, LeftOut}
+use Rattle.pep508_marker_read.specs.Formula.{Says, LeftOut}
 use Rattle.pep508_marker_read.specs.MarkerReading.{Marker, Connective, And, Or, word_of, join_with, of_said}
-use Rattle.pep508_marker_read.specs.MarkerText.{IsSpaced, IsQuotedText, IsKeyText, IsSideText, IsRunOperator, IsNotIn, IsOperatorText, IsComparisonText, IsEnclosed, IsJoint, AreJoined, join_all, IsJoined, IsEither, IsFormulaText, IsMarkerText}
+use Rattle.pep508_marker_read.specs.MarkerText.{IsSpaced, IsSideText, IsOperatorText, IsComparisonText, IsEnclosed, AreJoined, join_all, IsJoined, IsEither, IsFormulaText, IsMarkerText}
 use Rattle.pep508_reading_back.specs.Told.{questions_of, questions_of_term, IsTold}
 use Rattle.pep508_reading_back.proofs.ToldCompared.{IsToldSaid, IsToldValue, compared_told}
 use lib.Utf8.{scalar, scalars}

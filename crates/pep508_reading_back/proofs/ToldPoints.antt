@@ -1,11 +1,11 @@
 -- Points that lie alike beside a value are held alike by whatever is bounded there.
-use Rattle.std.proofs.Common.{◌≡◌, ◌∙◌, Bool, true, false, not, cond, ◌&&◌, List, [], ◌∷◌, ◌++◌, refl, ap, ap₂, sym, Ordering, Less, Equal, Greater, is_eq, is_gt}
+use Rattle.std.proofs.Common.{◌≡◌, ◌∙◌, Bool, false, not, cond, List, [], ◌∷◌, ◌++◌, refl, ap, ap₂, sym, Ordering, Less, Equal, Greater, is_eq, is_gt}
 use Rattle.std.specs.List.{AllByRecursion, flat_map}
 use Rattle.std.specs.Ordering.{ordering_then, ordering_reverse}
 use Rattle.std.specs.Cmp.{IsTotalOrder}
 use Rattle.std.specs.declared.ops.Bound.TheVariants.{Included, Excluded}
 use Rattle.version_ranges.specs.declared.boundary.Boundary.TheVariants as boundary
-use Rattle.version_ranges.specs.Bounds.{starts_by, goes_on_to}
+use Rattle.version_ranges.specs.Bounds.{goes_on_to}
 use Rattle.version_ranges.specs.Point.{Point, BelowAll, At, JustAbove, point_cmp}
 use Rattle.version_ranges.specs.Turns.{reaches}
 use Rattle.version_ranges.proofs.Reading.{goes_to}

@@ -1,6 +1,6 @@
 -- Points that lie alike beside the releases that a comparison names are held alike by it.
-use Rattle.std.proofs.Common.{◌≡◌, ◌∙◌, ℕ, Bool, true, false, not, ◌&&◌, ◌||◌, if◌then◌else◌, List, [], ◌∷◌, ◌++◌, Option, Some, None, map, refl, ap, ap₂, sym}
-use Rattle.std.specs.List.{AllByRecursion, list_all, list_any}
+use Rattle.std.proofs.Common.{◌≡◌, ◌∙◌, ℕ, Bool, true, false, not, ◌&&◌, ◌||◌, if◌then◌else◌, List, [], ◌∷◌, ◌++◌, Option, Some, None, refl, ap, ap₂, sym}
+use Rattle.std.specs.List.{AllByRecursion, list_all}
 use Rattle.std.specs.Option.{option_map, is_some}
 use Rattle.std.specs.Prelude.{option_to_list, drop}
 use Rattle.std.specs.declared.ops.Bound.TheVariants.{Included, Excluded}
