@@ -27,7 +27,8 @@ use Rattle.pep508_reading_back.proofs.ToldQuestions.{equal_told}
 
 -- ---- the marker behind a front
 
-behind_told : (rest : List ℕ) (marker : Marker) → IsBehindText rest marker → AreScalars rest → IsToldMarker marker
+behind_told : (rest : List ℕ) (marker : Marker) → IsBehindText rest marker → AreScalars rest →
+    IsToldMarker marker
 behind_told rest marker (inl is) are = subst IsToldMarker (sym is.1) tt
 behind_told rest marker (inr is) are =
     written_told is.1 marker is.4 (behind_front (59 ∷ is.1) (59 ∷ []) is.1 refl
@@ -49,7 +50,8 @@ rest_scalars text front rest is are =
     behind_front sourced is.asked rest refl e
 
 -- what the marker of a text asks
-pub marked_told : (text : List ℕ) (front : Front) (marker : Marker) → IsUtf8 text → IsMarkedText text front marker →
+pub marked_told : (text : List ℕ) (front : Front) (marker : Marker) → IsUtf8 text →
+    IsMarkedText text front marker →
     AllByRecursion IsTold (questions_of marker.formula)
 marked_told text front marker utf8 is =
     behind_told is.0 marker is.2 (rest_scalars text front is.0 is.1 (scalars-chars text utf8))
@@ -72,5 +74,6 @@ pub tree_told : (old now : List NodeRecord) (tree : Tree) (shown : TreeIn) (text
     HasShortVersions (diagram_in shown) → AllQuestions IsTold (diagram_in shown)
 tree_told old now tree shown text front marker utf8 is made keeps view canonical short =
     diagram_told marker.formula (diagram_in shown) canonical short
-    (λ v. ap (λ (t : TreeIn). truth (diagram_in t) v) view ∙ holds_kept old now keeps tree made.made v ∙ made.truth v)
+    (λ v. ap (λ (t : TreeIn). truth (diagram_in t) v) view ∙ holds_kept old now keeps tree made.made v
+    ∙ made.truth v)
     (marked_told text front marker utf8 is)

@@ -34,10 +34,13 @@ module _ (v w : Valuation) where
       AlikeAt version_cmp (v.version (variable_of key)) (w.version (variable_of key)) version
   unfolding answer
   version_alike key version alike =
-      alike_answers version_cmp (v.version (variable_of key)) (w.version (variable_of key)) version alike.0 alike.1.0
+      alike_answers version_cmp (v.version (variable_of key))
+      (w.version (variable_of key)) version alike.0 alike.1.0
 
-  releases_alike : (key : MarkerValueVersion) (numbers : List ℕ) → AnswerAlike (release_questions key numbers) v w →
-      AllByRecursion (AlikeBeside (v.version (variable_of key)) (w.version (variable_of key))) (asked_releases numbers)
+  releases_alike : (key : MarkerValueVersion) (numbers : List ℕ) →
+      AnswerAlike (release_questions key numbers) v w →
+      AllByRecursion (AlikeBeside (v.version (variable_of key)) (w.version (variable_of key)))
+      (asked_releases numbers)
   releases_alike key numbers alike =
       all_weaker (λ release. AnswerAlike (version_questions key (release_record release)) v w)
       (AlikeBeside (v.version (variable_of key)) (w.version (variable_of key)))
@@ -45,7 +48,8 @@ module _ (v w : Valuation) where
       (all_in (λ q. answer v q ≡ answer w q) (λ release. version_questions key (release_record release))
       (asked_releases numbers) alike)
 
-  one_listed : (key : MarkerValueVersion) (version : VersionRecord) → AnswerAlike (listed_questions key version) v w →
+  one_listed : (key : MarkerValueVersion) (version : VersionRecord) →
+      AnswerAlike (listed_questions key version) v w →
       AlikeListed (v.version (variable_of key)) (w.version (variable_of key)) version
   one_listed key version alike =
       let parts = all_parts (λ q. answer v q ≡ answer w q) (version_questions key version)
@@ -55,7 +59,8 @@ module _ (v w : Valuation) where
   -- ---- texts and extras
 
   text_alike : (key : MarkerValueString) (operator : MarkerOperator) (text : List ℕ) →
-      AnswerAlike (text_questions key text) v w → text_holds key operator text v ≡ text_holds key operator text w
+      AnswerAlike (text_questions key text) v w →
+      text_holds key operator text v ≡ text_holds key operator text w
   unfolding answer
   text_alike key operator text alike =
       let beside = alike_answers text_cmp (v.text key) (w.text key) text alike.0 alike.1.0 in
@@ -64,7 +69,8 @@ module _ (v w : Valuation) where
       by : (operator : MarkerOperator) → AlikeAt text_cmp (v.text key) (w.text key) text →
           text_holds key operator text v ≡ text_holds key operator text w
       by Equal beside = alike_at text_cmp nat_list_cmp_total (v.text key) (w.text key) text beside
-      by NotEqual beside = ap not (alike_at text_cmp nat_list_cmp_total (v.text key) (w.text key) text beside)
+      by NotEqual beside =
+          ap not (alike_at text_cmp nat_list_cmp_total (v.text key) (w.text key) text beside)
       by GreaterThan beside = beside.1
       by GreaterEqual beside = beside.0
       by LessThan beside = alike_below text_cmp nat_list_cmp_total (v.text key) (w.text key) text beside
