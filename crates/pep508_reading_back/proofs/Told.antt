@@ -1,5 +1,5 @@
 -- What the diagram of a marker that was read asks is told by texts.
-use Rattle.std.proofs.Common.{◌≡◌, ◌∙◌, ℕ, true, List, [], ◌∷◌, ◌++◌, inl, inr, refl, ap, sym, subst}
+use Rattle.std.proofs.Common.{◌≡◌, ◌∙◌, ℕ, List, [], ◌∷◌, ◌++◌, inl, inr, refl, ap, sym, subst}
 use Rattle.std.proofs.lemmas.Str.{scalars-chars}
 use Rattle.std.specs.List.{AllByRecursion}
 use Rattle.std.specs.Str.{chars, IsUtf8}
@@ -11,12 +11,11 @@ use Rattle.pep508_expression.specs.Expressions.{expression_holds}
 use Rattle.pep508_marker_read.specs.Formula.{Formula, formula_holds}
 use Rattle.pep508_marker_read.specs.MarkerOutcome.{IsTreeOf}
 use Rattle.pep508_marker_read.specs.MarkerReading.{Marker}
-use Rattle.pep508_requirement.specs.MarkerBehind.{no_marker}
 use Rattle.pep508_requirement.specs.RequirementText.{IsBehindText, IsMarkedText}
 use Rattle.pep508_requirement_text.specs.FrontReading.{Front}
 use Rattle.pep508_requirement_text.specs.FrontText.{IsFrontText}
 use Rattle.pep508_tree.proofs.Diagrams.{holds_kept}
-use Rattle.pep508_tree.specs.Meaning.{NodeRecord, Extends, diagram_of, holds}
+use Rattle.pep508_tree.specs.Meaning.{NodeRecord, Extends}
 use Rattle.pep508_tree.specs.Tree.{Tree}
 use Rattle.pep508_tree_ref.specs.TreeIn.{TreeIn, diagram_in}
 use Rattle.pep508_reading_back.specs.Questions.{AllQuestions}
@@ -28,7 +27,8 @@ use Rattle.pep508_reading_back.proofs.ToldQuestions.{equal_told}
 
 -- ---- the marker behind a front
 
-behind_told : (rest : List ℕ) (marker : Marker) → IsBehindText rest marker → AreScalars rest → IsToldMarker marker
+behind_told : (rest : List ℕ) (marker : Marker) → IsBehindText rest marker → AreScalars rest →
+    IsToldMarker marker
 behind_told rest marker (inl is) are = subst IsToldMarker (sym is.1) tt
 behind_told rest marker (inr is) are =
     written_told is.1 marker is.4 (behind_front (59 ∷ is.1) (59 ∷ []) is.1 refl
@@ -50,7 +50,8 @@ rest_scalars text front rest is are =
     behind_front sourced is.asked rest refl e
 
 -- what the marker of a text asks
-pub marked_told : (text : List ℕ) (front : Front) (marker : Marker) → IsUtf8 text → IsMarkedText text front marker →
+pub marked_told : (text : List ℕ) (front : Front) (marker : Marker) → IsUtf8 text →
+    IsMarkedText text front marker →
     AllByRecursion IsTold (questions_of marker.formula)
 marked_told text front marker utf8 is =
     behind_told is.0 marker is.2 (rest_scalars text front is.0 is.1 (scalars-chars text utf8))
@@ -73,5 +74,6 @@ pub tree_told : (old now : List NodeRecord) (tree : Tree) (shown : TreeIn) (text
     HasShortVersions (diagram_in shown) → AllQuestions IsTold (diagram_in shown)
 tree_told old now tree shown text front marker utf8 is made keeps view canonical short =
     diagram_told marker.formula (diagram_in shown) canonical short
-    (λ v. ap (λ (t : TreeIn). truth (diagram_in t) v) view ∙ holds_kept old now keeps tree made.made v ∙ made.truth v)
+    (λ v. ap (λ (t : TreeIn). truth (diagram_in t) v) view ∙ holds_kept old now keeps tree made.made v
+    ∙ made.truth v)
     (marked_told text front marker utf8 is)

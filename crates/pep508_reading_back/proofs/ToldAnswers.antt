@@ -1,11 +1,10 @@
 -- What a formula says hangs on the answers to its questions alone.
-use Rattle.std.proofs.Common.{◌≡◌, ◌∙◌, ℕ, Bool, true, not, ◌&&◌, ◌||◌, List, [], ◌∷◌, Option, Some, None, refl, ap, ap₂, sym}
+use Rattle.std.proofs.Common.{◌≡◌, ℕ, true, not, ◌&&◌, ◌||◌, List, Some, refl, ap, ap₂}
 use Rattle.std.specs.List.{AllByRecursion}
 use Rattle.std.specs.Prelude.{unwrap_or}
 use Rattle.std.specs.Cmp.Lexicographic.{nat_list_cmp_total}
 use Rattle.pep440_text.specs.Record.{VersionRecord, release_record}
 use Rattle.pep440_version.specs.Order.{version_cmp}
-use Rattle.version_ranges.specs.Point.{Point}
 use Rattle.version_ranges.proofs.Membership.{all_weaker}
 use Rattle.pep508_marker.specs.declared.keys.MarkerValueVersion.{MarkerValueVersion}
 use Rattle.pep508_marker.specs.declared.keys.MarkerValueString.{MarkerValueString}
@@ -35,10 +34,13 @@ module _ (v w : Valuation) where
       AlikeAt version_cmp (v.version (variable_of key)) (w.version (variable_of key)) version
   unfolding answer
   version_alike key version alike =
-      alike_answers version_cmp (v.version (variable_of key)) (w.version (variable_of key)) version alike.0 alike.1.0
+      alike_answers version_cmp (v.version (variable_of key))
+      (w.version (variable_of key)) version alike.0 alike.1.0
 
-  releases_alike : (key : MarkerValueVersion) (numbers : List ℕ) → AnswerAlike (release_questions key numbers) v w →
-      AllByRecursion (AlikeBeside (v.version (variable_of key)) (w.version (variable_of key))) (asked_releases numbers)
+  releases_alike : (key : MarkerValueVersion) (numbers : List ℕ) →
+      AnswerAlike (release_questions key numbers) v w →
+      AllByRecursion (AlikeBeside (v.version (variable_of key)) (w.version (variable_of key)))
+      (asked_releases numbers)
   releases_alike key numbers alike =
       all_weaker (λ release. AnswerAlike (version_questions key (release_record release)) v w)
       (AlikeBeside (v.version (variable_of key)) (w.version (variable_of key)))
@@ -46,7 +48,8 @@ module _ (v w : Valuation) where
       (all_in (λ q. answer v q ≡ answer w q) (λ release. version_questions key (release_record release))
       (asked_releases numbers) alike)
 
-  one_listed : (key : MarkerValueVersion) (version : VersionRecord) → AnswerAlike (listed_questions key version) v w →
+  one_listed : (key : MarkerValueVersion) (version : VersionRecord) →
+      AnswerAlike (listed_questions key version) v w →
       AlikeListed (v.version (variable_of key)) (w.version (variable_of key)) version
   one_listed key version alike =
       let parts = all_parts (λ q. answer v q ≡ answer w q) (version_questions key version)
@@ -56,7 +59,8 @@ module _ (v w : Valuation) where
   -- ---- texts and extras
 
   text_alike : (key : MarkerValueString) (operator : MarkerOperator) (text : List ℕ) →
-      AnswerAlike (text_questions key text) v w → text_holds key operator text v ≡ text_holds key operator text w
+      AnswerAlike (text_questions key text) v w →
+      text_holds key operator text v ≡ text_holds key operator text w
   unfolding answer
   text_alike key operator text alike =
       let beside = alike_answers text_cmp (v.text key) (w.text key) text alike.0 alike.1.0 in
@@ -65,7 +69,8 @@ module _ (v w : Valuation) where
       by : (operator : MarkerOperator) → AlikeAt text_cmp (v.text key) (w.text key) text →
           text_holds key operator text v ≡ text_holds key operator text w
       by Equal beside = alike_at text_cmp nat_list_cmp_total (v.text key) (w.text key) text beside
-      by NotEqual beside = ap not (alike_at text_cmp nat_list_cmp_total (v.text key) (w.text key) text beside)
+      by NotEqual beside =
+          ap not (alike_at text_cmp nat_list_cmp_total (v.text key) (w.text key) text beside)
       by GreaterThan beside = beside.1
       by GreaterEqual beside = beside.0
       by LessThan beside = alike_below text_cmp nat_list_cmp_total (v.text key) (w.text key) text beside

@@ -1,5 +1,5 @@
 -- What a comparison of two sides asks, where a text can say the sides.
-use Rattle.std.proofs.Common.{◌≡◌, ◌∙◌, ℕ, ◌<◌, ◌^◌, Bool, true, false, ◌&&◌, not, if◌then◌else◌, nat_lt, length, List, [], ◌∷◌, ◌++◌, Option, Some, None, option_map, Result, Ok, Err, refl, ap, sym, subst, ◌↔◌, cond}
+use Rattle.std.proofs.Common.{◌≡◌, ℕ, Bool, true, false, ◌&&◌, not, if◌then◌else◌, nat_lt, length, List, [], ◌∷◌, Option, Some, None, Result, Ok, Err, refl}
 use Rattle.std.specs.List.{AllByRecursion, flat_map}
 use Rattle.std.specs.Option.{option_and_then}
 use Rattle.std.specs.Result.{result_ok}
@@ -11,7 +11,7 @@ use Rattle.pep440_text.specs.Record.{VersionRecord, PatternRecord, release_recor
 use Rattle.pep440_text.specs.Text.{IsPatternText}
 use Rattle.pep440_text.proofs.Prints.{read_printable}
 use Rattle.pep440_text.proofs.Releases.{by_recursion}
-use Rattle.pep440_text.proofs.Whole.{version_read, pattern_read}
+use Rattle.pep440_text.proofs.Whole.{pattern_read}
 use Rattle.pep440_version.specs.Changes.{has_local}
 use Rattle.pep440_operator.specs.declared.operator.Operator.{Operator}
 use Rattle.pep440_operator.specs.Operators.{takes_local, is_tilde, starred}
@@ -28,10 +28,10 @@ use Rattle.pep508_marker.specs.declared.operators.MarkerOperator.TheVariants.{Gr
 use Rattle.pep508_marker.specs.declared.operators.MarkerOperator.TheVariants.{LessEqual, TildeEqual, In}
 use Rattle.pep508_marker.specs.declared.operators.MarkerOperator.TheVariants.{NotIn, Contains, NotContains}
 use Rattle.pep508_marker.specs.declared.operators.ExtraOperator.{ExtraOperator}
-use Rattle.pep508_marker.specs.Expression.{ExpressionRecord, Version, VersionIn, String, Extra}
+use Rattle.pep508_marker.specs.Expression.{ExpressionRecord}
 use Rattle.pep508_marker.specs.Operators.{inverted, specifier_operator, extra_operator}
 use Rattle.pep508_marker.specs.Values.{ValueRecord, VersionKey, TextKey, ExtraKey, Quoted}
-use Rattle.pep508_marker_comparison.specs.Compared.{Compared, left_out, says, of_specifier, specifier_behind, specifier_before, runs_of, with_version, versions_of, of_list, version_before, version_behind, text_compared, extra_of, of_extra, warned_of_name, extra_compared, compared}
+use Rattle.pep508_marker_comparison.specs.Compared.{Compared, of_specifier, specifier_behind, specifier_before, runs_of, with_version, versions_of, of_list, version_before, version_behind, text_compared, extra_of, of_extra, warned_of_name, extra_compared, compared}
 use Rattle.pep508_reading_back.specs.Told.{asked_releases, version_questions, release_questions, listed_questions, text_questions, questions_of_term, IsTold}
 use Rattle.pep508_reading_back.proofs.Diagrams.{release_printable}
 use Rattle.pep508_reading_back.proofs.ToldReleases.{IsSmallRelease, asked_small}
@@ -53,8 +53,10 @@ release_told : (key : MarkerValueVersion) (numbers : List ℕ) → IsSmallReleas
     AllByRecursion IsTold (release_questions key numbers)
 release_told key numbers good =
     all_each IsTold (λ release. version_questions key (release_record release)) (asked_releases numbers)
-    (all_weaker IsSmallRelease (λ release. AllByRecursion IsTold (version_questions key (release_record release)))
-    (λ release small. version_told key (release_record release) (release_printable release small.small small.some))
+    (all_weaker IsSmallRelease
+    (λ release. AllByRecursion IsTold (version_questions key (release_record release)))
+    (λ release small. version_told key (release_record release)
+    (release_printable release small.small small.some))
     (asked_releases numbers) (asked_small numbers good))
 
 printable_small : (version : VersionRecord) → IsPrintable version → IsSmallRelease version.release
@@ -68,11 +70,13 @@ listed_told key version printable =
     (version_told key version printable)
     (release_told key version.release (printable_small version printable))
 
-list_told : (key : MarkerValueVersion) (versions : List VersionRecord) → AllByRecursion IsPrintable versions →
+list_told : (key : MarkerValueVersion) (versions : List VersionRecord) →
+    AllByRecursion IsPrintable versions →
     AllByRecursion IsTold (flat_map (listed_questions key) versions)
 list_told key versions all =
     all_each IsTold (listed_questions key) versions
-    (all_weaker IsPrintable (λ version. AllByRecursion IsTold (listed_questions key version)) (listed_told key)
+    (all_weaker IsPrintable (λ version. AllByRecursion IsTold (listed_questions key version))
+    (listed_told key)
     versions all)
 
 -- ---- what is said
@@ -95,7 +99,8 @@ abbrev BuiltSmall : Result SpecifierRecord VersionSpecifierBuildError → Type 0
 BuiltSmall (Ok specifier) = IsSmallRelease specifier.version.release
 BuiltSmall (Err error) = Unit {0}
 
-result_small : (made : Result SpecifierRecord VersionSpecifierBuildError) → BuiltSmall made → HasSmall (result_ok made)
+result_small : (made : Result SpecifierRecord VersionSpecifierBuildError) → BuiltSmall made →
+    HasSmall (result_ok made)
 result_small (Ok specifier) small = small
 result_small (Err error) small = tt
 
@@ -109,7 +114,8 @@ one_built false false e f specifier small = small
 built_small : (operator : Operator) (version : VersionRecord) → IsSmallRelease version.release →
     BuiltSmall (built operator version)
 built_small operator version small =
-    one_built (has_local version && not (takes_local operator)) (is_tilde operator && nat_lt (length version.release) 2)
+    one_built (has_local version && not (takes_local operator))
+    (is_tilde operator && nat_lt (length version.release) 2)
     _ _ (record { operator = operator; version = version }) small
 
 starred_small : (operator : Operator) (star : Option Operator) (version : VersionRecord) →
@@ -142,7 +148,8 @@ by_star text version false is = record {
 
 pattern_small : (text : List ℕ) (pattern : PatternRecord) → pattern_of text ≡ Some pattern →
     IsSmallRelease pattern.version.release
-pattern_small text pattern e = by_star text pattern.version pattern.wildcard ((pattern_read text pattern).0 e)
+pattern_small text pattern e =
+    by_star text pattern.version pattern.wildcard ((pattern_read text pattern).0 e)
 
 behind_sign : (sign : Option Operator) (pattern : PatternRecord) → IsSmallRelease pattern.version.release →
     HasSmall (option_and_then (λ s. result_ok (built_of_pattern s pattern)) sign)
@@ -168,11 +175,13 @@ before_sign (Some sign) version small = result_small (built sign version) (built
 
 before_version : (operator : MarkerOperator) (text : List ℕ) (version : Option VersionRecord) →
     version_of text ≡ version →
-    HasSmall (option_and_then (λ v. option_and_then (λ sign. result_ok (built sign v)) (specifier_operator operator))
+    HasSmall (option_and_then
+    (λ v. option_and_then (λ sign. result_ok (built sign v)) (specifier_operator operator))
     version)
 before_version operator text None e = tt
 before_version operator text (Some version) e =
-    before_sign (specifier_operator operator) version (printable_small version (read_printable text version e))
+    before_sign (specifier_operator operator) version
+    (printable_small version (read_printable text version e))
 
 before_small : (operator : MarkerOperator) (text : List ℕ) → HasSmall (specifier_before operator text)
 before_small operator text = before_version operator text (version_of text) refl
@@ -187,7 +196,8 @@ abbrev MaybePrintable : Option VersionRecord → Type 0
 MaybePrintable None = Unit {0}
 MaybePrintable (Some version) = IsPrintable version
 
-with_printable : (version : Option VersionRecord) (others : Option (List VersionRecord)) → MaybePrintable version →
+with_printable : (version : Option VersionRecord) (others : Option (List VersionRecord)) →
+    MaybePrintable version →
     AllPrintable others → AllPrintable (with_version version others)
 with_printable None others printable all = tt
 with_printable (Some version) None printable all = tt
@@ -216,7 +226,8 @@ specifier_told key operator text =
     of_specifier_told key (specifier_behind operator text) (behind_small operator text)
 
 listed_or : (key : MarkerValueVersion) (negated : Bool) (operator : MarkerOperator) (text : List ℕ) →
-    IsToldSaid (of_list key negated (versions_of (runs_of text)) (of_specifier key (specifier_behind operator text))).said
+    IsToldSaid (of_list key negated (versions_of (runs_of text))
+    (of_specifier key (specifier_behind operator text))).said
 listed_or key negated operator text =
     of_list_told key negated (versions_of (runs_of text)) (of_specifier key (specifier_behind operator text))
     (versions_printable (runs_of text)) (specifier_told key operator text)
@@ -242,7 +253,8 @@ behind_told key operator text =
 
 -- ---- texts and extras
 
-text_told : (key : MarkerValueString) (text : List ℕ) → IsUtf8 text → AllByRecursion IsTold (text_questions key text)
+text_told : (key : MarkerValueString) (text : List ℕ) → IsUtf8 text →
+    AllByRecursion IsTold (text_questions key text)
 text_told key text is = (is, (is, (is, (is, tt))))
 
 texts_told : (key : MarkerValueString) (operator : MarkerOperator) (text : List ℕ) → IsUtf8 text →
@@ -259,7 +271,8 @@ texts_told key NotIn text is = text_told key text is
 texts_told key Contains text is = text_told key text is
 texts_told key NotContains text is = text_told key text is
 
-extra_said : (name : Option (List ℕ)) (text : List ℕ) (operator : Option ExtraOperator) → name_of text ≡ name →
+extra_said : (name : Option (List ℕ)) (text : List ℕ) (operator : Option ExtraOperator) →
+    name_of text ≡ name →
     IsUtf8 text → IsToldSaid (warned_of_name name (of_extra (extra_of name text) operator)).said
 extra_said None text None e is = tt
 extra_said None text (Some operator) e is = ((is, e), tt)
@@ -279,7 +292,8 @@ IsToldValue (TextKey key) = Unit {0}
 IsToldValue ExtraKey = Unit {0}
 IsToldValue (Quoted text) = IsUtf8 text
 
-pub compared_told : (left : ValueRecord) (operator : MarkerOperator) (right : ValueRecord) → IsToldValue left →
+pub compared_told : (left : ValueRecord) (operator : MarkerOperator) (right : ValueRecord) →
+    IsToldValue left →
     IsToldValue right → IsToldSaid (compared left operator right).said
 unfolding compared
 compared_told (VersionKey key) operator (Quoted text) first second = before_told key operator text
@@ -295,6 +309,7 @@ compared_told ExtraKey operator (VersionKey other) first second = tt
 compared_told ExtraKey operator (TextKey other) first second = tt
 compared_told ExtraKey operator ExtraKey first second = tt
 compared_told (Quoted text) operator (VersionKey key) first second = behind_told key operator text
-compared_told (Quoted text) operator (TextKey key) first second = texts_told key (inverted operator) text first
+compared_told (Quoted text) operator (TextKey key) first second =
+    texts_told key (inverted operator) text first
 compared_told (Quoted text) operator ExtraKey first second = extra_told operator text first
 compared_told (Quoted text) operator (Quoted other) first second = tt

@@ -1,22 +1,21 @@
 -- What a marker that is written in some characters asks is told by texts.
-use Rattle.std.proofs.Common.{◌≡◌, ◌⊎◌, ◌∙◌, ℕ, zero, suc, ◌==◌, Bool, true, false, ◌&&◌, if◌then◌else◌, List, [], ◌∷◌, ◌++◌, Option, Some, None, option_map, Result, Ok, Err, inl, inr, refl, ap, sym, subst}
+use Rattle.std.proofs.Common.{◌≡◌, ◌⊎◌, ◌∙◌, ℕ, zero, suc, Bool, true, false, ◌&&◌, if◌then◌else◌, List, [], ◌∷◌, ◌++◌, Option, Some, None, option_map, Ok, Err, inl, inr, refl, ap, sym, subst}
 use Rattle.std.proofs.lemmas.Bool.{and_parts}
 use Rattle.std.specs.List.{AllByRecursion}
-use Rattle.std.specs.Prelude.{codes, encode_utf8_all}
-use Rattle.std.specs.Str.{IsUtf8}
+use Rattle.std.specs.Prelude.{codes}
 use Rattle.version_ranges.proofs.Membership.{all_append}
 use Rattle.pep508_marker.specs.declared.warnings.MarkerWarningKind.{MarkerWarningKind}
 use Rattle.pep508_marker.specs.declared.operators.MarkerOperator.{MarkerOperator}
 use Rattle.pep508_marker.specs.declared.keys.MarkerValueVersion.{MarkerValueVersion}
 use Rattle.pep508_marker.specs.declared.keys.MarkerValueString.{MarkerValueString}
 use Rattle.pep508_marker.specs.Expression.{ExpressionRecord}
-use Rattle.pep508_marker.specs.Values.{ValueRecord, VersionKey, TextKey, ExtraKey, Quoted, version_key_of, text_key_of, other_key_of, version_key_or, key_of_text}
+use Rattle.pep508_marker.specs.Values.{ValueRecord, VersionKey, TextKey, ExtraKey, version_key_of, text_key_of, other_key_of, version_key_or, key_of_text}
 use Rattle.pep508_marker_comparison.specs.Compared.{compared}
 use Rattle.pep508_marker_comparison.specs.SideReading.{AtEnd, Reading}
 use Rattle.pep508_expression.specs.Expressions.{has_points}
-use Rattle.pep508_marker_read.specs.Formula.{Formula, Says, LeftOut}
+use Rattle.pep508_marker_read.specs.Formula.{Says, LeftOut}
 use Rattle.pep508_marker_read.specs.MarkerReading.{Marker, Connective, And, Or, word_of, join_with, of_said}
-use Rattle.pep508_marker_read.specs.MarkerText.{IsSpaced, IsQuotedText, IsKeyText, IsSideText, IsRunOperator, IsNotIn, IsOperatorText, IsComparisonText, IsEnclosed, IsJoint, AreJoined, join_all, IsJoined, IsEither, IsFormulaText, IsMarkerText}
+use Rattle.pep508_marker_read.specs.MarkerText.{IsSpaced, IsSideText, IsOperatorText, IsComparisonText, IsEnclosed, AreJoined, join_all, IsJoined, IsEither, IsFormulaText, IsMarkerText}
 use Rattle.pep508_reading_back.specs.Told.{questions_of, questions_of_term, IsTold}
 use Rattle.pep508_reading_back.proofs.ToldCompared.{IsToldSaid, IsToldValue, compared_told}
 use lib.Utf8.{scalar, scalars}
@@ -51,12 +50,15 @@ spaced_scalars cs behind spaced are = behind_front cs spaced.0 behind spaced.1 a
 -- ---- sides
 
 key_told : (key : Option MarkerValueVersion) (other : Option ValueRecord) (value : ValueRecord) →
-    ((found : ValueRecord) → other ≡ Some found → IsToldValue found) → version_key_or other key ≡ Some value →
+    ((found : ValueRecord) → other ≡ Some found → IsToldValue found) →
+    version_key_or other key ≡ Some value →
     IsToldValue value
-key_told (Some key) other value told e = (let same : VersionKey key ≡ value = cc in subst IsToldValue same tt)
+key_told (Some key) other value told e =
+    (let same : VersionKey key ≡ value = cc in subst IsToldValue same tt)
 key_told None other value told e = told value e
 
-text_key_told : (key : Option MarkerValueString) (value : ValueRecord) → option_map TextKey key ≡ Some value →
+text_key_told : (key : Option MarkerValueString) (value : ValueRecord) →
+    option_map TextKey key ≡ Some value →
     IsToldValue value
 text_key_told None value e = absurd (cc)
 text_key_told (Some key) value e = (let same : TextKey key ≡ value = cc in subst IsToldValue same tt)
@@ -86,7 +88,8 @@ side_told cs value rest (inl is) are =
 side_told cs value rest (inr is) are =
     record { told = keys_told _ value is.is_key; after = behind_front cs is.written rest is.split are }
 
-operator_scalars : (cs : List ℕ) (operator : MarkerOperator) (rest : List ℕ) → IsOperatorText cs operator rest →
+operator_scalars : (cs : List ℕ) (operator : MarkerOperator) (rest : List ℕ) →
+    IsOperatorText cs operator rest →
     AreScalars cs → AreScalars rest
 operator_scalars cs operator rest (inl is) are = behind_front cs is.written rest is.split are
 operator_scalars cs operator rest (inr is) are =
@@ -102,19 +105,24 @@ IsToldMarker marker = AllByRecursion IsTold (questions_of marker.formula)
 abbrev read_marker : Marker × List ℕ → Reading Marker
 read_marker found = Ok found
 
-same_marker : (made marker : Marker) (rest left : List ℕ) → read_marker (made, rest) ≡ Ok (marker, left) → made ≡ marker
+same_marker : (made marker : Marker) (rest left : List ℕ) → read_marker (made, rest) ≡ Ok (marker, left) →
+    made ≡ marker
 same_marker made marker rest left e =
     let pair : (made, rest) ≡ (marker, left) = cc in ap (λ (p : Marker × List ℕ). p.0) pair
 
-said_if : (term : ExpressionRecord) (warned : List MarkerWarningKind) (rest : List ℕ) (marker : Marker) (t : Bool) →
+said_if : (term : ExpressionRecord) (warned : List MarkerWarningKind) (rest : List ℕ) (marker : Marker)
+    (t : Bool) →
     AllByRecursion IsTold (questions_of_term term) →
-    (if t then read_marker (record { formula = Says term; warned = warned }, rest) else Err AtEnd) ≡ Ok (marker, rest) →
+    (if t then read_marker (record { formula = Says term; warned = warned }, rest) else Err AtEnd)
+    ≡ Ok (marker, rest) →
     IsToldMarker marker
 said_if term warned rest marker true told e =
-    subst IsToldMarker (same_marker (record { formula = Says term; warned = warned }) marker rest rest e) told
+    subst IsToldMarker
+    (same_marker (record { formula = Says term; warned = warned }) marker rest rest e) told
 said_if term warned rest marker false told e = absurd (cc)
 
-said_told : (said : Option ExpressionRecord) (warned : List MarkerWarningKind) (rest : List ℕ) (marker : Marker) →
+said_told : (said : Option ExpressionRecord) (warned : List MarkerWarningKind) (rest : List ℕ)
+    (marker : Marker) →
     IsToldSaid said → of_said said warned rest ≡ Ok (marker, rest) → IsToldMarker marker
 said_told None warned rest marker told e =
     subst IsToldMarker (same_marker (record { formula = LeftOut; warned = warned }) marker rest rest e) tt
@@ -128,7 +136,8 @@ pub record ToldPiece (marker : Marker) (rest : List ℕ) : Type 0 where
 -- each piece of characters is told
 abbrev TellsPieces : (List ℕ → Marker → List ℕ → Type 0) → Type 0
 TellsPieces Piece =
-    (cs : List ℕ) (marker : Marker) (rest : List ℕ) → Piece cs marker rest → AreScalars cs → ToldPiece marker rest
+    (cs : List ℕ) (marker : Marker) (rest : List ℕ) → Piece cs marker rest → AreScalars cs →
+    ToldPiece marker rest
 
 comparison_told : TellsPieces IsComparisonText
 comparison_told cs marker rest is are =
@@ -149,8 +158,10 @@ comparison_told cs marker rest is are =
 
 joined_told : (word : Connective) (first next : Marker) → IsToldMarker first → IsToldMarker next →
     IsToldMarker (join_with word first next)
-joined_told And first next a b = all_append IsTold (questions_of first.formula) (questions_of next.formula) a b
-joined_told Or first next a b = all_append IsTold (questions_of first.formula) (questions_of next.formula) a b
+joined_told And first next a b =
+    all_append IsTold (questions_of first.formula) (questions_of next.formula) a b
+joined_told Or first next a b =
+    all_append IsTold (questions_of first.formula) (questions_of next.formula) a b
 
 all_joined : (word : Connective) (first : Marker) (others : List Marker) → IsToldMarker first →
     AllByRecursion IsToldMarker others → IsToldMarker (join_all word first others)
@@ -187,9 +198,11 @@ module _ (Piece : List ℕ → Marker → List ℕ → Type 0) (tells : TellsPie
 either_told : (Piece : List ℕ → Marker → List ℕ → Type 0) → TellsPieces Piece → TellsPieces (IsEither Piece)
 either_told Piece tells = chain_told (IsJoined And Piece) (chain_told Piece tells And) Or
 
-enclosed_told : (Piece : List ℕ → Marker → List ℕ → Type 0) → TellsPieces Piece → TellsPieces (IsEnclosed Piece)
+enclosed_told : (Piece : List ℕ → Marker → List ℕ → Type 0) → TellsPieces Piece →
+    TellsPieces (IsEnclosed Piece)
 enclosed_told Piece tells cs marker rest is are =
-    let opened = behind_one (40 ∷ is.inside) is.inside 40 refl (spaced_scalars cs (40 ∷ is.inside) is.opens are) in
+    let opened = behind_one (40 ∷ is.inside) is.inside 40 refl
+    (spaced_scalars cs (40 ∷ is.inside) is.opens are) in
     let piece = tells is.inside marker is.behind is.is_piece opened in
     let closed = spaced_scalars is.behind (41 ∷ rest) is.closes piece.after in
     record { told = piece.told; after = behind_one (41 ∷ rest) rest 41 refl closed }
@@ -202,9 +215,11 @@ part_told Piece tells cs marker rest (inr is) are = enclosed_told Piece tells cs
 formula_told : (depth : ℕ) → TellsPieces (IsFormulaText depth)
 formula_told zero = either_told IsComparisonText comparison_told
 formula_told (suc depth) =
-    either_told (λ cs marker rest. IsComparisonText cs marker rest ⊎ IsEnclosed (IsFormulaText depth) cs marker rest)
+    either_told
+    (λ cs marker rest. IsComparisonText cs marker rest ⊎ IsEnclosed (IsFormulaText depth) cs marker rest)
     (part_told (IsFormulaText depth) (formula_told depth))
 
 -- the questions of a marker that is written in characters are told by texts
-pub written_told : (cs : List ℕ) (marker : Marker) → IsMarkerText cs marker → AreScalars cs → IsToldMarker marker
+pub written_told : (cs : List ℕ) (marker : Marker) → IsMarkerText cs marker → AreScalars cs →
+    IsToldMarker marker
 written_told cs marker is are = (formula_told 256 cs marker is.0 is.1 are).told

@@ -1,11 +1,11 @@
 -- Points that lie alike beside a value are held alike by whatever is bounded there.
-use Rattle.std.proofs.Common.{◌≡◌, ◌∙◌, Bool, true, false, not, cond, ◌&&◌, List, [], ◌∷◌, ◌++◌, refl, ap, ap₂, sym, Ordering, Less, Equal, Greater, is_eq, is_gt}
+use Rattle.std.proofs.Common.{◌≡◌, ◌∙◌, Bool, false, not, cond, List, [], ◌∷◌, ◌++◌, refl, ap, ap₂, sym, Ordering, Less, Equal, Greater, is_eq, is_gt}
 use Rattle.std.specs.List.{AllByRecursion, flat_map}
 use Rattle.std.specs.Ordering.{ordering_then, ordering_reverse}
 use Rattle.std.specs.Cmp.{IsTotalOrder}
 use Rattle.std.specs.declared.ops.Bound.TheVariants.{Included, Excluded}
 use Rattle.version_ranges.specs.declared.boundary.Boundary.TheVariants as boundary
-use Rattle.version_ranges.specs.Bounds.{starts_by, goes_on_to}
+use Rattle.version_ranges.specs.Bounds.{goes_on_to}
 use Rattle.version_ranges.specs.Point.{Point, BelowAll, At, JustAbove, point_cmp}
 use Rattle.version_ranges.specs.Turns.{reaches}
 use Rattle.version_ranges.proofs.Reading.{goes_to}
@@ -19,10 +19,12 @@ pub all_parts : {X : Type 0} (P : X → Type 0) (xs ys : List X) → AllByRecurs
 all_parts P [] ys all = (tt, all)
 all_parts P (x ∷ xs) ys all = let parts = all_parts P xs ys all.1 in ((all.0, parts.0), parts.1)
 
-pub all_in : {X Y : Type 0} (P : Y → Type 0) (f : X → List Y) (xs : List X) → AllByRecursion P (flat_map f xs) →
+pub all_in : {X Y : Type 0} (P : Y → Type 0) (f : X → List Y) (xs : List X) →
+    AllByRecursion P (flat_map f xs) →
     AllByRecursion (λ x. AllByRecursion P (f x)) xs
 all_in P f [] all = tt
-all_in P f (x ∷ xs) all = let parts = all_parts P (f x) (flat_map f xs) all in (parts.0, all_in P f xs parts.1)
+all_in P f (x ∷ xs) all =
+    let parts = all_parts P (f x) (flat_map f xs) all in (parts.0, all_in P f xs parts.1)
 
 -- ---- truths
 
@@ -75,7 +77,8 @@ module _ {T : Type 0} (cmp : T → T → Ordering) where
 
     pub alike_below : (p q : Point T) (x : T) → AlikeAt p q x →
         goes_on_to cmp (Excluded x) p ≡ goes_on_to cmp (Excluded x) q
-    alike_below p q x alike = goes_to cmp total (At x) p tt ∙ ap not alike.0 ∙ sym (goes_to cmp total (At x) q tt)
+    alike_below p q x alike =
+        goes_to cmp total (At x) p tt ∙ ap not alike.0 ∙ sym (goes_to cmp total (At x) q tt)
 
     pub alike_up_to : (p q : Point T) (x : T) → AlikeAt p q x →
         goes_on_to cmp (Included x) p ≡ goes_on_to cmp (Included x) q

@@ -1,5 +1,5 @@
 -- What equals a question that is told by a text is told too, where its version is in its shortest spelling.
-use Rattle.std.proofs.Common.{◌≡◌, ◌∙◌, ℕ, ◌<◌, ◌^◌, ◌==◌, true, Option, Some, None, refl, ap, sym, subst, Equal}
+use Rattle.std.proofs.Common.{◌≡◌, ◌∙◌, ℕ, ◌<◌, ◌^◌, true, Option, Some, None, refl, ap, sym, subst, Equal}
 use Rattle.std.proofs.lemmas.List.Elements.{All-from_recursion}
 use Rattle.std.specs.Cmp.{tied_itself, tied_back, unsigned_Decides}
 use Rattle.std.specs.Prelude.{IfSome}
@@ -19,7 +19,7 @@ use Rattle.pep508_diagram.proofs.Shortened.{shortened_tied, shortened_twice}
 use Rattle.pep508_marker_text.proofs.Spelled.{diagrams_spelled}
 use Rattle.pep508_reading_back.specs.Diagrams.{StandsAt}
 use Rattle.pep508_reading_back.specs.Told.{IsTold}
-use Rattle.pep508_reading_back.proofs.ToldReleases.{IsSmallRelease, short_small}
+use Rattle.pep508_reading_back.proofs.ToldReleases.{short_small}
 
 -- the question of the shortest spelling
 abbrev short_question : Question → Question

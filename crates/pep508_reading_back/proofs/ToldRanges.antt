@@ -1,6 +1,6 @@
 -- Points that lie alike beside the releases that a comparison names are held alike by it.
-use Rattle.std.proofs.Common.{◌≡◌, ◌∙◌, ℕ, Bool, true, false, not, ◌&&◌, ◌||◌, if◌then◌else◌, List, [], ◌∷◌, ◌++◌, Option, Some, None, map, refl, ap, ap₂, sym}
-use Rattle.std.specs.List.{AllByRecursion, list_all, list_any}
+use Rattle.std.proofs.Common.{◌≡◌, ◌∙◌, ℕ, Bool, true, false, not, ◌&&◌, ◌||◌, if◌then◌else◌, List, [], ◌∷◌, ◌++◌, Option, Some, None, refl, ap, ap₂, sym}
+use Rattle.std.specs.List.{AllByRecursion, list_all}
 use Rattle.std.specs.Option.{option_map, is_some}
 use Rattle.std.specs.Prelude.{option_to_list, drop}
 use Rattle.std.specs.declared.ops.Bound.TheVariants.{Included, Excluded}
@@ -45,7 +45,8 @@ module _ (p q : Point VersionRecord) where
   beside numbers all =
       let first = all_parts AlikeBeside (next_release numbers)
       (next_release (without_last numbers) ++ next_release (minor_of numbers)) all.1.1 in
-      let second = all_parts AlikeBeside (next_release (without_last numbers)) (next_release (minor_of numbers)) first.1
+      let second = all_parts AlikeBeside (next_release (without_last numbers))
+      (next_release (minor_of numbers)) first.1
       in
       record {
         itself = all.0;
@@ -62,7 +63,8 @@ module _ (p q : Point VersionRecord) where
       HeldAlike (option_map (λ last. up_to (release_record numbers) (release_record last)) end)
   spanned numbers None alike ends = refl
   spanned numbers (Some last) alike ends =
-      ap₂ (λ a b. a && b) alike.0 (alike_below version_cmp version_cmp_total p q (release_record last) ends.0)
+      ap₂ (λ a b. a && b) alike.0
+      (alike_below version_cmp version_cmp_total p q (release_record last) ends.0)
 
   others : (points : Option PointTest) → HeldAlike points → HeldAlike (option_map all_but points)
   others None alike = refl
@@ -94,7 +96,8 @@ module _ (p q : Point VersionRecord) where
   release_alike NotEqualStar numbers b = others (star_releases numbers) (star numbers b)
   release_alike TildeEqual numbers b =
       spanned numbers (last_raised (without_last numbers)) b.itself b.next_shorter
-  release_alike LessThan numbers b = alike_below version_cmp version_cmp_total p q (release_record numbers) b.itself
+  release_alike LessThan numbers b =
+      alike_below version_cmp version_cmp_total p q (release_record numbers) b.itself
   release_alike LessThanEqual numbers b =
       alike_up_to version_cmp version_cmp_total p q (release_record numbers) b.itself
   release_alike GreaterThan numbers b = b.itself.1
@@ -168,7 +171,8 @@ module _ (p q : Point VersionRecord) where
 
   beside_both : (numbers : List ℕ) → AllByRecursion AlikeBeside (asked_releases numbers) → BesideBoth numbers
   beside_both numbers all =
-      let parts = all_parts AlikeBeside (releases_beside numbers) (releases_beside (or_zero (stripped numbers))) all in
+      let parts = all_parts AlikeBeside (releases_beside numbers)
+      (releases_beside (or_zero (stripped numbers))) all in
       record {
         given = beside numbers parts.0;
         short = beside (or_zero (stripped numbers)) parts.1;

@@ -1,5 +1,5 @@
 -- The releases beside one of 64-bit numbers are of 64-bit numbers, and a text can say them.
-use Rattle.std.proofs.Common.{◌≡◌, ℕ, zero, suc, ◌+◌, ◌-◌, ◌<◌, ◌^◌, ◌==◌, arith, Bool, true, false, cond, if◌then◌else◌, nat_lt, length, List, [], ◌∷◌, ◌++◌, Option, Some, None, refl}
+use Rattle.std.proofs.Common.{◌≡◌, ℕ, zero, suc, ◌+◌, ◌-◌, ◌<◌, ◌^◌, ◌==◌, arith, Bool, true, false, if◌then◌else◌, nat_lt, length, List, [], ◌∷◌, ◌++◌, Option, Some, None, refl}
 use Rattle.std.specs.List.{AllByRecursion}
 use Rattle.std.specs.Option.{option_map}
 use Rattle.std.specs.Prelude.{option_to_list, take}
@@ -59,16 +59,19 @@ taken_small (suc count) (number ∷ numbers) small = (small.0, taken_small count
 minor_small : (numbers : List ℕ) → AllSmall numbers → IsSmallRelease (minor_of numbers)
 minor_small [] small = record { some = omega arith; small = (omega arith, (omega arith, tt)) }
 minor_small (major ∷ []) small = record { some = omega arith; small = (small.0, (omega arith, tt)) }
-minor_small (major ∷ minor ∷ numbers) small = record { some = omega arith; small = (small.0, (small.1.0, tt)) }
+minor_small (major ∷ minor ∷ numbers) small =
+    record { some = omega arith; small = (small.0, (small.1.0, tt)) }
 
 beside_small : (numbers : List ℕ) → IsSmallRelease numbers → AllReleases (releases_beside numbers)
 beside_small numbers good =
     let minor = minor_small numbers good.small in
     let shorter = next_small (without_last numbers) (taken_small (length numbers - 1) numbers good.small) in
-    let last = all_append IsSmallRelease (next_release (without_last numbers)) (next_release (minor_of numbers)) shorter
+    let last = all_append IsSmallRelease (next_release (without_last numbers))
+    (next_release (minor_of numbers)) shorter
     (next_small (minor_of numbers) minor.small) in
     let both = all_append IsSmallRelease (next_release numbers)
-    (next_release (without_last numbers) ++ next_release (minor_of numbers)) (next_small numbers good.small) last in
+    (next_release (without_last numbers) ++ next_release (minor_of numbers))
+    (next_small numbers good.small) last in
     (good, (minor, both))
 
 one_kept : (number : ℕ) (t : Bool) → number < 2 ^ 64 → AllSmall (if t then [] else number ∷ [])
@@ -93,7 +96,8 @@ pub short_small : (numbers : List ℕ) → AllSmall numbers → IsSmallRelease (
 short_small numbers small = or_zero_small (stripped numbers) (stripped_small numbers small)
 
 -- all that a comparison asks for are of 64-bit numbers
-pub asked_small : (numbers : List ℕ) → IsSmallRelease numbers → AllByRecursion IsSmallRelease (asked_releases numbers)
+pub asked_small : (numbers : List ℕ) → IsSmallRelease numbers →
+    AllByRecursion IsSmallRelease (asked_releases numbers)
 asked_small numbers good =
     all_append IsSmallRelease (releases_beside numbers) (releases_beside (or_zero (stripped numbers)))
     (beside_small numbers good)
