@@ -8,3 +8,4 @@ pub mod Questions
 pub mod Asked
 pub mod Told
 pub mod Unquoted
+pub mod Writable
