@@ -62,7 +62,8 @@ star_printable text version h = record {
   segments = subst (AllByRecursion _) (sym (ap (λ (v : VersionRecord). v.local) h.is_plain)) tt;
 }
 
-version_printable : (text : List ℕ) (version : VersionRecord) → IsVersionText text version → IsPrintable version
+version_printable : (text : List ℕ) (version : VersionRecord) → IsVersionText text version →
+    IsPrintable version
 version_printable text version h = record {
   no_least = h.no_least;
   no_most = h.no_most;
@@ -86,19 +87,24 @@ built_version : (operator : Operator) (version : VersionRecord) (specifier : Spe
     built operator version ≡ Ok specifier → specifier.version ≡ version
 built_version operator version specifier h =
     ap (λ (s : SpecifierRecord). s.version)
-    (of_tests (record { operator = operator; version = version }) specifier (OperatorLocalCombo operator version)
+    (of_tests (record { operator = operator; version = version }) specifier
+    (OperatorLocalCombo operator version)
     CompatibleRelease (has_local version && not (takes_local operator))
     (is_tilde operator && nat_lt (length version.release) 2) h)
 
 starred_version : (operator : Operator) (star : Option Operator) (version : VersionRecord)
-    (specifier : SpecifierRecord) → built_starred operator star version ≡ Ok specifier → specifier.version ≡ version
+    (specifier : SpecifierRecord) → built_starred operator star version ≡ Ok specifier →
+    specifier.version ≡ version
 starred_version operator None version specifier h = absurd (cc)
 starred_version operator (Some star) version specifier h = built_version star version specifier h
 
-same_version : (operator : Operator) (version : VersionRecord) (wildcard : Bool) (specifier : SpecifierRecord) →
-    (if wildcard then built_starred operator (starred operator) version else built operator version) ≡ Ok specifier →
+same_version : (operator : Operator) (version : VersionRecord) (wildcard : Bool)
+    (specifier : SpecifierRecord) →
+    (if wildcard then built_starred operator (starred operator) version else built operator version)
+    ≡ Ok specifier →
     specifier.version ≡ version
-same_version operator version true specifier h = starred_version operator (starred operator) version specifier h
+same_version operator version true specifier h =
+    starred_version operator (starred operator) version specifier h
 same_version operator version false specifier h = built_version operator version specifier h
 
 specifier_printable : (text : List ℕ) (specifier : SpecifierRecord) → IsSpecifierText text specifier →
@@ -110,7 +116,8 @@ specifier_printable text specifier h = record {
   built = text_is_built text specifier h;
 }
 
-given_printable : (pieces : List (List ℕ)) (given : List SpecifierRecord) → AllZip IsSpecifierText pieces given →
+given_printable : (pieces : List (List ℕ)) (given : List SpecifierRecord) →
+    AllZip IsSpecifierText pieces given →
     AllByRecursion IsPrintableSpecifier given
 given_printable [] [] h = tt
 given_printable [] (specifier ∷ given) h = absurd h
@@ -144,8 +151,8 @@ source_listed : (name cs rest : List ℕ) (given list : List SpecifierRecord) �
 source_listed name cs rest given list (inl h) order = listed_asked _ given list h.are_specifiers order
 source_listed name cs rest given list (inr h) order = listed_asked _ given list h.are_specifiers order
 
-pub asked_readable : {T E : Type 0} (Reads : List ℕ → Result T E → Type 0) (name cs rest : List ℕ) (source : Source)
-    (what : Option (VersionOrUrl T E)) → IsSourceText name cs rest source → AsksFor Reads source what →
+pub asked_readable : {T E : Type 0} (Reads : List ℕ → Result T E → Type 0) (name cs rest : List ℕ)
+    (source : Source) (what : Option (VersionOrUrl T E)) → IsSourceText name cs rest source → AsksFor Reads source what →
     AsksNoUrl what → IsReadableAsked what
 asked_readable Reads name cs rest source None s h n = tt
 asked_readable Reads name cs rest source (Some (asked.Url url)) s h n = absurd n

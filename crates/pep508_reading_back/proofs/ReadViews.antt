@@ -43,7 +43,8 @@ read_is_readable Reads written text shown h n =
     let extras_are : w.0.extras ≡ shown.extras.now = sym (h.shows.extras ∙ w.4) in
     let front = w.2.1 in
     record {
-      name = subst (λ name. name_of name ≡ Some name) name_is (normal_again front.written w.0.name front.is_name);
+      name = subst (λ name. name_of name ≡ Some name) name_is
+          (normal_again front.written w.0.name front.is_name);
       extras = subst (AllByRecursion (λ name. name_of name ≡ Some name)) extras_are
           (extras_normal front.brackets w.0.extras front.are_extras);
       asked = asked_readable Reads front.written front.asked w.2.0 w.0.source shown.version_or_url.now
@@ -62,13 +63,16 @@ front_kept : {T E : Type 0} (nodes : List NodeRecord) (shown : RequirementRef T 
 front_kept nodes shown (Ok r) h = record { name = h.0; extras = h.1; asks = h.2 }
 front_kept nodes shown (Err error) h = h
 
-pub read_keeps_front : {T E : Type 0} (Reads : List ℕ → Result T E → Type 0) (lacks : E → Bool) (vars : Variables)
+pub read_keeps_front : {T E : Type 0} (Reads : List ℕ → Result T E → Type 0) (lacks : E → Bool)
+    (vars : Variables)
     (nodes : List NodeRecord) (written : WrittenIsRead) (taken : WrittenIsTaken Reads lacks vars)
-    (output : T → Option (List ℕ)) (shown : RequirementRef T E) → IsReadableShown shown shown.version_or_url.now →
-    IsOfMarker (marker_text (diagram_in (tree_in shown.marker))) → (text : List ℕ) → printed output shown ≡ Some text →
+    (output : T → Option (List ℕ)) (shown : RequirementRef T E) →
+    IsReadableShown shown shown.version_or_url.now →
+    IsOfMarker (marker_text (diagram_in (tree_in shown.marker))) → (text : List ℕ) →
+    printed output shown ≡ Some text →
     (result : Result (Requirement T E) (Pep508Error T E)) →
     ReadsRequirement Reads lacks vars nodes text result → KeepsFront shown result
 read_keeps_front Reads lacks vars nodes written taken output shown good said text e result h =
     front_kept nodes shown result
-    (shown_again Reads lacks vars nodes written taken output shown good (λ marker. Unit {0})
+    (shown_again Reads lacks vars nodes written taken shown output good (λ marker. Unit {0})
     (makes_marker (marker_text (diagram_in (tree_in shown.marker))) said) text e result h)

@@ -18,12 +18,14 @@ module _ {X : Type 0} (lt : X → X → Bool) (order : IsStrictWeakOrder lt) whe
   Rises [] = Unit {0}
   Rises (x ∷ xs) = NoneBelow x xs × Rises xs
 
-  none_below : (x : X) (xs : List X) → ((k : ℕ) → k < length xs → lt (slice_index_or xs k x) x ≡ false) → NoneBelow x xs
+  none_below : (x : X) (xs : List X) → ((k : ℕ) → k < length xs → lt (slice_index_or xs k x) x ≡ false) →
+      NoneBelow x xs
   none_below x [] h = tt
   none_below x (y ∷ ys) h = (h 0 (omega arith), none_below x ys (λ k p. h (suc k) (omega arith)))
 
   rises_by : (xs : List X) →
-      ((i j : ℕ) (d : X) → i ≤ j → j < length xs → lt (slice_index_or xs j d) (slice_index_or xs i d) ≡ false) → Rises xs
+      ((i j : ℕ) (d : X) → i ≤ j → j < length xs
+      → lt (slice_index_or xs j d) (slice_index_or xs i d) ≡ false) → Rises xs
   rises_by [] h = tt
   rises_by (x ∷ xs) h = (
     none_below x xs (λ k p. h 0 (suc k) x (omega arith) (omega arith)),
@@ -106,7 +108,8 @@ module _ {X : Type 0} (lt : X → X → Bool) (order : IsStrictWeakOrder lt) whe
   one_order [] (y ∷ ys) hx hy same =
       absurd (not_both y (filter (ties lt y) ys) (filter (ties lt y) (y ∷ ys)) (itself_kept y ys) (same y))
   one_order (x ∷ xs) [] hx hy same =
-      absurd (not_both x (filter (ties lt x) xs) (filter (ties lt x) (x ∷ xs)) (itself_kept x xs) (sym (same x)))
+      absurd
+      (not_both x (filter (ties lt x) xs) (filter (ties lt x) (x ∷ xs)) (itself_kept x xs) (sym (same x)))
   one_order (x ∷ xs) (y ∷ ys) hx hy same =
       let first : y ≡ x = heads_same x y xs ys (heads_tie x y xs ys hx.0 hy.0 same) same in
       ap (λ l. y ∷ l) (one_order xs ys hx.1 hy.1 (tails_same x y xs ys first same)) ∙ ap (λ w. w ∷ xs) first
@@ -114,15 +117,19 @@ module _ {X : Type 0} (lt : X → X → Bool) (order : IsStrictWeakOrder lt) whe
   pub some_left : (xs ys : List X) → 0 < length xs → IsStableBy lt xs ys → 0 < length ys
   some_left [] ys some same = absurd (omega arith)
   some_left (x ∷ xs) [] some same =
-      absurd (not_both x (filter (ties lt x) xs) (filter (ties lt x) (x ∷ xs)) (itself_kept x xs) (sym (same x)))
+      absurd
+      (not_both x (filter (ties lt x) xs) (filter (ties lt x) (x ∷ xs)) (itself_kept x xs) (sym (same x)))
   some_left (x ∷ xs) (y ∷ ys) some same = omega arith
 
   pub sorted_again : (xs ys : List X) → IsSortedBy lt xs → IsSortedBy lt ys → IsStableBy lt xs ys → ys ≡ xs
   sorted_again xs ys hx hy same = one_order xs ys (rises xs hx) (rises ys hy) same
 
-pub in_order_again : (given list : List SpecifierRecord) → IsByVersion given → IsInOrder given list → list ≡ given
+pub in_order_again : (given list : List SpecifierRecord) → IsByVersion given → IsInOrder given list →
+    list ≡ given
 in_order_again given list sorted h =
     sorted_again _ (ranks_by version_cmp_total (λ s. s.version)) given list sorted h.sorted h.stable
 
-pub some_kept : (given list : List SpecifierRecord) → 0 < length given → IsInOrder given list → 0 < length list
-some_kept given list some h = some_left _ (ranks_by version_cmp_total (λ s. s.version)) given list some h.stable
+pub some_kept : (given list : List SpecifierRecord) → 0 < length given → IsInOrder given list →
+    0 < length list
+some_kept given list some h =
+    some_left _ (ranks_by version_cmp_total (λ s. s.version)) given list some h.stable

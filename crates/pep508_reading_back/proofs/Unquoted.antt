@@ -30,10 +30,12 @@ pub shown_told : {T E : Type 0} (Reads : List ℕ → Result T E → Type 0) →
     AllQuestions IsTold (diagram_in (tree_in shown.marker))
 shown_told Reads written text shown utf8 h canonical short =
     let w = written h.old text h.requirement h.is_read in
-    tree_told h.old h.now h.requirement.marker (tree_in shown.marker) text w.0 w.1 utf8 w.2 w.6 h.keeps h.shows.marker
+    tree_told h.old h.now h.requirement.marker (tree_in shown.marker) text w.0 w.1 utf8 w.2 w.6 h.keeps
+    h.shows.marker
     canonical short
 
-question_readable : (q : Question) → IsTold q → AsksUnquoted q → AsksOfReleases q → AsksOfModernKey q → AsksReadably q
+question_readable : (q : Question) → IsTold q → AsksUnquoted q → AsksOfReleases q → AsksOfModernKey q →
+    AsksReadably q
 question_readable (VersionBelow key (At version)) t u r m = (r, t.some_number)
 question_readable (VersionBelow key (JustAbove version)) t u r m = (r, t.some_number)
 question_readable (TextBelow key (At text)) t u r m = (m, record { encoded = t; unquoted = u })
@@ -64,7 +66,8 @@ plain_is_readable Reads written text shown utf8 h n plain canonical short =
       name = good.name;
       extras = good.extras;
       asked = good.asked;
-      marker = told_is_readable d (shown_told Reads written text shown utf8 h canonical short) plain.unquoted plain.releases
+      marker = told_is_readable d (shown_told Reads written text shown utf8 h canonical short)
+          plain.unquoted plain.releases
           plain.keys;
       sometimes = plain.sometimes;
     }
@@ -96,15 +99,18 @@ question_writable (IsSet (Contains key text)) t u = record { encoded = t; unquot
 question_writable (IsSet (Extra name)) t u = plain_quotable name (plain_name name name t)
 question_writable (IsSet (Arbitrary text)) t u = record { encoded = t.0; unquoted = u }
 
-pub told_is_writable : (d : Diagram Question) → AllQuestions IsTold d → AllQuestions AsksUnquoted d → IsWritableDiagram d
+pub told_is_writable : (d : Diagram Question) → AllQuestions IsTold d → AllQuestions AsksUnquoted d →
+    IsWritableDiagram d
 told_is_writable (Leaf b) t u = tt
 told_is_writable (Test q low high) t u =
     (question_writable q t.0 u.0, told_is_writable low t.1 u.1, told_is_writable high t.2 u.2)
 
-pub unquoted_is_writable : {T E : Type 0} (Reads : List ℕ → Result T E → Type 0) → ReadIsWritten Reads → (text : List ℕ)
+pub unquoted_is_writable : {T E : Type 0} (Reads : List ℕ → Result T E → Type 0) → ReadIsWritten Reads →
+    (text : List ℕ)
     (shown : RequirementRef T E) → IsUtf8 text → ShowsRead Reads text shown →
     IsUnquotedDiagram (diagram_in (tree_in shown.marker)) → IsCanonical (diagram_in (tree_in shown.marker)) →
-    HasShortVersions (diagram_in (tree_in shown.marker)) → IsWritableDiagram (diagram_in (tree_in shown.marker))
+    HasShortVersions (diagram_in (tree_in shown.marker)) →
+    IsWritableDiagram (diagram_in (tree_in shown.marker))
 unquoted_is_writable Reads written text shown utf8 h unquoted canonical short =
     told_is_writable (diagram_in (tree_in shown.marker))
     (shown_told Reads written text shown utf8 h canonical short) unquoted

@@ -1,4 +1,4 @@
--- Requirements that were read, with their interner, and what is kept of one when what it prints is read again.
+-- Requirements that were read, with their interner, and what is kept of them when their print is read again.
 use Rattle.std.specs.Prelude.{◌≡◌, ℕ, List, Option, Some, None, Result, Ok, Err}
 use Rattle.std.specs.Str.{chars}
 use Rattle.pep508_error.specs.declared.error.Pep508Error.{Pep508Error}

@@ -130,9 +130,9 @@ pub fn a_read_marker_asks_what_texts_say()
         → SaysDiagram diagram marker → AllQuestions IsTold diagram }
 {}
 
-/// What a requirement that was read without a URL prints with its interner is read by `Requirement::parse` with
-/// any interner, unless memory runs out, with its name, its extras and its specifiers: where the text of its
-/// marker is that of a marker.
+/// What a requirement that was read without a URL prints with its interner is read by `Requirement::parse`
+/// with any interner, unless memory runs out, with its name, its extras and its specifiers: where the text of
+/// its marker is that of a marker.
 pub fn a_read_requirement_reads_back<'a, T: Pep508Url>(shown: &RequirementRef<'a, T>)
     ensures { (vars others : Variables) (directory other : Option (List ℕ)) (given text : List ℕ)
         (nodes : List NodeRecord) (answer : _) → ShowsRead (λ url. T.reads vars url directory) given shown.now
@@ -147,9 +147,9 @@ pub fn a_read_requirement_reads_back<'a, T: Pep508Url>(shown: &RequirementRef<'a
     a_written_requirement_is_not_refused::<T>();
 }
 
-/// The marker of a requirement that was read without a URL reads back too, as a tree that means the same: where
-/// its texts have no single quote, its versions are releases of epoch 0, its keys are no old names, and it
-/// sometimes holds.
+/// The marker of a requirement that was read without a URL reads back too, as a tree that means the same:
+/// where its texts have no single quote, its versions are releases of epoch 0, its keys are no old names, and
+/// it sometimes holds.
 pub fn a_read_marker_reads_back<'a, T: Pep508Url>(shown: &RequirementRef<'a, T>)
     ensures { (vars others : Variables) (directory other : Option (List ℕ)) (given text : List ℕ)
         (nodes : List NodeRecord) (answer : _) → IsUtf8 given
