@@ -152,7 +152,8 @@ source_listed name cs rest given list (inl h) order = listed_asked _ given list 
 source_listed name cs rest given list (inr h) order = listed_asked _ given list h.are_specifiers order
 
 pub asked_readable : {T E : Type 0} (Reads : List ℕ → Result T E → Type 0) (name cs rest : List ℕ)
-    (source : Source) (what : Option (VersionOrUrl T E)) → IsSourceText name cs rest source → AsksFor Reads source what →
+    (source : Source) (what : Option (VersionOrUrl T E)) → IsSourceText name cs rest source →
+    AsksFor Reads source what →
     AsksNoUrl what → IsReadableAsked what
 asked_readable Reads name cs rest source None s h n = tt
 asked_readable Reads name cs rest source (Some (asked.Url url)) s h n = absurd n
