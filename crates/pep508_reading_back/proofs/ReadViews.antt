@@ -1,9 +1,11 @@
 -- What a requirement that was read prints is read with its name, its extras and its specifiers.
 use Rattle.std.proofs.Common.{◌≡◌, ℕ, Bool, List, Option, Some, None, Result, Ok, Err, refl, sym, subst, ◌∙◌}
 use Rattle.std.specs.List.{AllByRecursion}
+use Rattle.std.specs.Str.{chars}
 use Rattle.pep508_error.specs.declared.error.Pep508Error.{Pep508Error}
 use Rattle.pep508_marker_read.specs.MarkerOutcome.{IsTreeOf}
 use Rattle.pep508_marker_read.specs.MarkerReading.{Marker}
+use Rattle.pep508_marker_read.specs.MarkerText.{IsMarkerText}
 use Rattle.pep508_marker_text.specs.MarkerText.{marker_text}
 use Rattle.pep508_name.specs.Name.{name_of}
 use Rattle.pep508_name.proofs.Again.{normal_again}
@@ -14,7 +16,7 @@ use Rattle.pep508_requirement.specs.RequirementReading.{AsksFor, IsRead, ReadsRe
 use Rattle.pep508_requirement.specs.RequirementText.{IsMarkedText}
 use Rattle.pep508_requirement_ref.specs.Views.{printed}
 use Rattle.pep508_requirement_ref.specs.declared.requirement_ref.RequirementRef.{RequirementRef}
-use Rattle.pep508_reading_back.specs.ReadViews.{AsksNoUrl, IsOfMarker, ShowsRead, KeepsFront}
+use Rattle.pep508_reading_back.specs.ReadViews.{AsksNoUrl, ShowsRead, KeepsFront}
 use Rattle.pep508_reading_back.proofs.ReadFronts.{asked_readable, extras_normal}
 use Rattle.pep508_reading_back.proofs.ReadRequirements.{WrittenIsRead}
 use Rattle.pep508_reading_back.proofs.Requirements.{marked_read, unmarked_read}
@@ -31,6 +33,11 @@ ReadIsWritten {T} {E} Reads =
     → (front : Front) × (marker : Marker) × IsMarkedText text front marker × (r.name ≡ front.name)
     × (r.extras.items ≡ front.extras) × AsksFor Reads front.source r.version_or_url
     × IsTreeOf nodes r.marker marker.formula
+
+-- the text, if there is any, is that of a marker
+abbrev pub IsOfMarker : Option (List ℕ) → Type 0
+IsOfMarker written =
+    (text : List ℕ) → written ≡ Some text → (marker : Marker) × IsMarkerText (chars text) marker
 
 -- a requirement that was read is one that can be printed and read again
 pub read_is_readable : {T E : Type 0} (Reads : List ℕ → Result T E → Type 0) → ReadIsWritten Reads →

@@ -13,6 +13,9 @@ use Rattle.pep508_requirement_ref.specs.declared.requirement_ref.RequirementRef.
 use Rattle.pep508_reading_back.specs.Diagrams.{AsksReadably, IsReadableDiagram}
 use Rattle.pep508_reading_back.specs.Questions.{AllQuestions}
 use Rattle.pep508_reading_back.specs.ReadViews.{AsksNoUrl, ShowsRead}
+use Rattle.pep508_reading_back.proofs.ReadViews.{IsOfMarker}
+use Rattle.pep508_reading_back.proofs.WritableDiagrams.{written_marker}
+use Rattle.pep508_marker_text.specs.MarkerText.{marker_text}
 use Rattle.pep508_reading_back.specs.Told.{IsTold}
 use Rattle.pep508_reading_back.specs.Unquoted.{AsksUnquoted, AsksOfModernKey, IsPlainDiagram, IsUnquotedDiagram}
 use Rattle.pep508_reading_back.specs.Views.{IsReadableView}
@@ -105,12 +108,12 @@ told_is_writable (Leaf b) t u = tt
 told_is_writable (Test q low high) t u =
     (question_writable q t.0 u.0, told_is_writable low t.1 u.1, told_is_writable high t.2 u.2)
 
-pub unquoted_is_writable : {T E : Type 0} (Reads : List ℕ → Result T E → Type 0) → ReadIsWritten Reads →
-    (text : List ℕ)
-    (shown : RequirementRef T E) → IsUtf8 text → ShowsRead Reads text shown →
+pub unquoted_is_of_marker : {T E : Type 0} (Reads : List ℕ → Result T E → Type 0) → ReadIsWritten Reads →
+    (text : List ℕ) (shown : RequirementRef T E) → IsUtf8 text → ShowsRead Reads text shown →
     IsUnquotedDiagram (diagram_in (tree_in shown.marker)) → IsCanonical (diagram_in (tree_in shown.marker)) →
     HasShortVersions (diagram_in (tree_in shown.marker)) →
-    IsWritableDiagram (diagram_in (tree_in shown.marker))
-unquoted_is_writable Reads written text shown utf8 h unquoted canonical short =
-    told_is_writable (diagram_in (tree_in shown.marker))
-    (shown_told Reads written text shown utf8 h canonical short) unquoted
+    IsOfMarker (marker_text (diagram_in (tree_in shown.marker)))
+unquoted_is_of_marker Reads written text shown utf8 h unquoted canonical short behind is =
+    let d = diagram_in (tree_in shown.marker) in
+    written_marker d behind canonical
+    (told_is_writable d (shown_told Reads written text shown utf8 h canonical short) unquoted) is

@@ -1,9 +1,6 @@
 -- Requirements that were read, with their interner, and what is kept of them when their print is read again.
 use Rattle.std.specs.Prelude.{◌≡◌, ℕ, List, Option, Some, None, Result, Ok, Err}
-use Rattle.std.specs.Str.{chars}
 use Rattle.pep508_error.specs.declared.error.Pep508Error.{Pep508Error}
-use Rattle.pep508_marker_read.specs.MarkerReading.{Marker}
-use Rattle.pep508_marker_read.specs.MarkerText.{IsMarkerText}
 use Rattle.pep508_tree.specs.Meaning.{NodeRecord, Extends}
 use Rattle.pep508_requirement.specs.declared.requirement.Requirement.{Requirement}
 use Rattle.pep508_requirement.specs.declared.version_or_url.VersionOrUrl.{VersionOrUrl}
@@ -41,8 +38,3 @@ abbrev pub KeepsFront : {T E : Type 0} → RequirementRef T E → Result (Requir
     → Type 0
 KeepsFront shown (Ok r) = HasFront shown r
 KeepsFront shown (Err error) = IsWantOfMemory error.message
-
--- the text, if there is any, is that of a marker
-abbrev pub IsOfMarker : Option (List ℕ) → Type 0
-IsOfMarker written =
-    (text : List ℕ) → written ≡ Some text → (marker : Marker) × IsMarkerText (chars text) marker

@@ -25,8 +25,8 @@ ghost use Rattle.pep508_marker_read.specs.Formula.{Formula, formula_holds};
 ghost use Rattle.pep508_expression.specs.Expressions.{expression_holds};
 ghost use Rattle.pep508_reading_back.specs.Told.{questions_of, IsTold};
 ghost use Rattle.pep508_reading_back.specs.Views.{IsReadableView, ReadsBack};
-ghost use Rattle.pep508_reading_back.specs.ReadViews.{AsksNoUrl, IsOfMarker, KeepsFront, ShowsRead};
-ghost use Rattle.pep508_reading_back.specs.Unquoted.{IsPlainDiagram};
+ghost use Rattle.pep508_reading_back.specs.ReadViews.{AsksNoUrl, KeepsFront, ShowsRead};
+ghost use Rattle.pep508_reading_back.specs.Unquoted.{IsPlainDiagram, IsUnquotedDiagram};
 ghost use Rattle.pep508_tree_ref.specs.Lent.{tree_in};
 ghost use Rattle.pep508_tree_ref.specs.TreeIn.{diagram_in};
 ghost use Rattle.pep508_reading_back.specs.Asked.{AnswerAlike, IsAmong};
@@ -131,17 +131,19 @@ pub fn a_read_marker_asks_what_texts_say()
 {}
 
 /// What a requirement that was read without a URL prints with its interner is read by `Requirement::parse`
-/// with any interner, unless memory runs out, with its name, its extras and its specifiers: where the text of
-/// its marker is that of a marker.
+/// with any interner, unless memory runs out, with its name, its extras and its specifiers: where no text of
+/// its marker has a single quote, which a text in double quotes may have.
 pub fn a_read_requirement_reads_back<'a, T: Pep508Url>(shown: &RequirementRef<'a, T>)
     ensures { (vars others : Variables) (directory other : Option (List ℕ)) (given text : List ℕ)
-        (nodes : List NodeRecord) (answer : _) → ShowsRead (λ url. T.reads vars url directory) given shown.now
+        (nodes : List NodeRecord) (answer : _) → IsUtf8 given
+        → ShowsRead (λ url. T.reads vars url directory) given shown.now
         → AsksNoUrl shown.now.version_or_url.now
-        → IsOfMarker (marker_text (diagram_in (tree_in shown.now.marker)))
+        → IsUnquotedDiagram (diagram_in (tree_in shown.now.marker))
         → ⟦<RequirementRef<'a, T> as fmt::Display>⟧.output shown.now ≡ Some text
         → reading.ReadsRequirement (λ url. T.reads others url other) T.lacks_memory others nodes text answer
         → KeepsFront shown.now answer }
 {
+    shown.is_canonical();
     a_read_requirement_is_written::<T>();
     a_written_requirement_is_read();
     a_written_requirement_is_not_refused::<T>();
