@@ -9,3 +9,5 @@ pub mod Dotless
 pub mod Requirements
 pub mod ReadRequirements
 pub mod Views
+pub mod WritableComparisons
+pub mod WritableClauses

@@ -21,6 +21,7 @@ ghost use Rattle.pep508_tree.specs.Meaning.{NodeRecord, holds};
 ghost use Rattle.pep508_requirement.specs.RequirementReading.{AsksFor, IsRead};
 ghost use Rattle.pep508_requirement.specs.RequirementReading as reading;
 ghost use Rattle.pep508_reading_back.specs.Views.{IsReadableView, ReadsBack};
+ghost use Rattle.pep508_reading_back.specs.Writable.{IsWritableDiagram};
 
 use pep508_requirement::laws::{
     a_written_requirement_is_not_refused, a_written_requirement_is_read,
@@ -96,3 +97,10 @@ pub fn a_printed_view_reads_back<'a, T: Pep508Url>(shown: &RequirementRef<'a, T>
     a_written_requirement_is_read();
     a_written_requirement_is_not_refused::<T>();
 }
+
+/// Whatever marker is printed reads as one again, though perhaps with another meaning: of each diagram whose
+/// versions a text can have and whose texts have no single quote, whatever its keys and its bounds.
+pub fn a_printed_marker_is_a_marker()
+    ensures { (diagram : Diagram Question) (text : List ℕ) → IsCanonical diagram → IsWritableDiagram diagram
+        → marker_text diagram ≡ Some text → (marker : Marker) × IsMarkerText (chars text) marker }
+{}
