@@ -11,3 +11,4 @@ pub mod ReadRequirements
 pub mod Views
 pub mod WritableComparisons
 pub mod WritableClauses
+pub mod WritableTerms
