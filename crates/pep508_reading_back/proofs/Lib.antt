@@ -12,3 +12,4 @@ pub mod Views
 pub mod WritableComparisons
 pub mod WritableClauses
 pub mod WritableTerms
+pub mod WritableSimplified
