@@ -13,3 +13,6 @@ pub mod WritableComparisons
 pub mod WritableClauses
 pub mod WritableTerms
 pub mod WritableSimplified
+pub mod WritableSets
+pub mod WritableParts
+pub mod WritableDiagrams
