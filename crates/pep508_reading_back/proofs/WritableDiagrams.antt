@@ -1,19 +1,19 @@
 -- The text of a diagram whose questions are about what a text can have is that of some marker.
-use Rattle.std.proofs.Common.{◌≡◌, ℕ, ◌<◌, true, false, length, List, [], ◌∷◌, Some, refl, subst, arith}
+use Rattle.std.proofs.Common.{◌≡◌, ℕ, ◌<◌, true, false, length, List, [], ◌∷◌, ◌++◌, Some, refl, ap, subst, ◌∙◌, arith}
 use Rattle.std.proofs.lemmas.Bool.{false≢true}
-use Rattle.std.proofs.lemmas.List.{append-nil}
+use Rattle.std.proofs.lemmas.Fmt.{decimal_digit}
 use Rattle.std.specs.List.{AllByRecursion, filter}
 use Rattle.std.specs.Prelude.{codes}
 use Rattle.std.specs.Str.{chars}
 use Rattle.version_ranges.specs.declared.boundary.Boundary.TheVariants as boundary
-use Rattle.pep508_marker.specs.Expression.{expression_text}
-use Rattle.pep440_operator.specs.declared.operator.Operator.TheVariants.{LessThan}
 use Rattle.pep440_text.specs.Record.{release_record}
+use Rattle.pep440_text.specs.Print.{version_text}
+use Rattle.pep440_operator.specs.declared.operator.Operator.TheVariants.{LessThan}
 use Rattle.pep508_marker.specs.declared.keys.MarkerValueVersion.TheVariants.{PythonVersion}
-use Rattle.pep508_marker.specs.Expression.{ExpressionRecord, Version}
+use Rattle.pep508_marker.specs.Expression.{ExpressionRecord, Version, term_text, expression_text}
 use Rattle.pep508_diagram.specs.Diagram.{Diagram, Leaf, Test}
 use Rattle.pep508_diagram.specs.Question.{Question, VersionBelow, TextBelow, IsSet, IsCanonical, flag_text}
-use Rattle.pep508_marker_comparison.specs.SideReading.{ends_key}
+use Rattle.pep508_expression.specs.Expressions.{has_points}
 use Rattle.pep508_marker_read.specs.MarkerReading.{Marker}
 use Rattle.pep508_marker_read.specs.MarkerText.{IsComparisonText, IsMarkerText}
 use Rattle.pep508_marker_text.specs.Clauses.{clauses_of}
@@ -23,8 +23,10 @@ use Rattle.pep508_marker_text.specs.Saying.{Clause}
 use Rattle.pep508_marker_text.specs.Simplified.{has_some}
 use Rattle.pep508_marker_text.proofs.Fitting.{AllFit, GoodQuestion, AllGood, simplified_fit, walk_meets}
 use Rattle.pep508_marker_text.proofs.Where.{filter_all}
-use Rattle.pep508_reading_back.specs.Readable.{IsQuotable}
+use Rattle.pep508_reading_back.specs.Readable.{IsQuotable, IsReadable, marker_of}
 use Rattle.pep508_reading_back.specs.Writable.{IsSayable, AsksWritably, IsWritableDiagram}
+use Rattle.pep508_reading_back.proofs.Clauses.{term_written}
+use Rattle.pep508_reading_back.proofs.Diagrams.{release_readable}
 use Rattle.pep508_reading_back.proofs.Joining.{Pieces, comparison_leads}
 use Rattle.pep508_reading_back.proofs.WritableClauses.{SomeGood, all_written, marker_of_clauses}
 use Rattle.pep508_reading_back.proofs.WritableComparisons.{IsWritable, read_marker, written_read, written_utf8}
@@ -82,8 +84,22 @@ test_written q low high c h =
 
 -- ---- what never holds
 
-never_term : ExpressionRecord
+abbrev never_term : ExpressionRecord
 never_term = Version PythonVersion (record { operator = LessThan; version = release_record (0 ∷ []) })
+
+never_text : expression_text never_term ≡ codes "python_version < '0'"
+unfolding version_text
+never_text =
+    ap (λ digits. term_text (codes "python_version") (codes "<")
+    (((((([] ++ digits) ++ []) ++ []) ++ []) ++ []) ++ [])) (decimal_digit 0 (omega arith))
+
+never_points : has_points never_term ≡ true
+unfolding has_points
+never_points = refl
+
+never_readable : IsReadable never_term
+never_readable =
+    (release_readable LessThan (0 ∷ []) refl (λ e. absurd (cc)) (omega arith, tt) (omega arith), never_points)
 
 -- ---- diagrams
 
@@ -93,7 +109,8 @@ pub written_marker : (d : Diagram Question) (text : List ℕ) → IsCanonical d 
 written_marker (Leaf true) text c h e = absurd (cc)
 written_marker (Leaf false) text c h e =
     let is : codes "python_version < '0'" ≡ text = cc in
-    subst (λ t. (marker : Marker) × IsMarkerText (chars t) marker) is ?
+    subst (λ t. (marker : Marker) × IsMarkerText (chars t) marker) (never_text ∙ is)
+    (marker_of never_term, term_written never_term never_readable)
 written_marker (Test q low high) text c h e =
     let d : Diagram Question = Test q low high in
     let is : clauses_text (disjunction d) ≡ text = cc in
