@@ -21,4 +21,11 @@ pub mod ToldCompared
 pub mod ToldMarkers
 pub mod ToldQuestions
 pub mod Told
+pub mod WritableComparisons
+pub mod WritableClauses
+pub mod WritableTerms
+pub mod WritableSimplified
+pub mod WritableSets
+pub mod WritableParts
+pub mod WritableDiagrams
 pub mod Unquoted

@@ -31,6 +31,7 @@ ghost use Rattle.pep508_tree_ref.specs.Lent.{tree_in};
 ghost use Rattle.pep508_tree_ref.specs.TreeIn.{diagram_in};
 ghost use Rattle.pep508_reading_back.specs.Asked.{AnswerAlike, IsAmong};
 ghost use Rattle.pep508_reading_back.specs.Questions.{AllQuestions};
+ghost use Rattle.pep508_reading_back.specs.Writable.{IsWritableDiagram};
 
 use pep508_requirement::laws::{
     a_read_requirement_is_written, a_written_requirement_is_not_refused,
@@ -107,6 +108,13 @@ pub fn a_printed_view_reads_back<'a, T: Pep508Url>(shown: &RequirementRef<'a, T>
     a_written_requirement_is_read();
     a_written_requirement_is_not_refused::<T>();
 }
+
+/// Whatever marker is printed reads as one again, though perhaps with another meaning: of each diagram whose
+/// versions a text can have and whose texts have no single quote, whatever its keys and its bounds.
+pub fn a_printed_marker_is_a_marker()
+    ensures { (diagram : Diagram Question) (text : List ℕ) → IsCanonical diagram → IsWritableDiagram diagram
+        → marker_text diagram ≡ Some text → (marker : Marker) × IsMarkerText (chars text) marker }
+{}
 
 /// A marker whose truth some questions settle asks these questions alone, up to the spelling of equal
 /// versions.
