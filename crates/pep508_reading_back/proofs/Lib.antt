@@ -2,6 +2,7 @@ pub mod Plain
 pub mod Patterns
 pub mod Comparisons
 pub mod Joining
+pub mod JoinedClauses
 pub mod Clauses
 pub mod Diagrams
 pub mod Specifiers
@@ -10,7 +11,6 @@ pub mod Requirements
 pub mod ReadRequirements
 pub mod Views
 pub mod WritableComparisons
-pub mod WritableClauses
 pub mod WritableTerms
 pub mod WritableSimplified
 pub mod WritableSets
