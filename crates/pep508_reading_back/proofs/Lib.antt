@@ -2,6 +2,7 @@ pub mod Plain
 pub mod Patterns
 pub mod Comparisons
 pub mod Joining
+pub mod JoinedClauses
 pub mod Clauses
 pub mod Diagrams
 pub mod Specifiers
@@ -22,7 +23,6 @@ pub mod ToldMarkers
 pub mod ToldQuestions
 pub mod Told
 pub mod WritableComparisons
-pub mod WritableClauses
 pub mod WritableTerms
 pub mod WritableSimplified
 pub mod WritableSets

@@ -28,7 +28,7 @@ use Rattle.pep508_reading_back.specs.Writable.{IsSayable, AsksWritably, IsWritab
 use Rattle.pep508_reading_back.proofs.Clauses.{term_written}
 use Rattle.pep508_reading_back.proofs.Diagrams.{release_readable}
 use Rattle.pep508_reading_back.proofs.Joining.{Pieces, comparison_leads}
-use Rattle.pep508_reading_back.proofs.WritableClauses.{SomeGood, all_written, marker_of_clauses}
+use Rattle.pep508_reading_back.proofs.JoinedClauses.{SomeGood, all_written, marker_of_clauses}
 use Rattle.pep508_reading_back.proofs.WritableComparisons.{IsWritable, read_marker, written_read, written_utf8}
 use Rattle.pep508_reading_back.proofs.WritableParts.{some_term}
 use Rattle.pep508_reading_back.proofs.WritableSimplified.{IsSome, filter_each, filter_some, simplified_each, simplified_some}
