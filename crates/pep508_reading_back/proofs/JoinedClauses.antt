@@ -1,5 +1,6 @@
 -- Clauses of comparisons that are read are the text of a marker: clauses of several comparisons in brackets.
-use Rattle.std.proofs.Common.{◌≡◌, ◌⊎◌, ℕ, ◌<◌, zero, suc, List, [], ◌∷◌, ◌++◌, length, map, inl, inr, refl, ap, sym, subst, ◌∙◌, arith, append_assoc}
+use Rattle.std.proofs.Common.{◌≡◌, ◌⊎◌, ℕ, ◌<◌, zero, suc, List, [], ◌∷◌, ◌++◌, length, map, inl, inr, refl}
+use Rattle.std.proofs.Common.{ap, sym, subst, ◌∙◌, arith, append_assoc}
 use Rattle.std.proofs.lemmas.List.{append-nil}
 use Rattle.std.proofs.lemmas.Str.{chars-append, IsUtf8-append, IsUtf8-from_ascii}
 use Rattle.std.specs.List.{AllByRecursion}
@@ -9,15 +10,18 @@ use Rattle.pep508_marker.specs.Expression.{ExpressionRecord, expression_text}
 use Rattle.pep508_marker_comparison.specs.SideReading.{ends_key}
 use Rattle.pep508_marker_read.specs.Formula.{LeftOut}
 use Rattle.pep508_marker_read.specs.MarkerReading.{Marker, And, Or}
-use Rattle.pep508_marker_read.specs.MarkerText.{IsBefore, IsComparisonText, IsEnclosed, join_all, IsJoined, IsEither, IsFormulaText, IsMarkerText}
+use Rattle.pep508_marker_read.specs.MarkerText.{IsBefore, IsComparisonText, IsEnclosed, join_all, IsJoined}
+use Rattle.pep508_marker_read.specs.MarkerText.{IsEither, IsFormulaText, IsMarkerText}
 use Rattle.pep508_marker_text.specs.Saying.{Clause}
 use Rattle.pep508_marker_text.specs.MarkerText.{clause_text, bracketed_text, clauses_text}
 use Rattle.pep508_reading_back.proofs.Plain.{ascii_by, ascii_chars, front_chars}
-use Rattle.pep508_reading_back.proofs.Joining.{Piece, Leads, comparison_leads, enclosed_leads, joined_leads, Pieces, joined_utf8, joined_read}
+use Rattle.pep508_reading_back.proofs.Joining.{Piece, Leads, comparison_leads, enclosed_leads, joined_leads}
+use Rattle.pep508_reading_back.proofs.Joining.{Pieces, joined_utf8, joined_read}
 
 -- what stands beside others, where brackets nest at most so deep
 abbrev pub Part : ℕ → Piece
-Part depth = λ cs marker rest. IsComparisonText cs marker rest ⊎ IsEnclosed (IsFormulaText depth) cs marker rest
+Part depth =
+    λ cs marker rest. IsComparisonText cs marker rest ⊎ IsEnclosed (IsFormulaText depth) cs marker rest
 
 part_leads : (depth : ℕ) → Leads (Part depth)
 part_leads depth cs marker rest (inl h) = inl (comparison_leads cs marker rest h)
@@ -60,7 +64,8 @@ module _ {marked : ExpressionRecord → Marker} {good : ExpressionRecord → Typ
   -- ---- clauses without brackets
 
   module _ (piece : Piece) (leads : Leads piece)
-      (one : (cs : List ℕ) (marker : Marker) (rest : List ℕ) → IsComparisonText cs marker rest → piece cs marker rest)
+      (one : (cs : List ℕ) (marker : Marker) (rest : List ℕ) → IsComparisonText cs marker rest →
+      piece cs marker rest)
     where
       terms_read : Pieces expression_text marked good piece
       terms_read = record {
@@ -133,7 +138,8 @@ module _ {marked : ExpressionRecord → Marker} {good : ExpressionRecord → Typ
   bracketed_utf8 (term ∷ []) h = clause_utf8 (term ∷ []) h
   bracketed_utf8 (term ∷ other ∷ terms) h =
       let text = clause_text (term ∷ other ∷ terms) in
-      IsUtf8-append (codes "(") (text ++ codes ")") (IsUtf8-from_ascii (codes "(") (ascii_by (codes "(") refl))
+      IsUtf8-append (codes "(") (text ++ codes ")")
+      (IsUtf8-from_ascii (codes "(") (ascii_by (codes "(") refl))
       (IsUtf8-append text (codes ")") (clause_utf8 (term ∷ other ∷ terms) h)
       (IsUtf8-from_ascii (codes ")") (ascii_by (codes ")") refl)))
 

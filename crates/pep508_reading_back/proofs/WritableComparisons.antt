@@ -1,9 +1,10 @@
 -- A printed comparison is the text of some comparison.
-use Rattle.std.proofs.Common.{◌≡◌, ◌≢◌, ℕ, false, List, [], ◌++◌, Option, Some, None, refl, ap, sym, subst, ◌∙◌}
+use Rattle.std.proofs.Common.{◌≡◌, ◌≢◌, ℕ, false, List, [], ◌++◌, Option, Some, None, refl, ap, sym, subst}
+use Rattle.std.proofs.Common.{◌∙◌}
 use Rattle.std.specs.Prelude.{codes}
 use Rattle.std.specs.Str.{chars, IsUtf8}
 use Rattle.pep440_text.specs.Record.{VersionRecord}
-use Rattle.pep440_text.specs.Print.{local_text, version_text}
+use Rattle.pep440_text.specs.Print.{version_text}
 use Rattle.pep440_operator.specs.OperatorPrint.{operator_text, star_text}
 use Rattle.pep440_specifier.specs.Matching.{SpecifierRecord}
 use Rattle.pep508_name.specs.Name.{name_of}
@@ -13,20 +14,24 @@ use Rattle.pep508_marker.specs.declared.operators.ExtraOperator.{ExtraOperator}
 use Rattle.pep508_marker.specs.declared.operators.ExtraOperator.TheVariants as extras
 use Rattle.pep508_marker.specs.declared.operators.MarkerOperator.{MarkerOperator}
 use Rattle.pep508_marker.specs.declared.operators.MarkerOperator.TheVariants.{Equal, NotEqual, TildeEqual}
-use Rattle.pep508_marker.specs.Expression.{ExpressionRecord, Version, VersionIn, String, Extra, term_text, string_text, expression_text}
+use Rattle.pep508_marker.specs.Expression.{ExpressionRecord, Version, VersionIn, String, Extra, term_text}
+use Rattle.pep508_marker.specs.Expression.{string_text, expression_text}
 use Rattle.pep508_marker.specs.Keys.{version_key_name, text_key_written, modern, is_deprecated}
 use Rattle.pep508_marker.specs.Operators.{marker_operator_text, extra_operator_text, extra_operator}
 use Rattle.pep508_marker.specs.Values.{ExtraRecord, ExtraKey, Quoted, extra_text}
-use Rattle.pep508_marker_comparison.specs.Compared.{compared, extra_of, of_extra, warned_of_name, extra_compared}
+use Rattle.pep508_marker_comparison.specs.Compared.{compared, extra_of, of_extra, warned_of_name}
+use Rattle.pep508_marker_comparison.specs.Compared.{extra_compared}
 use Rattle.pep508_marker_comparison.specs.SideReading.{ends_key}
 use Rattle.pep508_marker_read.specs.MarkerReading.{Marker}
 use Rattle.pep508_marker_read.specs.MarkerText.{IsBefore, IsComparisonText}
 use Rattle.pep508_reading_back.specs.Readable.{IsQuotable, IsReadable, warned_extra, marker_of}
 use Rattle.pep508_reading_back.specs.Writable.{as_written}
-use Rattle.pep508_reading_back.proofs.Comparisons.{written_as, extra_named, said_so, term_read, extra_points, comparison_read, term_utf8, extra_signs_ascii, comparison_utf8}
+use Rattle.pep508_reading_back.proofs.Comparisons.{written_as, extra_named, said_so, term_read, extra_points}
+use Rattle.pep508_reading_back.proofs.Comparisons.{comparison_read, term_utf8, extra_signs_ascii}
+use Rattle.pep508_reading_back.proofs.Comparisons.{comparison_utf8}
 
--- the comparison that a printed one is read as: its version without what isn't printed, an old name of a key as
--- the modern one, and an extra by its name
+-- the comparison that a printed one is read as: its version without what isn't printed, an old name of a key
+-- as the modern one, and an extra by its name
 abbrev pub read_term : ExpressionRecord → ExpressionRecord
 read_term (Version key specifier) = Version key (record specifier { version = as_written specifier.version })
 read_term (VersionIn key versions negated) = VersionIn key versions negated
@@ -100,15 +105,18 @@ written_string key operator text =
 
 named_or_not : (found : Option (List ℕ)) (text : List ℕ) (operator : ExtraOperator) →
     warned_of_name found (of_extra (extra_of found text) (Some operator))
-    ≡ record { said = Some (Extra operator (extra_of found text)); warned = warned_extra (extra_of found text) }
+    ≡ record {
+      said = Some (Extra operator (extra_of found text));
+      warned = warned_extra (extra_of found text);
+    }
 named_or_not None text operator = refl
 named_or_not (Some name) text operator = refl
 
 extra_by : (sign : MarkerOperator) (operator : ExtraOperator) (asked : ExtraRecord) (rest : List ℕ) →
-    extra_operator (written_as sign) ≡ Some operator → extra_operator_text operator ≡ marker_operator_text sign →
-    IsQuotable (extra_text asked) →
-    IsComparisonText (chars (expression_text (Extra operator asked)) ++ rest) (read_marker (Extra operator asked))
-    rest
+    extra_operator (written_as sign) ≡ Some operator →
+    extra_operator_text operator ≡ marker_operator_text sign → IsQuotable (extra_text asked) →
+    IsComparisonText (chars (expression_text (Extra operator asked)) ++ rest)
+    (read_marker (Extra operator asked)) rest
 unfolding compared
 extra_by sign operator asked rest is same h =
     let text = extra_text asked in
@@ -117,15 +125,16 @@ extra_by sign operator asked rest is same h =
     let found : extra_compared (written_as sign) text ≡ record { said = Some term; warned = warned } =
     ap (λ found. warned_of_name (name_of text) (of_extra (extra_of (name_of text) text) found)) is
     ∙ named_or_not (name_of text) text operator in
-    subst (λ signs. IsComparisonText (chars (term_text (codes "extra") signs text) ++ rest) (marker_of term) rest)
-    (sym same)
+    subst (λ signs.
+    IsComparisonText (chars (term_text (codes "extra") signs text) ++ rest) (marker_of term) rest) (sym same)
     (term_read (codes "extra") ExtraKey extra_named sign text h (marker_of term) rest
     (said_so term warned (compared ExtraKey (written_as sign) (Quoted text)) rest
     (extra_points operator (extra_of (name_of text) text)) found))
 
-extra_read : (operator : ExtraOperator) (asked : ExtraRecord) (rest : List ℕ) → IsQuotable (extra_text asked) →
-    IsComparisonText (chars (expression_text (Extra operator asked)) ++ rest) (read_marker (Extra operator asked))
-    rest
+extra_read : (operator : ExtraOperator) (asked : ExtraRecord) (rest : List ℕ) →
+    IsQuotable (extra_text asked) →
+    IsComparisonText (chars (expression_text (Extra operator asked)) ++ rest)
+    (read_marker (Extra operator asked)) rest
 extra_read extras.Equal asked rest h = extra_by Equal extras.Equal asked rest refl refl h
 extra_read extras.NotEqual asked rest h = extra_by NotEqual extras.NotEqual asked rest refl refl h
 
@@ -146,7 +155,8 @@ written_read (Extra operator asked) rest h ends = extra_read operator asked rest
 
 pub written_utf8 : (term : ExpressionRecord) → IsWritable term → IsUtf8 (expression_text term)
 written_utf8 (Version key specifier) h =
-    subst IsUtf8 (written_specifier key specifier h.1) (comparison_utf8 (read_term (Version key specifier)) h.0)
+    subst IsUtf8 (written_specifier key specifier h.1)
+    (comparison_utf8 (read_term (Version key specifier)) h.0)
 written_utf8 (VersionIn key versions negated) h = absurd h
 written_utf8 (String key operator text) h =
     subst IsUtf8 (written_string key operator text)

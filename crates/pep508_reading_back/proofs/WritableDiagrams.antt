@@ -1,5 +1,6 @@
 -- The text of a diagram whose questions are about what a text can have is that of some marker.
-use Rattle.std.proofs.Common.{◌≡◌, ℕ, ◌<◌, true, false, length, List, [], ◌∷◌, ◌++◌, Some, refl, ap, subst, ◌∙◌, arith}
+use Rattle.std.proofs.Common.{◌≡◌, ℕ, ◌<◌, true, false, length, List, [], ◌∷◌, ◌++◌, Some, refl, ap, subst}
+use Rattle.std.proofs.Common.{◌∙◌, arith}
 use Rattle.std.proofs.lemmas.Bool.{false≢true}
 use Rattle.std.proofs.lemmas.Fmt.{decimal_digit}
 use Rattle.std.specs.List.{AllByRecursion, filter}
@@ -29,9 +30,11 @@ use Rattle.pep508_reading_back.proofs.Clauses.{term_written}
 use Rattle.pep508_reading_back.proofs.Diagrams.{release_readable}
 use Rattle.pep508_reading_back.proofs.Joining.{Pieces, comparison_leads}
 use Rattle.pep508_reading_back.proofs.JoinedClauses.{SomeGood, all_written, marker_of_clauses}
-use Rattle.pep508_reading_back.proofs.WritableComparisons.{IsWritable, read_marker, written_read, written_utf8}
+use Rattle.pep508_reading_back.proofs.WritableComparisons.{IsWritable, read_marker, written_read}
+use Rattle.pep508_reading_back.proofs.WritableComparisons.{written_utf8}
 use Rattle.pep508_reading_back.proofs.WritableParts.{some_term}
-use Rattle.pep508_reading_back.proofs.WritableSimplified.{IsSome, filter_each, filter_some, simplified_each, simplified_some}
+use Rattle.pep508_reading_back.proofs.WritableSimplified.{IsSome, filter_each, filter_some, simplified_each}
+use Rattle.pep508_reading_back.proofs.WritableSimplified.{simplified_some}
 use Rattle.pep508_reading_back.proofs.WritableTerms.{terms_writable}
 
 -- ---- questions
@@ -58,7 +61,8 @@ comparisons_read = record { encoded = written_utf8; reads = written_read; leads 
 terms_fit : (d : Diagram Question) → IsWritableDiagram d → AllFit IsWritable (disjunction d)
 terms_fit d h =
     simplified_fit IsWritable same_term opposite_term (filter has_some (clauses_of d))
-    (filter_all (AllByRecursion IsWritable) has_some (clauses_of d) (walk_meets terms_writable d (all_well d h)).0)
+    (filter_all (AllByRecursion IsWritable) has_some (clauses_of d)
+    (walk_meets terms_writable d (all_well d h)).0)
 
 counted : {A : Type 0} (xs : List A) → IsSome xs → 0 < length xs
 counted [] h = absurd (false≢true h)
@@ -79,7 +83,8 @@ test_written q low high c h =
     all_written comparisons_read (disjunction d)
     (counted (disjunction d) (simplified_some same_term opposite_term (filter has_some (clauses_of d)) some))
     (all_good (disjunction d)
-    (simplified_each same_term opposite_term (filter has_some (clauses_of d)) (filter_each has_some (clauses_of d)))
+    (simplified_each same_term opposite_term (filter has_some (clauses_of d))
+    (filter_each has_some (clauses_of d)))
     (terms_fit d h))
 
 -- ---- what never holds

@@ -1,9 +1,9 @@
 -- The clauses of a canonical diagram that asks something have a comparison.
-use Rattle.std.proofs.Common.{◌≡◌, ◌⊎◌, ℕ, ◌==◌, Bool, true, false, not, ◌||◌, cond, List, [], ◌∷◌, ◌++◌, map, inl, inr, refl, sym, ap, subst, ◌∙◌, true≢false}
+use Rattle.std.proofs.Common.{◌≡◌, ◌⊎◌, ℕ, ◌==◌, Bool, true, false, not, cond, List, [], ◌∷◌, map, inl, inr}
+use Rattle.std.proofs.Common.{refl, sym, subst, ◌∙◌, true≢false}
 use Rattle.std.proofs.lemmas.Bool.{cases_Bool, false≢true}
-use Rattle.std.specs.List.{filter, flat_map, list_any}
+use Rattle.std.specs.List.{filter, flat_map}
 use Rattle.version_ranges.specs.declared.boundary.Boundary.{Boundary}
-use Rattle.version_ranges.specs.Boundaries.{turns_of}
 use Rattle.version_ranges.specs.Turns.{flips}
 use Rattle.pep440_text.specs.Record.{VersionRecord}
 use Rattle.pep508_marker.specs.declared.keys.MarkerValueString.{MarkerValueString}
@@ -13,10 +13,12 @@ use Rattle.pep508_diagram.specs.declared.branch.Branch.{Branch}
 use Rattle.pep508_diagram.specs.declared.variable.VersionVariable.{VersionVariable}
 use Rattle.pep508_diagram.specs.declared.variable.Flag.{Flag}
 use Rattle.pep508_diagram.specs.Diagram.{Diagram, Leaf, Test, front_by}
-use Rattle.pep508_diagram.specs.Question.{Question, VersionBelow, TextBelow, IsSet, version_rank, shares_variable, marker, AreOne, IsCanonical}
+use Rattle.pep508_diagram.specs.Question.{Question, VersionBelow, TextBelow, IsSet, version_rank}
+use Rattle.pep508_diagram.specs.Question.{shares_variable, marker, AreOne, IsCanonical}
 use Rattle.pep508_diagram.proofs.Alike.{alike_itself, alike_back}
 use Rattle.pep508_diagram.proofs.Questions.{asks, versions_share, texts_share, mixed_apart}
-use Rattle.pep508_marker_text.specs.Clauses.{Part, same_part, group_clauses, grouped_clauses, versions_from, texts_from, Walk, walk_of, clauses_of}
+use Rattle.pep508_marker_text.specs.Clauses.{Part, same_part, group_clauses, grouped_clauses, versions_from}
+use Rattle.pep508_marker_text.specs.Clauses.{texts_from, walk_of, clauses_of}
 use Rattle.pep508_marker_text.specs.Groups.{firsts, standing, turning, points_where}
 use Rattle.pep508_marker_text.specs.SameDiagrams.{same_diagram}
 use Rattle.pep508_marker_text.specs.Saying.{Clause, Saying, set_clauses}
@@ -25,46 +27,47 @@ use Rattle.pep508_marker_text.specs.Terms.{version_saying, text_saying, set_term
 use Rattle.pep508_marker_text.proofs.SameDiagrams.{same_are_one, same_itself}
 use Rattle.pep508_marker_text.proofs.Walks.{walk_diagram}
 use Rattle.pep508_reading_back.proofs.WritableSimplified.{IsSome, any_some}
-use Rattle.pep508_reading_back.proofs.WritableSets.{HasTerm, term_behind, term_in_front, followed_term, set_term_some, first_turn}
+use Rattle.pep508_reading_back.proofs.WritableSets.{HasTerm, term_behind, term_in_front, followed_term}
+use Rattle.pep508_reading_back.proofs.WritableSets.{set_term_some, first_turn}
 
 -- ---- groups
 
 module _ {T : Type 0} (say : Saying T) (first : Part) (branch : Branch T Part) (later : List (Branch T Part))
-    where
-  -- the clauses of a part that stands at the first boundary's one side alone
-  group_term : (part : Part) → flips (same_part part first) (same_part part branch.child) ≡ true →
-      IsSome part.clauses → HasTerm (group_clauses say first (branch ∷ later) part)
-  group_term part turns some =
-      let test = same_part part in
-      followed_term part.clauses (set_clauses say (points_where test first (branch ∷ later))) some
-      (subst (λ set. HasTerm (set_clauses say set)) (sym (first_turn test first branch later turns))
-      (set_term_some say (test first) branch.boundary (turning test (test branch.child) later)))
+  where
+    -- the clauses of a part that stands at the first boundary's one side alone
+    group_term : (part : Part) → flips (same_part part first) (same_part part branch.child) ≡ true →
+        IsSome part.clauses → HasTerm (group_clauses say first (branch ∷ later) part)
+    group_term part turns some =
+        let test = same_part part in
+        followed_term part.clauses (set_clauses say (points_where test first (branch ∷ later))) some
+        (subst (λ set. HasTerm (set_clauses say set)) (sym (first_turn test first branch later turns))
+        (set_term_some say (test first) branch.boundary (turning test (test branch.child) later)))
 
-  -- what stands first has clauses
-  first_group : same_part first branch.child ≡ false → IsSome first.clauses →
-      HasTerm (grouped_clauses say first (branch ∷ later))
-  first_group apart some =
-      let others = filter (λ part. not (same_part first part))
-      (firsts same_part (standing branch.child later)) in
-      let turns : flips (same_part first first) (same_part first branch.child) ≡ true =
-      λ i. flips (same_itself first.diagram i) (apart i) in
-      term_in_front (group_clauses say first (branch ∷ later) first)
-      (flat_map (group_clauses say first (branch ∷ later)) others) (group_term first turns some)
+    -- what stands first has clauses
+    first_group : same_part first branch.child ≡ false → IsSome first.clauses →
+        HasTerm (grouped_clauses say first (branch ∷ later))
+    first_group apart some =
+        let others = filter (λ part. not (same_part first part))
+        (firsts same_part (standing branch.child later)) in
+        let turns : flips (same_part first first) (same_part first branch.child) ≡ true =
+        λ i. flips (same_itself first.diagram i) (apart i) in
+        term_in_front (group_clauses say first (branch ∷ later) first)
+        (flat_map (group_clauses say first (branch ∷ later)) others) (group_term first turns some)
 
-  -- what stands next has clauses
-  next_group : same_part first branch.child ≡ false → same_part branch.child first ≡ false →
-      IsSome branch.child.clauses → HasTerm (grouped_clauses say first (branch ∷ later))
-  next_group apart back some =
-      let group = group_clauses say first (branch ∷ later) in
-      let next = branch.child in
-      let more = filter (λ part. not (same_part first part))
-      (filter (λ part. not (same_part next part)) (firsts same_part (map (λ b. b.child) later))) in
-      let turns : flips (same_part next first) (same_part next next) ≡ true =
-      λ i. flips (back i) (same_itself next.diagram i) in
-      term_behind (group first)
-      (flat_map group (cond (not (same_part first next)) (next ∷ more) more))
-      (subst (λ same. HasTerm (flat_map group (cond (not same) (next ∷ more) more))) (sym apart)
-      (term_in_front (group next) (flat_map group more) (group_term next turns some)))
+    -- what stands next has clauses
+    next_group : same_part first branch.child ≡ false → same_part branch.child first ≡ false →
+        IsSome branch.child.clauses → HasTerm (grouped_clauses say first (branch ∷ later))
+    next_group apart back some =
+        let group = group_clauses say first (branch ∷ later) in
+        let next = branch.child in
+        let more = filter (λ part. not (same_part first part))
+        (filter (λ part. not (same_part next part)) (firsts same_part (map (λ b. b.child) later))) in
+        let turns : flips (same_part next first) (same_part next next) ≡ true =
+        λ i. flips (back i) (same_itself next.diagram i) in
+        term_behind (group first)
+        (flat_map group (cond (not (same_part first next)) (next ∷ more) more))
+        (subst (λ same. HasTerm (flat_map group (cond (not same) (next ∷ more) more))) (sym apart)
+        (term_in_front (group next) (flat_map group more) (group_term next turns some)))
 
 -- ---- parts of diagrams
 
@@ -85,8 +88,8 @@ front_full q (Test r low high) h k = front_one (shares_variable q r)
     front_one false = h
 
 -- the branch behind a question stands at its boundary, and has the part of what follows there
-record Follows {T : Type 0} (boundary : Boundary T) (front : Diagram Question) (later : List (Branch T Part)) : Type 0
-    where
+record Follows {T : Type 0} (boundary : Boundary T) (front : Diagram Question) (later : List (Branch T Part))
+    : Type 0 where
   more : List (Branch T Part)
   is : later ≡ record { boundary = boundary; child = (walk_of front).part } ∷ more
 
@@ -107,7 +110,8 @@ alone boundary low d true e = absurd (true≢false e)
 alone boundary low d false e = record { more = []; is = refl }
 
 versions_follow : (key : VersionVariable) (b : Boundary VersionRecord) (high : Diagram Question) →
-    Follows b (front_by marker (VersionBelow key b) high) (versions_from key b (walk_of high) (walk_of high).edges)
+    Follows b (front_by marker (VersionBelow key b) high)
+    (versions_from key b (walk_of high) (walk_of high).edges)
 versions_follow key b (Leaf c) = record { more = []; is = refl }
 versions_follow key b (Test (VersionBelow other c) low high) =
     follows b low (Test (VersionBelow other c) low high)
@@ -130,7 +134,8 @@ texts_follow key b (Test (TextBelow other c) low high) =
     (shares_variable (TextBelow key b) (TextBelow other c)) (text_key_rank key == text_key_rank other)
     (texts_share key other b c)
 texts_follow key b (Test (VersionBelow other c) low high) =
-    alone b low (Test (VersionBelow other c) low high) (shares_variable (TextBelow key b) (VersionBelow other c))
+    alone b low (Test (VersionBelow other c) low high)
+    (shares_variable (TextBelow key b) (VersionBelow other c))
     (mixed_apart (TextBelow key b) (VersionBelow other c) tt)
 texts_follow key b (Test (IsSet flag) low high) =
     alone b low (Test (IsSet flag) low high) (shares_variable (TextBelow key b) (IsSet flag))
@@ -138,7 +143,8 @@ texts_follow key b (Test (IsSet flag) low high) =
 
 -- ---- edges
 
-parts_apart : (d e : Diagram Question) → (AreOne d e → ⊥) → same_part (walk_of d).part (walk_of e).part ≡ false
+parts_apart : (d e : Diagram Question) → (AreOne d e → ⊥) →
+    same_part (walk_of d).part (walk_of e).part ≡ false
 parts_apart d e apart = elim (cases_Bool (same_part (walk_of d).part (walk_of e).part)) [
   | inl same ↦
       let one : same_diagram d e ≡ true =
@@ -173,10 +179,12 @@ flags_term : (flag : Flag) (low high : Diagram Question) → IsFull low → IsFu
     (AreOne low (front_by marker (IsSet flag) high) → ⊥) → HasTerm (clauses_of (Test (IsSet flag) low high))
 flags_term flag low high (inl some) k apart =
     term_in_front (map (λ clause. set_term flag ∷ clause) (clauses_of low))
-    (map (λ clause. unset_term flag ∷ clause) (clauses_of high)) (headed_term (set_term flag) (clauses_of low) some)
+    (map (λ clause. unset_term flag ∷ clause) (clauses_of high))
+    (headed_term (set_term flag) (clauses_of low) some)
 flags_term flag low high (inr never) (inl some) apart =
     term_behind (map (λ clause. set_term flag ∷ clause) (clauses_of low))
-    (map (λ clause. unset_term flag ∷ clause) (clauses_of high)) (headed_term (unset_term flag) (clauses_of high) some)
+    (map (λ clause. unset_term flag ∷ clause) (clauses_of high))
+    (headed_term (unset_term flag) (clauses_of high) some)
 flags_term flag low high (inr never) (inr neither) apart =
     absurd (subst (λ d. AreOne d (Leaf false) → ⊥) never
     (subst (λ d. AreOne low (front_by marker (IsSet flag) d) → ⊥) neither apart) refl)

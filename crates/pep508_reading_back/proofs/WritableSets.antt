@@ -1,10 +1,11 @@
 -- That a key's value lies in a set that is neither empty nor all is said by some comparison.
-use Rattle.std.proofs.Common.{◌≡◌, Bool, true, false, ◌||◌, if◌then◌else◌, cond, List, [], ◌∷◌, ◌++◌, map, Option, Some, None, option_map, refl, sym, ap, subst, ◌∙◌}
+use Rattle.std.proofs.Common.{◌≡◌, Bool, true, false, ◌||◌, if◌then◌else◌, cond, List, [], ◌∷◌, ◌++◌, map}
+use Rattle.std.proofs.Common.{Option, Some, None, option_map, refl, sym, ap, subst}
 use Rattle.std.specs.List.{list_any}
 use Rattle.std.specs.Option.{option_or}
 use Rattle.std.specs.Ordering.{eq_by_cmp}
 use Rattle.std.specs.declared.ops.Bound.{Bound}
-use Rattle.std.specs.declared.ops.Bound.TheVariants.{Included, Excluded, Unbounded}
+use Rattle.std.specs.declared.ops.Bound.TheVariants.{Unbounded}
 use Rattle.version_ranges.specs.declared.boundary.Boundary.{Boundary}
 use Rattle.version_ranges.specs.declared.boundary.Boundary.TheVariants as boundary
 use Rattle.version_ranges.specs.Boundaries.{point_of, turns_of}
@@ -15,7 +16,8 @@ use Rattle.pep508_marker.specs.Expression.{ExpressionRecord}
 use Rattle.pep508_diagram.specs.declared.branch.Branch.{Branch}
 use Rattle.pep508_marker_text.specs.Clauses.{followed_by}
 use Rattle.pep508_marker_text.specs.Groups.{turning, points_where}
-use Rattle.pep508_marker_text.specs.Saying.{Clause, Saying, left_out, star_out, exclusion, single, single_or_bounds, interval_clause, one_or_intervals, set_clauses}
+use Rattle.pep508_marker_text.specs.Saying.{Clause, Saying, left_out, exclusion, single, single_or_bounds}
+use Rattle.pep508_marker_text.specs.Saying.{interval_clause, one_or_intervals, set_clauses}
 use Rattle.pep508_marker_text.specs.Simplified.{has_some}
 use Rattle.pep508_marker_text.proofs.Removals.{second_holds}
 use Rattle.pep508_reading_back.proofs.WritableSimplified.{IsSome}
@@ -38,7 +40,8 @@ term_in_front ((term ∷ terms) ∷ ones) others h = refl
 term_in_front [] others h = absurd (cc)
 
 -- clauses with a comparison, followed by some clauses
-pub followed_term : (others ones : List Clause) → IsSome others → HasTerm ones → HasTerm (followed_by others ones)
+pub followed_term : (others ones : List Clause) → IsSome others → HasTerm ones →
+    HasTerm (followed_by others ones)
 followed_term [] ones h k = absurd (cc)
 followed_term (other ∷ others) [] h k = absurd (cc)
 followed_term (other ∷ others) ([] ∷ ones) h k =
@@ -69,8 +72,8 @@ module _ {T : Type 0} (say : Saying T) where
   left_some v (Some vs) true clause e =
       let is : map say.differs (v ∷ vs) ≡ clause = cc in subst IsSome is refl
 
-  star_some : (term : Option ExpressionRecord) (clause : Clause) → option_map (λ t. t ∷ []) term ≡ Some clause →
-      IsSome clause
+  star_some : (term : Option ExpressionRecord) (clause : Clause) →
+      option_map (λ t. t ∷ []) term ≡ Some clause → IsSome clause
   star_some None clause e = absurd (cc)
   star_some (Some term) clause e = let is : term ∷ [] ≡ clause = cc in subst IsSome is refl
 
@@ -98,7 +101,8 @@ module _ {T : Type 0} (say : Saying T) where
   none_below (boundary.At v) turns = refl
   none_below (boundary.JustAbove v) turns = refl
 
-  from_term : (b : Boundary T) (turns : List (Point T)) → HasTerm (one_or_intervals say (point_of b ∷ turns) None)
+  from_term : (b : Boundary T) (turns : List (Point T)) →
+      HasTerm (one_or_intervals say (point_of b ∷ turns) None)
   from_term b [] =
       first_term (interval_clause say (lower_bound_at (point_of b), Unbounded)) []
       (from_some (single say (lower_bound_at (point_of b)) Unbounded) b Unbounded)
@@ -116,8 +120,8 @@ module _ {T : Type 0} (say : Saying T) where
       (sym (none_below b (map point_of later))) (from_term b (map point_of later))
 
 -- where a test turns at the first boundary
-pub first_turn : {T C : Type 0} (test : C → Bool) (first : C) (branch : Branch T C) (later : List (Branch T C)) →
-    flips (test first) (test branch.child) ≡ true →
+pub first_turn : {T C : Type 0} (test : C → Bool) (first : C) (branch : Branch T C)
+    (later : List (Branch T C)) → flips (test first) (test branch.child) ≡ true →
     points_where test first (branch ∷ later)
     ≡ turns_of (test first) (branch.boundary ∷ turning test (test branch.child) later)
 first_turn test first branch later turns =

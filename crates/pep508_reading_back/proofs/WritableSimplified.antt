@@ -1,11 +1,13 @@
 -- Simplified clauses: none without a comparison, and some where there were some.
-use Rattle.std.proofs.Common.{◌≡◌, Bool, true, false, ◌&&◌, ◌||◌, cond, List, [], ◌∷◌, ◌++◌, inl, inr, refl, sym, ap, subst, ◌∙◌, append_assoc}
+use Rattle.std.proofs.Common.{◌≡◌, Bool, true, ◌||◌, List, [], ◌∷◌, ◌++◌, inl, inr, refl, sym, ap, subst, ◌∙◌}
+use Rattle.std.proofs.Common.{append_assoc}
 use Rattle.std.proofs.lemmas.Bool.{cases_Bool, false≢true}
 use Rattle.std.proofs.lemmas.List.{append-nil}
 use Rattle.std.specs.List.{AllByRecursion, filter, list_any}
 use Rattle.version_ranges.proofs.Membership.{all_append}
 use Rattle.pep508_marker_read.proofs.Tests.{and_parts}
-use Rattle.pep508_marker_text.specs.Simplified.{sifted, has_some, spares, stands_in, is_needless, shortened_behind, is_covered, simplified}
+use Rattle.pep508_marker_text.specs.Simplified.{sifted, has_some, spares, is_needless, shortened_behind}
+use Rattle.pep508_marker_text.specs.Simplified.{is_covered, simplified}
 
 -- there are some
 abbrev pub IsSome : {A : Type 0} → List A → Type 0
@@ -67,12 +69,12 @@ module _ {T : Type 0} (same opposite : T → T → Bool) where
   needless_beside others term rest h =
       (and_parts (has_some rest) (list_any (spares same opposite term rest) others) h).0
 
-  covered_beside : (clause : List T) (others : List (List T)) → is_covered same opposite clause others ≡ true →
-      IsSome others
+  covered_beside : (clause : List T) (others : List (List T)) →
+      is_covered same opposite clause others ≡ true → IsSome others
   covered_beside clause others h = any_some _ others h
 
-  shortened_each : (done clauses : List (List T)) → AllByRecursion IsSome done → AllByRecursion IsSome clauses →
-      AllByRecursion IsSome (shortened_behind same opposite done clauses)
+  shortened_each : (done clauses : List (List T)) → AllByRecursion IsSome done →
+      AllByRecursion IsSome clauses → AllByRecursion IsSome (shortened_behind same opposite done clauses)
   shortened_each done [] h k = h
   shortened_each done (clause ∷ later) h k =
       let drops = is_needless same opposite (done ++ later) in

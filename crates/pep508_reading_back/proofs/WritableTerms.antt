@@ -1,9 +1,10 @@
 -- The comparisons that clauses are made of have a text where what they compare with has one.
-use Rattle.std.proofs.Common.{◌≡◌, ◌≢◌, ℕ, ◌&&◌, Bool, true, false, List, [], ◌∷◌, Option, Some, None, option_map, refl, ap, sym, subst, ◌∙◌}
+use Rattle.std.proofs.Common.{◌≡◌, ◌≢◌, ℕ, Bool, true, false, List, Option, Some, None, option_map, refl, ap}
+use Rattle.std.proofs.Common.{sym, subst, ◌∙◌}
 use Rattle.std.proofs.lemmas.Bool.{false≢true}
 use Rattle.std.specs.Option.{is_some}
 use Rattle.std.specs.Prelude.{cond}
-use Rattle.pep440_text.specs.Record.{VersionRecord, release_record, without_local}
+use Rattle.pep440_text.specs.Record.{VersionRecord, release_record}
 use Rattle.pep440_text.proofs.Releases.{by_recursion}
 use Rattle.pep440_version.specs.Order.{version_eq}
 use Rattle.pep440_operator.specs.declared.operator.Operator.{Operator}
@@ -15,13 +16,16 @@ use Rattle.pep440_range.proofs.Intervals.{minor_range}
 use Rattle.pep508_marker.specs.declared.keys.MarkerValueString.{MarkerValueString}
 use Rattle.pep508_marker.specs.Expression.{ExpressionRecord, Version}
 use Rattle.pep508_diagram.specs.declared.variable.VersionVariable.{VersionVariable}
-use Rattle.pep508_diagram.specs.declared.variable.VersionVariable.TheVariants.{ImplementationVersion, PythonFullVersion}
+use Rattle.pep508_diagram.specs.declared.variable.VersionVariable.TheVariants.{ImplementationVersion}
+use Rattle.pep508_diagram.specs.declared.variable.VersionVariable.TheVariants.{PythonFullVersion}
 use Rattle.pep508_diagram.specs.declared.variable.Flag.{Flag}
 use Rattle.pep508_diagram.specs.declared.variable.Flag.TheVariants as flag
 use Rattle.pep508_diagram.specs.Question.{flag_text}
 use Rattle.pep508_expression.specs.Expressions.{has_points}
 use Rattle.pep508_marker_read.proofs.Tests.{and_parts}
-use Rattle.pep508_marker_text.specs.Terms.{key_of_variable, two_numbers, is_minor_of, kept_where, minor_between, version_term, version_saying, text_saying, set_term, unset_term}
+use Rattle.pep508_marker_text.specs.Terms.{key_of_variable, two_numbers, is_minor_of, kept_where}
+use Rattle.pep508_marker_text.specs.Terms.{minor_between, version_term, version_saying, text_saying, set_term}
+use Rattle.pep508_marker_text.specs.Terms.{unset_term}
 use Rattle.pep508_marker_text.proofs.Fitting.{Fits, AllSayingsFit}
 use Rattle.pep508_reading_back.specs.Readable.{IsQuotable}
 use Rattle.pep508_reading_back.specs.Writable.{IsSayable, as_written}
@@ -59,7 +63,8 @@ version_writable key operator version star tilde exact points h = (
 
 -- ---- stars
 
-kept_meets : {A : Type 0} (test : A → Bool) (o : Option A) (x : A) → kept_where test o ≡ Some x → test x ≡ true
+kept_meets : {A : Type 0} (test : A → Bool) (o : Option A) (x : A) → kept_where test o ≡ Some x →
+    test x ≡ true
 kept_meets test None x e = absurd (cc)
 kept_meets test (Some y) x e = kept_one (test y) refl e
   where
@@ -71,9 +76,11 @@ kept_meets test (Some y) x e = kept_one (test y) refl e
 star_raised : (lower upper : VersionRecord) (numbers : List ℕ) → IsSayable upper →
     minor_between lower upper ≡ Some numbers → is_some (star_releases numbers) ≡ true
 star_raised lower upper numbers h e =
-    let parts = and_parts (version_eq (release_record numbers) lower) (equals_release (next_minor numbers) upper)
+    let parts = and_parts (version_eq (release_record numbers) lower)
+    (equals_release (next_minor numbers) upper)
     (kept_meets (is_minor_of lower upper) (two_numbers lower.release) numbers e) in
-    let found = minor_range (release_record numbers) upper parts.1 refl (by_recursion upper.release h.fits.release) in
+    let found = minor_range (release_record numbers) upper parts.1 refl
+    (by_recursion upper.release h.fits.release) in
     ap is_some found.1
 
 all_but_some : {A B : Type 0} (f : A → B) (o : Option A) → is_some o ≡ true → is_some (option_map f o) ≡ true
@@ -83,7 +90,8 @@ all_but_some f (Some x) h = refl
 star_writable : (key : VersionVariable) (operator : Operator) (lower upper : VersionRecord)
     (term : ExpressionRecord) (numbers : Option (List ℕ)) → is_tilde operator ≡ false →
     operator ≢ versions.ExactEqual → IsSayable lower →
-    ((found : List ℕ) → minor_between lower upper ≡ Some found → is_some (release_range_by operator found) ≡ true) →
+    ((found : List ℕ) → minor_between lower upper ≡ Some found →
+    is_some (release_range_by operator found) ≡ true) →
     minor_between lower upper ≡ numbers →
     option_map (λ ns. version_term key operator (release_record ns)) numbers ≡ Some term → IsWritable term
 star_writable key operator lower upper term None tilde exact h points same e = absurd (cc)
@@ -141,7 +149,8 @@ unset_writable (flag.Contains key text) h = ((λ e. absurd (cc)), h)
 unset_writable (flag.Extra name) h = h
 unset_writable (flag.Arbitrary text) h = h
 
-pub terms_writable : AllSayingsFit IsSayable (λ key. IsQuotable) (λ asked. IsQuotable (flag_text asked)) IsWritable
+pub terms_writable :
+    AllSayingsFit IsSayable (λ key. IsQuotable) (λ asked. IsQuotable (flag_text asked)) IsWritable
 terms_writable = record {
   versions_fit = versions_writable;
   texts_fit = texts_writable;
