@@ -106,10 +106,10 @@ turned_chars key operator value rest k o u =
 -- ---- sides
 
 -- a name that is read as a key
-record IsNameOf (name : List ℕ) (value : ValueRecord) : Type 0 where
-  ascii : IsAscii name
-  unended : AllByRecursion (λ c. ends_key c ≡ false) name
-  is_key : key_of_text name ≡ Some value
+pub record IsNameOf (name : List ℕ) (value : ValueRecord) : Type 0 where
+  pub ascii : IsAscii name
+  pub unended : AllByRecursion (λ c. ends_key c ≡ false) name
+  pub is_key : key_of_text name ≡ Some value
 
 named : (name : List ℕ) (value : ValueRecord) → list_all (λ b. nat_lt b 128) name ≡ true →
     list_all (λ c. not (ends_key c)) name ≡ true → key_of_text name ≡ Some value → IsNameOf name value
@@ -140,7 +140,7 @@ text_named keys.PythonImplementationDeprecated h = absurd (cc)
 text_named keys.PlatformVersionDeprecated h = absurd (cc)
 text_named keys.SysPlatformDeprecated h = absurd (cc)
 
-extra_named : IsNameOf (codes "extra") ExtraKey
+pub extra_named : IsNameOf (codes "extra") ExtraKey
 unfolding version_key_of text_key_of
 extra_named = named (codes "extra") ExtraKey refl refl refl
 
@@ -168,7 +168,7 @@ quoted_side text rest q = inl (record {
 -- ---- operators
 
 -- what an operator is read as: containment has none of its own
-abbrev written_as : MarkerOperator → MarkerOperator
+abbrev pub written_as : MarkerOperator → MarkerOperator
 written_as Equal = Equal
 written_as NotEqual = NotEqual
 written_as GreaterThan = GreaterThan
@@ -243,7 +243,7 @@ operator_ascii NotContains = ascii_by (codes "not in") refl
 
 -- ---- a key and a text
 
-said_so : (term : ExpressionRecord) (warned : List MarkerWarningKind) (found : Compared) (rest : List ℕ) →
+pub said_so : (term : ExpressionRecord) (warned : List MarkerWarningKind) (found : Compared) (rest : List ℕ) →
     has_points term ≡ true → found ≡ record { said = Some term; warned = warned } →
     of_compared (found, rest) ≡ Ok (record { formula = Says term; warned = warned }, rest)
 said_so term warned found rest h e =
@@ -261,7 +261,7 @@ module _ (name : List ℕ) (value : ValueRecord) (n : IsNameOf name value) (oper
   abbrev Fits : List ℕ → Type 0
   Fits cs = IsComparisonText cs marker rest
 
-  term_read : of_compared (compared value (written_as operator) (Quoted text), rest) ≡ Ok (marker, rest) →
+  pub term_read : of_compared (compared value (written_as operator) (Quoted text), rest) ≡ Ok (marker, rest) →
       IsComparisonText (chars (term_text name (marker_operator_text operator) text) ++ rest) marker rest
   term_read says =
       let signs = marker_operator_text operator in
@@ -529,7 +529,7 @@ plain_name text name h =
     all_weaker (λ b. is_name_byte b ≡ true) (λ b. is_plain b ≡ true) plain_name_byte text
     (all_from is_name_byte text bytes.0)
 
-extra_points : (operator : ExtraOperator) (asked : ExtraRecord) → has_points (Extra operator asked) ≡ true
+pub extra_points : (operator : ExtraOperator) (asked : ExtraRecord) → has_points (Extra operator asked) ≡ true
 unfolding has_points
 extra_points operator asked = refl
 
@@ -587,7 +587,7 @@ comparison_read (Extra operator asked) rest h ends = extra_read_back operator as
 
 -- ---- the text is UTF-8
 
-term_utf8 : (key operator value : List ℕ) → IsAscii key → IsAscii operator → IsUtf8 value →
+pub term_utf8 : (key operator value : List ℕ) → IsAscii key → IsAscii operator → IsUtf8 value →
     IsUtf8 (term_text key operator value)
 term_utf8 key operator value k o u =
     let ascii = λ (bs : List ℕ) (a : IsAscii bs). IsUtf8-from_ascii bs a in
@@ -645,7 +645,7 @@ signs_ascii versions.LessThanEqual = ascii_by (codes "<=") refl
 signs_ascii versions.GreaterThan = ascii_by (codes ">") refl
 signs_ascii versions.GreaterThanEqual = ascii_by (codes ">=") refl
 
-extra_signs_ascii : (operator : ExtraOperator) → IsAscii (extra_operator_text operator)
+pub extra_signs_ascii : (operator : ExtraOperator) → IsAscii (extra_operator_text operator)
 extra_signs_ascii extras.Equal = ascii_by (codes "==") refl
 extra_signs_ascii extras.NotEqual = ascii_by (codes "!=") refl
 

@@ -38,10 +38,10 @@ use Rattle.pep508_reading_back.proofs.Clauses.{clauses_are_read}
 
 -- ---- releases
 
-abbrev AllSmall : List ℕ → Type 0
+abbrev pub AllSmall : List ℕ → Type 0
 AllSmall = AllByRecursion (λ number. number < 2 ^ 64)
 
-release_printable : (numbers : List ℕ) → AllSmall numbers → 0 < length numbers →
+pub release_printable : (numbers : List ℕ) → AllSmall numbers → 0 < length numbers →
     IsPrintable (release_record numbers)
 release_printable numbers small some = record {
   no_least = refl;
@@ -51,7 +51,7 @@ release_printable numbers small some = record {
   segments = tt;
 }
 
-release_readable : (operator : Operator) (numbers : List ℕ) → is_tilde operator ≡ false →
+pub release_readable : (operator : Operator) (numbers : List ℕ) → is_tilde operator ≡ false →
     operator ≢ versions.ExactEqual → AllSmall numbers → 0 < length numbers →
     IsReadableSpecifier (record { operator = operator; version = release_record numbers })
 release_readable operator numbers tilde exact small some = record {
@@ -76,11 +76,11 @@ version_readable key operator version tilde exact h points =
 
 -- ---- stars
 
-record AreMinor (numbers : List ℕ) : Type 0 where
-  small : AllSmall numbers
-  some : 0 < length numbers
+pub record AreMinor (numbers : List ℕ) : Type 0 where
+  pub small : AllSmall numbers
+  pub some : 0 < length numbers
 
-two_are : (release numbers : List ℕ) → AllSmall release → two_numbers release ≡ Some numbers → AreMinor numbers
+pub two_are : (release numbers : List ℕ) → AllSmall release → two_numbers release ≡ Some numbers → AreMinor numbers
 two_are [] numbers h e = absurd (cc)
 two_are (major ∷ []) numbers h e =
     let is : major ∷ 0 ∷ [] ≡ numbers = cc in
@@ -89,7 +89,7 @@ two_are (major ∷ minor ∷ []) numbers h e =
     let is : major ∷ minor ∷ [] ≡ numbers = cc in subst AreMinor is (record { small = h; some = omega arith })
 two_are (major ∷ minor ∷ other ∷ more) numbers h e = absurd (cc)
 
-kept_is : {A : Type 0} (test : A → Bool) (o : Option A) (x : A) → kept_where test o ≡ Some x → o ≡ Some x
+pub kept_is : {A : Type 0} (test : A → Bool) (o : Option A) (x : A) → kept_where test o ≡ Some x → o ≡ Some x
 kept_is test None x e = absurd (cc)
 kept_is test (Some y) x e = kept_one (test y) e
   where

@@ -34,7 +34,7 @@ use Rattle.pep508_reading_back.proofs.Plain.{plain_ascii, ascii_by, ascii_encode
 use Rattle.pep508_reading_back.proofs.Comparisons.{plain_name}
 use Rattle.pep508_reading_back.proofs.Dotless.{no_archive}
 use Rattle.pep508_reading_back.proofs.Joining.{Leads, joined_leads}
-use Rattle.pep508_reading_back.proofs.Clauses.{Part, either_leads}
+use Rattle.pep508_reading_back.proofs.JoinedClauses.{Part, either_leads}
 use Rattle.pep508_reading_back.proofs.Diagrams.{text_read}
 use Rattle.pep508_reading_back.proofs.Specifiers.{Listed, plain_are_listed, listed_ascii, listed_no_end, listed_append, AreBlanks, list_is, list_listed}
 

@@ -3,5 +3,9 @@ pub mod Clauses
 pub mod Diagrams
 pub mod ReadableRequirements
 pub mod Views
+pub mod ReadViews
 pub mod Questions
 pub mod Asked
+pub mod Told
+pub mod Unquoted
+pub mod Writable

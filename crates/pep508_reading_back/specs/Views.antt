@@ -1,7 +1,7 @@
 -- Which requirements with their interner are read as what they print, and what is read of it.
 use Rattle.std.specs.Prelude.{◌≡◌, ◌≢◌, ◌<◌, false, List, length, Option, Some, None, Result, Ok, Err}
 use Rattle.std.specs.List.{AllByRecursion}
-use Rattle.pep440_specifier_list.specs.Lists.{IsInOrder}
+use Rattle.pep440_specifier_list.specs.Lists.{IsByVersion}
 use Rattle.pep508_name.specs.Name.{name_of}
 use Rattle.pep508_diagram.specs.Diagram.{Leaf}
 use Rattle.pep508_diagram.specs.Question.{Valuation, truth}
@@ -18,11 +18,11 @@ use Rattle.pep508_requirement_ref.specs.declared.requirement_ref.RequirementRef.
 use Rattle.pep508_reading_back.specs.Diagrams.{IsReadableDiagram}
 use Rattle.pep508_reading_back.specs.ReadableRequirements.{IsPrintableSpecifier}
 
--- nothing, or some specifiers, and no URL
+-- nothing, or some specifiers, which stand by version as in each list of them, and no URL
 abbrev pub IsReadableAsked : {T E : Type 0} → Option (VersionOrUrl T E) → Type 0
 IsReadableAsked None = Unit {0}
 IsReadableAsked (Some (asked.VersionSpecifier list)) =
-    (0 < length list) × AllByRecursion IsPrintableSpecifier list
+    (0 < length list) × IsByVersion list × AllByRecursion IsPrintableSpecifier list
 IsReadableAsked (Some (asked.Url url)) = ⊥
 
 -- names in normal form, and a marker that sometimes holds
@@ -33,10 +33,10 @@ pub record IsReadableView {T E : Type 0} (shown : RequirementRef T E) : Type 0 w
   pub marker : IsReadableDiagram (diagram_in (tree_in shown.marker))
   pub sometimes : diagram_in (tree_in shown.marker) ≢ Leaf false
 
--- nothing where nothing was asked for, and the same specifiers by version
+-- nothing where nothing was asked for, and the same specifiers
 abbrev pub AsksAgain : {T E : Type 0} → Option (VersionOrUrl T E) → Option (VersionOrUrl T E) → Type 0
 AsksAgain None None = Unit {0}
-AsksAgain (Some (asked.VersionSpecifier given)) (Some (asked.VersionSpecifier list)) = IsInOrder given list
+AsksAgain (Some (asked.VersionSpecifier given)) (Some (asked.VersionSpecifier list)) = given ≡ list
 AsksAgain what other = ⊥
 
 -- the requirement says what is shown; its marker is a tree of these nodes

@@ -1,15 +1,16 @@
 //! Laws over the definitions. The functions do nothing: each one's contract is its law.
 ghost use Rattle.std.specs.Prelude.{◌≡◌, ◌≢◌, ℕ, false, List, Option, Some, None};
-ghost use Rattle.std.specs.Str.{chars};
+ghost use Rattle.std.specs.Str.{chars, IsUtf8};
 ghost use Rattle.pep508_marker.specs.Expression.{ExpressionRecord, expression_text};
 ghost use Rattle.pep508_diagram.specs.Diagram.{Diagram, Leaf};
 ghost use Rattle.pep508_diagram.specs.Question.{Question, Valuation, truth, IsCanonical};
+ghost use Rattle.pep508_diagram.specs.Shortened.{HasShortVersions};
 ghost use Rattle.pep508_marker_read.specs.MarkerReading.{Marker};
 ghost use Rattle.pep508_marker_read.specs.MarkerText.{IsMarkerText};
 ghost use Rattle.pep508_marker_text.specs.MarkerText.{clauses_text, marker_text};
 ghost use Rattle.pep508_marker_text.specs.Saying.{Clause};
 ghost use Rattle.pep508_reading_back.specs.Clauses.{AreReadable, ReadsClauses};
-ghost use Rattle.pep508_reading_back.specs.Diagrams.{IsReadableDiagram, ReadsDiagram};
+ghost use Rattle.pep508_reading_back.specs.Diagrams.{IsReadableDiagram, SaysDiagram, ReadsDiagram};
 ghost use Rattle.pep508_requirement_text.specs.FrontReading.{Front};
 ghost use Rattle.pep508_requirement.specs.MarkerBehind.{no_marker};
 ghost use Rattle.pep508_requirement.specs.RequirementText.{IsMarkedText};
@@ -20,12 +21,21 @@ ghost use Rattle.pep508_url.specs.Vars.{Variables};
 ghost use Rattle.pep508_tree.specs.Meaning.{NodeRecord, holds};
 ghost use Rattle.pep508_requirement.specs.RequirementReading.{AsksFor, IsRead};
 ghost use Rattle.pep508_requirement.specs.RequirementReading as reading;
+ghost use Rattle.pep508_marker_read.specs.Formula.{Formula, formula_holds};
+ghost use Rattle.pep508_expression.specs.Expressions.{expression_holds};
+ghost use Rattle.pep508_reading_back.specs.Told.{questions_of, IsTold};
 ghost use Rattle.pep508_reading_back.specs.Views.{IsReadableView, ReadsBack};
+ghost use Rattle.pep508_reading_back.specs.ReadViews.{AsksNoUrl, KeepsFront, ShowsRead};
+ghost use Rattle.pep508_reading_back.specs.Unquoted.{IsPlainDiagram, IsUnquotedDiagram};
+ghost use Rattle.pep508_tree_ref.specs.Lent.{tree_in};
+ghost use Rattle.pep508_tree_ref.specs.TreeIn.{diagram_in};
 ghost use Rattle.pep508_reading_back.specs.Asked.{AnswerAlike, IsAmong};
 ghost use Rattle.pep508_reading_back.specs.Questions.{AllQuestions};
+ghost use Rattle.pep508_reading_back.specs.Writable.{IsWritableDiagram};
 
 use pep508_requirement::laws::{
-    a_written_requirement_is_not_refused, a_written_requirement_is_read,
+    a_read_requirement_is_written, a_written_requirement_is_not_refused,
+    a_written_requirement_is_read,
 };
 use pep508_requirement_ref::RequirementRef;
 use pep508_url::Pep508Url;
@@ -99,6 +109,13 @@ pub fn a_printed_view_reads_back<'a, T: Pep508Url>(shown: &RequirementRef<'a, T>
     a_written_requirement_is_not_refused::<T>();
 }
 
+/// Whatever marker is printed reads as one again, though perhaps with another meaning: of each diagram whose
+/// versions a text can have and whose texts have no single quote, whatever its keys and its bounds.
+pub fn a_printed_marker_is_a_marker()
+    ensures { (diagram : Diagram Question) (text : List ℕ) → IsCanonical diagram → IsWritableDiagram diagram
+        → marker_text diagram ≡ Some text → (marker : Marker) × IsMarkerText (chars text) marker }
+{}
+
 /// A marker whose truth some questions settle asks these questions alone, up to the spelling of equal
 /// versions.
 pub fn a_marker_asks_what_its_meaning_asks()
@@ -106,3 +123,53 @@ pub fn a_marker_asks_what_its_meaning_asks()
         → ((v w : Valuation) → AnswerAlike asked v w → truth diagram v ≡ truth diagram w)
         → AllQuestions (IsAmong asked) diagram }
 {}
+
+/// Where the questions of a formula's comparisons are answered alike, it holds alike.
+pub fn a_formula_hangs_on_its_questions()
+    ensures { (f : Formula ExpressionRecord) (v w : Valuation) → AnswerAlike (questions_of f) v w →
+        formula_holds (λ t. expression_holds t v) f ≡ formula_holds (λ t. expression_holds t w) f }
+{}
+
+/// The diagram of a marker that was read of a text asks for what texts can say alone: for versions and texts
+/// that could stand in it, and for extras by their normal names.
+pub fn a_read_marker_asks_what_texts_say()
+    ensures { (text : List ℕ) (front : Front) (marker : Marker) (diagram : Diagram Question) → IsUtf8 text
+        → IsMarkedText text front marker → IsCanonical diagram → HasShortVersions diagram
+        → SaysDiagram diagram marker → AllQuestions IsTold diagram }
+{}
+
+/// What a requirement that was read without a URL prints with its interner is read by `Requirement::parse`
+/// with any interner, unless memory runs out, with its name, its extras and its specifiers: where no text of
+/// its marker has a single quote, which a text in double quotes may have.
+pub fn a_read_requirement_reads_back<'a, T: Pep508Url>(shown: &RequirementRef<'a, T>)
+    ensures { (vars others : Variables) (directory other : Option (List ℕ)) (given text : List ℕ)
+        (nodes : List NodeRecord) (answer : _) → IsUtf8 given
+        → ShowsRead (λ url. T.reads vars url directory) given shown.now
+        → AsksNoUrl shown.now.version_or_url.now
+        → IsUnquotedDiagram (diagram_in (tree_in shown.now.marker))
+        → ⟦<RequirementRef<'a, T> as fmt::Display>⟧.output shown.now ≡ Some text
+        → reading.ReadsRequirement (λ url. T.reads others url other) T.lacks_memory others nodes text answer
+        → KeepsFront shown.now answer }
+{
+    shown.is_canonical();
+    a_read_requirement_is_written::<T>();
+    a_written_requirement_is_read();
+    a_written_requirement_is_not_refused::<T>();
+}
+
+/// The marker of a requirement that was read without a URL reads back too, as a tree that means the same:
+/// where its texts have no single quote, its versions are releases of epoch 0, its keys are no old names, and
+/// it sometimes holds.
+pub fn a_read_marker_reads_back<'a, T: Pep508Url>(shown: &RequirementRef<'a, T>)
+    ensures { (vars others : Variables) (directory other : Option (List ℕ)) (given text : List ℕ)
+        (nodes : List NodeRecord) (answer : _) → IsUtf8 given
+        → ShowsRead (λ url. T.reads vars url directory) given shown.now
+        → AsksNoUrl shown.now.version_or_url.now → IsPlainDiagram (diagram_in (tree_in shown.now.marker))
+        → ⟦<RequirementRef<'a, T> as fmt::Display>⟧.output shown.now ≡ Some text
+        → reading.ReadsRequirement (λ url. T.reads others url other) T.lacks_memory others nodes text answer
+        → ReadsBack nodes shown.now answer }
+{
+    shown.is_canonical();
+    a_read_requirement_is_written::<T>();
+    a_printed_view_reads_back(shown);
+}
