@@ -16,7 +16,6 @@ use Rattle.reqs.specs.declared.fault.RunFault.{RunFault}
 use Rattle.reqs.specs.declared.fault.RunFault.TheVariants.{Read, Write, Memory, TooLong, Requirement}
 use Rattle.reqs.specs.declared.fault.Input.{Input}
 use Rattle.reqs.specs.declared.fault.Input.TheVariants.{First, Second, Third}
-use Rattle.reqs.specs.declared.fault.Status.{Status}
 use Rattle.reqs.specs.Faults.{Cause, Says, told_run, of_requirements, of_candidates, requirements_cause, Refuses, RefusesTexts, IsPlain, IsOfTexts}
 use Rattle.reqs.specs.Inputs.{◌>>=◌, with_cause, IsWithin, ReadsInput, extras_of, lines_from, behind_lines, texts_of}
 use Rattle.reqs.specs.Check.{AnswersBehind, AnswersText}

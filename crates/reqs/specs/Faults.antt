@@ -14,7 +14,6 @@ use Rattle.reqtable_requirements.specs.Requirements.{IsErrorIn}
 use Rattle.reqtable_requirements.specs.declared.requirements.RequirementsError.{RequirementsError}
 use Rattle.reqtable_requirements.specs.declared.requirements.RequirementsError.TheVariants as requirements
 use Rattle.reqs.specs.declared.fault.Input.{Input}
-use Rattle.reqs.specs.declared.fault.Input.TheVariants.{First, Second, Third}
 use Rattle.reqs.specs.declared.fault.RunFault.{RunFault}
 use Rattle.reqs.specs.declared.fault.RunFault.TheVariants.{Read, Write, Memory, TooLong, NotText}
 use Rattle.reqs.specs.declared.fault.RunFault.TheVariants.{Requirement, NumberAtEnd, Json, Float, Shape}
