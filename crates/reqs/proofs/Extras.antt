@@ -5,7 +5,7 @@ use Rattle.std.proofs.Math.Seq.{drop-cons}
 use Rattle.read_outcome.specs.Outcome.{Tells}
 use Rattle.reqtable_text.specs.TextLines.{with_first}
 use Rattle.reqs.specs.declared.fault.RunFault.{RunFault}
-use Rattle.reqs.specs.Faults.{Cause, told_run, Refuses}
+use Rattle.reqs.specs.Faults.{Cause, told_run, IsPlain, Refuses}
 use Rattle.reqs.specs.Inputs.{extra_of, extras_of}
 
 -- where all are read, so is the first
@@ -52,8 +52,8 @@ module _ {A : Type 0} (f : A → List ℕ) (words : List A) (i : ℕ) (d : A) (b
       ap extras_of (map_more f words i d below) ∙ more (map f (take i words)) names (f (get_or words i d)) name read e
 
   -- the next one is refused
-  pub refused : (fault : RunFault) → Refuses fault (extra_of (f (get_or words i d)))
-      → Refuses fault (extras_of (map f words))
+  pub refused : (fault : RunFault) → Refuses IsPlain fault (extra_of (f (get_or words i d)))
+      → Refuses IsPlain fault (extras_of (map f words))
   refused fault h =
       let split : words ≡ take i words ++ (get_or words i d ∷ drop (suc i) words) = sym (take-append-drop i words) ∙ ap (λ l. take i words ++ l) (drop-cons words i d below) in
       let mapped : map f words ≡ map f (take i words) ++ (f (get_or words i d) ∷ map f (drop (suc i) words)) =

@@ -1,5 +1,5 @@
 -- Why an input was not read whole, as a fault of the command.
-use Rattle.std.proofs.Common.{◌≡◌, ℕ, List, [], Option, Some, None, Ok, Err, refl}
+use Rattle.std.proofs.Common.{◌≡◌, ℕ, List, [], Option, Some, None, Err, refl}
 use Rattle.reqs_io.specs.declared.TheConstants.{INPUT_LIMIT}
 use Rattle.reqs_io.specs.declared.ReadFault.{ReadFault}
 use Rattle.reqs_io.specs.declared.ReadFault.TheVariants as ends

@@ -16,8 +16,7 @@ use Rattle.reqs.specs.declared.fault.RunFault.{RunFault}
 use Rattle.reqs.specs.declared.fault.RunFault.TheVariants.{Read, Write, Memory, TooLong, Requirement}
 use Rattle.reqs.specs.declared.fault.Input.{Input}
 use Rattle.reqs.specs.declared.fault.Input.TheVariants.{First, Second, Third}
-use Rattle.reqs.specs.declared.fault.Status.{Status}
-use Rattle.reqs.specs.Faults.{Cause, Says, told_run, of_requirements, of_candidates, requirements_cause, Refuses, RefusesTexts, IsPlain, IsOfTexts}
+use Rattle.reqs.specs.Faults.{Cause, Says, told_run, of_requirements, of_candidates, requirements_cause, Refuses, IsPlain, IsOfTexts}
 use Rattle.reqs.specs.Inputs.{◌>>=◌, with_cause, IsWithin, ReadsInput, extras_of, lines_from, behind_lines, texts_of}
 use Rattle.reqs.specs.Check.{AnswersBehind, AnswersText}
 use Rattle.reqs.specs.Ends.{Answering, Refusing, AreWithin, place_of, of_input, EndsAs, Runs}
@@ -29,14 +28,14 @@ tells_rest : {A B : Type 0} (told : Option Cause) (step : Result A Cause) (rest 
 tells_rest None step rest h = tt
 tells_rest (Some cause) step rest h = ap (λ r. r >>= rest) h
 
-pub refuses_rest : {A B : Type 0} (fault : RunFault) (step : Result A Cause) (rest : A → Result B Cause)
-    → Refuses fault step → Refuses fault (step >>= rest)
-refuses_rest fault step rest h = (h.0, tells_rest (told_run fault) step rest h.1)
+pub refuses_rest : {A B : Type 0} (IsOne : RunFault → Type 0) (fault : RunFault) (step : Result A Cause)
+    (rest : A → Result B Cause) → Refuses IsOne fault step → Refuses IsOne fault (step >>= rest)
+refuses_rest IsOne fault step rest h = (h.0, tells_rest (told_run fault) step rest h.1)
 
 -- a fault of a list is one of the command
 pub requirements_refuse : {A : Type 0} (vars : Variables) (input : Input) (bytes : List ℕ) (error : RequirementsError)
     (reading : Result A LinesFault) → Tells (told_requirements error) reading → IsErrorIn vars (text_lines bytes) error
-    → RefusesTexts vars bytes (of_requirements input error) (with_cause (requirements_cause input) reading)
+    → Refuses (IsOfTexts vars bytes) (of_requirements input error) (with_cause (requirements_cause input) reading)
 requirements_refuse vars input bytes (requirements.NotText offset) reading h said = (tt, ap (with_cause (requirements_cause input)) h)
 requirements_refuse vars input bytes (requirements.Line number error) reading h said = (said, ap (with_cause (requirements_cause input)) h)
 requirements_refuse vars input bytes (requirements.NumberAtEnd number) reading h said = (tt, ap (with_cause (requirements_cause input)) h)
@@ -48,12 +47,8 @@ is_of_texts vars bytes fault h = h
 
 -- what refuses another text than a list of requirements
 pub refuses_texts : {A : Type 0} (vars : Variables) (bytes : List ℕ) (fault : RunFault) (reading : Result A Cause)
-    → Refuses fault reading → RefusesTexts vars bytes fault reading
+    → Refuses IsPlain fault reading → Refuses (IsOfTexts vars bytes) fault reading
 refuses_texts vars bytes fault reading h = (is_of_texts vars bytes fault h.0, h.1)
-
-pub lines_rest : {A B : Type 0} (vars : Variables) (bytes : List ℕ) (fault : RunFault) (step : Result A Cause)
-    (rest : A → Result B Cause) → RefusesTexts vars bytes fault step → RefusesTexts vars bytes fault (step >>= rest)
-lines_rest vars bytes fault step rest h = (h.0, tells_rest (told_run fault) step rest h.1)
 
 -- the answer behind a list of requirements is that of all texts
 pub whole : {Y : Type 0} (vars : Variables) (extras : List (List ℕ)) (x y z : List ℕ) (names : List (List ℕ))
@@ -67,7 +62,7 @@ whole vars extras x y z names said e l (Err fault) h =
 
 pub candidates_refuse : {A : Type 0} (input : Input) (error : CandidatesError) (reading : Result A CandidatesError)
     → Tells (told_candidates error) reading
-    → Refuses (of_candidates input error) (with_cause (λ e. Says (of_candidates input e)) reading)
+    → Refuses IsPlain (of_candidates input error) (with_cause (λ e. Says (of_candidates input e)) reading)
 candidates_refuse input (candidates.NotText offset) reading h = (tt, ap (with_cause (λ e. Says (of_candidates input e))) h)
 candidates_refuse input (candidates.Line number cause) reading h = (tt, ap (with_cause (λ e. Says (of_candidates input e))) h)
 candidates_refuse input candidates.Memory reading h = (tt, tt)

@@ -9,7 +9,7 @@ use Rattle.reqs.specs.declared.fault.Input.TheVariants.{First, Second, Third}
 use Rattle.reqs.specs.declared.fault.RunFault.{RunFault}
 use Rattle.reqs.specs.declared.fault.Status.{Status}
 use Rattle.reqs.specs.declared.fault.Status.TheVariants.{Answered}
-use Rattle.reqs.specs.Faults.{Cause, Refuses, RefusesTexts}
+use Rattle.reqs.specs.Faults.{Cause, IsPlain, IsOfTexts, Refuses}
 use Rattle.reqs.specs.Inputs.{CheckInputs, texts_of}
 use Rattle.reqs.specs.Ends.{of_input, Runs}
 
@@ -27,13 +27,13 @@ pub record IsCheckText (inputs : Result CheckInputs Cause) (text : List ℕ) : T
 -- the text is the answer's; or the texts behind a list of requirements are refused for what the fault says
 abbrev pub AnswersBehind : {Y : Type 0} → Result (String Y) RunFault → Result CheckInputs Cause → Type 0
 AnswersBehind (Ok text) inputs = IsCheckText inputs (string_bytes text)
-AnswersBehind (Err fault) inputs = Refuses fault inputs
+AnswersBehind (Err fault) inputs = Refuses IsPlain fault inputs
 
 -- the same with that list
 abbrev pub AnswersText : {Y : Type 0} → Variables → List ℕ → Result (String Y) RunFault
     → Result CheckInputs Cause → Type 0
 AnswersText vars requirements (Ok text) inputs = IsCheckText inputs (string_bytes text)
-AnswersText vars requirements (Err fault) inputs = RefusesTexts vars requirements fault inputs
+AnswersText vars requirements (Err fault) inputs = Refuses (IsOfTexts vars requirements) fault inputs
 
 abbrev pub check_inputs : Variables → List (List ℕ) → List (List ℕ) → Result CheckInputs Cause
 check_inputs vars extras inputs =
@@ -45,7 +45,7 @@ ChecksAs vars extras inputs status text =
 
 abbrev pub CheckRefuses : Variables → List (List ℕ) → List (List ℕ) → RunFault → Type 0
 CheckRefuses vars extras inputs fault =
-    RefusesTexts vars (of_input inputs First) fault (check_inputs vars extras inputs)
+    Refuses (IsOfTexts vars (of_input inputs First)) fault (check_inputs vars extras inputs)
 
 -- `check` ends so, with what its readers tell of the requirements, the environment and the candidates
 abbrev pub RunsCheck : {W : Type 0} → Variables → List (List ℕ) → Option (List ℕ) → Option (List ℕ)

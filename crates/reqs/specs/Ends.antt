@@ -1,5 +1,5 @@
 -- How a command ends, whatever its inputs and its answers are.
-use Rattle.std.specs.Prelude.{◌≡◌, ◌<◌, ℕ, List, [], length, take, get_or, Option, Result, Ok, Err}
+use Rattle.std.specs.Prelude.{◌<◌, ℕ, List, [], length, take, get_or, Option, Result, Ok, Err}
 use Rattle.std.specs.List.{AllByRecursion, AllZip}
 use Rattle.reqs_io.specs.declared.TheConstants.{INPUT_LIMIT}
 use Rattle.reqs_io.specs.Front.{AreAsTold, WritesWhole, AppendsFront}

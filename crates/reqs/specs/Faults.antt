@@ -14,7 +14,6 @@ use Rattle.reqtable_requirements.specs.Requirements.{IsErrorIn}
 use Rattle.reqtable_requirements.specs.declared.requirements.RequirementsError.{RequirementsError}
 use Rattle.reqtable_requirements.specs.declared.requirements.RequirementsError.TheVariants as requirements
 use Rattle.reqs.specs.declared.fault.Input.{Input}
-use Rattle.reqs.specs.declared.fault.Input.TheVariants.{First, Second, Third}
 use Rattle.reqs.specs.declared.fault.RunFault.{RunFault}
 use Rattle.reqs.specs.declared.fault.RunFault.TheVariants.{Read, Write, Memory, TooLong, NotText}
 use Rattle.reqs.specs.declared.fault.RunFault.TheVariants.{Requirement, NumberAtEnd, Json, Float, Shape}
@@ -72,13 +71,23 @@ told_run Memory = None
 told_run (Requirement input number error) = Some (NoRequirement input number)
 told_run fault = Some (Says fault)
 
--- it is no fault of a reader or the writer, not of an input's length, and of no requirement line
+-- it is no fault of a reader or the writer, and not of an input's length; and what it says of a line that is
+-- no requirement may be said
+abbrev pub IsOfInputs : (RequirementsError → Type 0) → RunFault → Type 0
+IsOfInputs MaySay (Read input) = ⊥
+IsOfInputs MaySay Write = ⊥
+IsOfInputs MaySay (TooLong input) = ⊥
+IsOfInputs MaySay (Requirement input number error) = MaySay (requirements.Line number error)
+IsOfInputs MaySay fault = Unit {0}
+
+-- it is of texts of which none is a list of requirements
 abbrev pub IsPlain : RunFault → Type 0
-IsPlain (Read input) = ⊥
-IsPlain Write = ⊥
-IsPlain (TooLong input) = ⊥
-IsPlain (Requirement input number error) = ⊥
-IsPlain fault = Unit {0}
+IsPlain = IsOfInputs (λ error. ⊥)
+
+-- it is of texts of which the first is a list of requirements: what it says of a line that is no requirement
+-- is the error of some line with this number
+abbrev pub IsOfTexts : Variables → List ℕ → RunFault → Type 0
+IsOfTexts vars bytes = IsOfInputs (IsErrorIn vars (text_lines bytes))
 
 -- it is one of an environment's text
 abbrev pub IsOfEnvironment : RunFault → Type 0
@@ -89,25 +98,11 @@ IsOfEnvironment (Member input index name) = Unit {0}
 IsOfEnvironment (Version input index name) = Unit {0}
 IsOfEnvironment fault = ⊥
 
--- it is of texts of which the first is a list of requirements: what it says of a line that is no requirement
--- is the error of some line with this number
-abbrev pub IsOfTexts : Variables → List ℕ → RunFault → Type 0
-IsOfTexts vars bytes (Read input) = ⊥
-IsOfTexts vars bytes Write = ⊥
-IsOfTexts vars bytes (TooLong input) = ⊥
-IsOfTexts vars bytes (Requirement input number error) =
-    IsErrorIn vars (text_lines bytes) (requirements.Line number error)
-IsOfTexts vars bytes fault = Unit {0}
-
--- a text is refused for what the fault says; want of memory may come whatever the text is
-abbrev pub Refuses : {A : Type 0} → RunFault → Result A Cause → Type 0
-Refuses fault reading = IsPlain fault × Tells (told_run fault) reading
-
--- texts are, of which the first is a list of requirements
-abbrev pub RefusesTexts : {A : Type 0} → Variables → List ℕ → RunFault → Result A Cause → Type 0
-RefusesTexts vars bytes fault reading = IsOfTexts vars bytes fault × Tells (told_run fault) reading
+-- a text is refused for what a fault of it says; want of memory may come whatever the text is
+abbrev pub Refuses : {A : Type 0} → (RunFault → Type 0) → RunFault → Result A Cause → Type 0
+Refuses IsOfText fault reading = IsOfText fault × Tells (told_run fault) reading
 
 -- what was returned is the reading, seen by `view`, or its fault
 abbrev pub AnswersRun : {X A : Type 0} → (X → A) → Result X RunFault → Result A Cause → Type 0
 AnswersRun view (Ok x) reading = reading ≡ Ok (view x)
-AnswersRun view (Err fault) reading = Refuses fault reading
+AnswersRun view (Err fault) reading = Refuses IsPlain fault reading

@@ -1,5 +1,6 @@
 -- What the bytes of a command's inputs are, or what is at fault there.
-use Rattle.std.specs.Prelude.{◌≡◌, ◌≤◌, ℕ, List, [], ◌∷◌, length, Option, Some, None, Result, Ok, Err, if◌then◌else◌}
+use Rattle.std.specs.Prelude.{◌≡◌, ◌≤◌, ℕ, List, [], ◌∷◌, length, if◌then◌else◌}
+use Rattle.std.specs.Prelude.{Option, Some, None, Result, Ok, Err}
 use Rattle.std.specs.List.{AllZip}
 use Rattle.std.specs.Str.{is_utf8}
 use Rattle.std.specs.Str.Lossy.{utf8_valid_len}
@@ -19,7 +20,8 @@ use Rattle.reqs.specs.declared.fault.Input.{Input}
 use Rattle.reqs.specs.declared.fault.Input.TheVariants.{First, Second, Third}
 use Rattle.reqs.specs.declared.fault.RunFault.{RunFault}
 use Rattle.reqs.specs.declared.fault.RunFault.TheVariants.{Read, TooLong, Memory, NotText, Extra, Json}
-use Rattle.reqs.specs.Faults.{Cause, Says, of_environment, of_candidates, requirements_cause, RefusesTexts}
+use Rattle.reqs.specs.Faults.{Cause, Says, of_environment, of_candidates, requirements_cause}
+use Rattle.reqs.specs.Faults.{IsOfTexts, Refuses}
 use Rattle.reqs_io.specs.declared.TheConstants.{INPUT_LIMIT}
 use Rattle.reqs_io.specs.Front.{AreAsTold, MayBeLonger}
 
@@ -65,11 +67,12 @@ AnswersLines vars nodes input bytes (Ok lines) =
     (said : List LineRecord) × (lines_from vars input bytes ≡ Ok said)
     × AllZip (StandsFor vars nodes) lines said
 AnswersLines vars nodes input bytes (Err fault) =
-    RefusesTexts vars bytes fault (lines_from vars input bytes)
+    Refuses (IsOfTexts vars bytes) fault (lines_from vars input bytes)
 
 abbrev pub environment_in : Option Data → Result EnvironmentRecord Cause
 environment_in None = Err (Says (Json Second))
-environment_in (Some value) = with_cause (λ error. Says (of_environment Second 1 error)) (environment_of value)
+environment_in (Some value) =
+    with_cause (λ error. Says (of_environment Second 1 error)) (environment_of value)
 
 -- an environment's text: JSON in UTF-8
 unfoldable pub environment_from : List ℕ → Result EnvironmentRecord Cause

@@ -47,14 +47,14 @@ pub fn check<L: Read, E: Read, C: Read, W: Write>(
     // A refused command has written nothing.
     ensures unwritten { IfErr result (λ fault. fault ≢ RunFault.Write → output.new ≡ output.old) }
 {
-    let requirements = read_input(alloc, Input::First, requirements)?;
-    let environment = read_input(alloc, Input::Second, environment)?;
-    let candidates = read_input(alloc, Input::Third, candidates)?;
+    let mut requirements = read_input(alloc, Input::First, requirements)?;
+    let mut environment = read_input(alloc, Input::Second, environment)?;
+    let mut candidates = read_input(alloc, Input::Third, candidates)?;
     let text = check_text(
         alloc,
-        &requirements,
-        &environment,
-        &candidates,
+        &mut requirements,
+        &mut environment,
+        &mut candidates,
         extras,
         vars,
     )?;
@@ -64,17 +64,18 @@ pub fn check<L: Read, E: Read, C: Read, W: Write>(
     }
 }
 
-/// The text of the answer.
+/// The text of the answer. The bytes of each input are let go once they are read.
 fn check_text(
     alloc: Global,
-    requirements: &[u8],
-    environment: &[u8],
-    candidates: &[u8],
+    requirements: &mut Vec<u8>,
+    environment: &mut Vec<u8>,
+    candidates: &mut Vec<u8>,
     extras: &[&str],
     vars: &Vars,
 ) -> Result<String, RunFault>
-    ensures { AnswersText vars.now requirements.now result
-        (texts_of vars.now (map (λ e. e.now) extras.now) requirements.now environment.now candidates.now) }
+    ensures { AnswersText vars.now requirements.old.items result
+        (texts_of vars.now (map (λ e. e.now) extras.now)
+        requirements.old.items environment.old.items candidates.old.items) }
 {
     let extras = read_extras(alloc, extras)?;
     let mut interner = Interner::new(alloc);
@@ -95,13 +96,13 @@ fn text_behind(
     requirements: &Requirements,
     interner: &Interner,
     extras: &[ExtraName],
-    environment: &[u8],
-    candidates: &[u8],
+    environment: &mut Vec<u8>,
+    candidates: &mut Vec<u8>,
 ) -> Result<String, RunFault>
     requires { AreOfNodes interner.now.nodes requirements.now }
     ensures { (vars : Variables) (said : List LineRecord) →
         AllZip (StandsFor vars interner.now.nodes) requirements.now said →
-        AnswersBehind result (behind_lines extras.now said environment.now candidates.now) }
+        AnswersBehind result (behind_lines extras.now said environment.old.items candidates.old.items) }
 {
     let environment = read_environment(alloc, environment)?;
     let candidates = read_candidates(alloc, Input::Third, candidates)?;

@@ -3,8 +3,10 @@
 ghost use Rattle.std.specs.Prelude.{◌≡◌, map, string_bytes, IfOk, IfSome};
 ghost use Rattle.pep508_environment.specs.Environment.{member_name};
 ghost use Rattle.reqs.specs.Ends.{place_of, of_input};
-ghost use Rattle.reqs.specs.Faults.{status_of, of_reading, of_requirements, of_environment, of_candidates, IsOfEnvironment};
-ghost use Rattle.reqs.specs.FaultText.{cause_text, input_text, line_text, member_text, requirement_text, fault_text};
+ghost use Rattle.reqs.specs.Faults.{status_of, IsOfEnvironment};
+ghost use Rattle.reqs.specs.Faults.{of_reading, of_requirements, of_environment, of_candidates};
+ghost use Rattle.reqs.specs.FaultText.{cause_text, input_text, line_text, member_text};
+ghost use Rattle.reqs.specs.FaultText.{requirement_text, fault_text};
 
 use pep508_environment::{EnvironmentError, EnvironmentMember};
 use pep508_error::Pep508Error;

@@ -55,17 +55,19 @@ fn read_extra(alloc: Global, extra: &str) -> Result<ExtraName, RunFault>
     }
 }
 
-/// Reads a list of requirements.
+/// Reads a list of requirements, and lets its bytes go.
 pub fn read_requirements(
     alloc: Global,
     input: Input,
-    bytes: &[u8],
+    bytes: &mut Vec<u8>,
     interner: &mut Interner,
     vars: &Vars,
 ) -> Result<Requirements, RunFault>
-    ensures { AnswersLines vars.now interner.new.nodes input bytes.now result }
+    ensures { AnswersLines vars.now interner.new.nodes input bytes.old.items result }
 {
-    match Requirements::parse(alloc, bytes, interner, vars) {
+    let read = Requirements::parse(alloc, bytes, interner, vars);
+    *bytes = Vec::new(alloc);
+    match read {
         Ok(requirements) => Ok(requirements),
         Err(fault) => Err(RunFault::of_requirements(input, fault)),
     }
@@ -106,19 +108,34 @@ fn environment_of(alloc: Global, text: &str) -> Result<MarkerEnvironment, RunFau
     }
 }
 
-/// Reads an environment from its bytes, JSON in UTF-8.
+/// The environment that bytes are, JSON in UTF-8.
 #[tactic(auto, unfolding(crate::specs::Inputs::environment_from))]
-pub fn read_environment(alloc: Global, bytes: &[u8]) -> Result<MarkerEnvironment, RunFault>
+fn environment_from(alloc: Global, bytes: &[u8]) -> Result<MarkerEnvironment, RunFault>
     ensures { AnswersRun (λ e. e) result (environment_from bytes.now) }
 {
     environment_of(alloc, text_of(Input::Second, bytes)?)
 }
 
-/// Reads a candidate list.
-pub fn read_candidates(alloc: Global, input: Input, bytes: &[u8]) -> Result<Candidates, RunFault>
-    ensures { AnswersRun (λ candidates. candidates) result (candidates_from input bytes.now) }
+/// Reads an environment, and lets its bytes go.
+pub fn read_environment(alloc: Global, bytes: &mut Vec<u8>) -> Result<MarkerEnvironment, RunFault>
+    ensures { AnswersRun (λ e. e) result (environment_from bytes.old.items) }
 {
-    match Candidates::parse(alloc, bytes) {
+    let read = environment_from(alloc, bytes);
+    *bytes = Vec::new(alloc);
+    read
+}
+
+/// Reads a candidate list, and lets its bytes go.
+pub fn read_candidates(
+    alloc: Global,
+    input: Input,
+    bytes: &mut Vec<u8>,
+) -> Result<Candidates, RunFault>
+    ensures { AnswersRun (λ candidates. candidates) result (candidates_from input bytes.old.items) }
+{
+    let read = Candidates::parse(alloc, bytes);
+    *bytes = Vec::new(alloc);
+    match read {
         Ok(candidates) => Ok(candidates),
         Err(fault) => Err(RunFault::of_candidates(input, fault)),
     }

@@ -1,6 +1,8 @@
 //! The command line: which files are opened, what is said of a fault, and the exit status.
 
-ghost use Rattle.std.specs.Prelude.{◌≡◌, length};
+ghost use Rattle.std.specs.Prelude.{◌≡◌, length, IfErr};
+ghost use Rattle.std.specs.Process.{exit_status};
+ghost use Rattle.reqs_cli.specs.Exits.{status_after};
 
 use crate::source::Source;
 use crate::variables::variables;
@@ -73,7 +75,9 @@ fn matches<'a>(alloc: Global, words: &'a [String]) -> Result<ArgMatches<'a>, Err
 }
 
 /// Names the word of the command line that is no text.
-fn refuse_word<R: Eprint>(rt: &R, word: &str) -> ExitCode {
+fn refuse_word<R: Eprint>(rt: &R, word: &str) -> ExitCode
+    ensures { exit_status result ≡ 2 }
+{
     let _ = eprintln!(rt; "reqs: argument {word} is not UTF-8");
     ExitCode::from(USAGE_STATUS)
 }
@@ -108,9 +112,21 @@ fn run_check<R: Runtime + AllocGlobal>(rt: &R, given: &ArgMatches<'_>) -> ExitCo
         );
     }
     let extras = given.get_strs("EXTRA").unwrap_or(&[]);
-    match check_files(rt, &paths, extras) {
+    let ended = check_files(rt, &paths, extras);
+    exit_after(rt, &ended, &paths)
+}
+
+/// Ends the program as a command ended, and says why where it was refused.
+fn exit_after<R: Runtime + AllocGlobal>(
+    rt: &R,
+    ended: &Result<Status, RunFault>,
+    paths: &[&str],
+) -> ExitCode
+    ensures { exit_status result ≡ status_after ended.now }
+{
+    match ended {
         Ok(status) => ExitCode::from(status.code()),
-        Err(fault) => match fault.text(rt.alloc(), &paths) {
+        Err(fault) => match fault.text(rt.alloc(), paths) {
             Ok(text) => end(rt, fault.status(), text.as_str()),
             Err(_) => end(rt, fault.status(), "out of memory"),
         },
@@ -145,7 +161,9 @@ fn open<R: Runtime>(
     rt: &R,
     input: Input,
     path: &str,
-) -> Result<Source<R::File, R::Reader>, RunFault> {
+) -> Result<Source<R::File, R::Reader>, RunFault>
+    ensures { IfErr result (λ fault. fault ≡ RunFault.Read input) }
+{
     if path == STANDARD_INPUT {
         return Ok(Source::Standard(rt.reader()));
     }
@@ -156,7 +174,9 @@ fn open<R: Runtime>(
 }
 
 /// Says why the program ends, and ends it with this status.
-fn end<R: Eprint>(rt: &R, status: u8, text: &str) -> ExitCode {
+fn end<R: Eprint>(rt: &R, status: u8, text: &str) -> ExitCode
+    ensures { exit_status result ≡ status }
+{
     // Where not even this can be said, the status still tells.
     let _ = eprintln!(rt; "reqs: {text}");
     ExitCode::from(status)

@@ -1,6 +1,8 @@
 //! The variables of the program's environment, whose values stand in URLs.
 
+ghost use Rattle.std.specs.Prelude.{◌≡◌, map, IfOk};
 ghost use Rattle.pep508_url.specs.Vars.{IsAbsolute};
+ghost use Rattle.reqs_cli.specs.Root.{is_root, root_in};
 
 use crate::words::filled;
 use reqs::Vars;
@@ -12,7 +14,9 @@ const ROOT: &str = "/";
 
 /// The variables that are text. The project's directory is the value of `PWD`, where that is an absolute
 /// path.
-pub fn variables<E: Env>(env: &E, alloc: Global) -> Result<Vars, AllocError> {
+pub fn variables<E: Env>(env: &E, alloc: Global) -> Result<Vars, AllocError>
+    ensures { IfOk result (λ vars. vars.project_root ≡ root_in vars.pairs) }
+{
     let entries = entries(env, alloc)?;
     let pairs = pairs(alloc, &entries)?;
     Vars::new(alloc, &pairs, project_root(&pairs))
@@ -45,12 +49,20 @@ fn pairs<'a>(alloc: Global, entries: &'a [String]) -> Result<Vec<(&'a str, &'a s
 
 /// The project's directory.
 fn project_root<'a>(pairs: &[(&'a str, &'a str)]) -> &'a str
-    ensures { IsAbsolute result.now }
+    ensures absolute { IsAbsolute result.now }
+    ensures root { result.now ≡ root_in (map (λ pair. (pair.0.now, pair.1.now)) pairs.now) }
 {
     for (name, value) in pairs {
-        if *name == "PWD" && value.starts_with('/') {
+        if is_root(name, value) {
             return value;
         }
     }
     ROOT
+}
+
+/// Whether a variable names the project's directory.
+fn is_root(name: &str, value: &str) -> bool
+    ensures { result ≡ is_root (name.now, value.now) }
+{
+    name == "PWD" && value.starts_with('/')
 }

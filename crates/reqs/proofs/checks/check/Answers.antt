@@ -27,7 +27,7 @@ returns-in_err-candidates-clause-runs g c =
 pub returns-in_err-text-clause-runs : goal.returns-in_err-text-clause-runs
 returns-in_err-text-clause-runs g c =
     let p = err_from_is_err_and c.from_residual-in_err-text.result c.from_residual-in_err-text.ensures.1 in
-    let told = rw (c.deref.ensures.value, c.deref-2.ensures.value, c.deref-3.ensures.value) at c.in_err-text.ensures in
+    let told = c.in_err-text.ensures in
     rw (p.1, p.2)
     (texts_refused _ _ _ _ _ _ _ _ c.in_ok-requirements.requirements.items c.in_ok-requirements.ensures
     c.in_ok-environment.environment.items c.in_ok-environment.ensures
@@ -35,7 +35,7 @@ returns-in_err-text-clause-runs g c =
 
 pub returns-in-Ok-clause-runs : goal.returns-in-Ok-clause-runs
 returns-in-Ok-clause-runs g c =
-    let answer = rw (c.deref.ensures.value, c.deref-2.ensures.value, c.deref-3.ensures.value) at c.in_ok-text.ensures in
+    let answer = c.in_ok-text.ensures in
     let bytes : c.as_bytes.result.now ≡ string_bytes c.in_ok-text.text = search rules in
     record {
       inputs = c.in_ok-requirements.requirements.items ∷ c.in_ok-environment.environment.items ∷ c.in_ok-candidates.candidates.items ∷ [];
@@ -48,7 +48,7 @@ returns-in-Ok-clause-runs g c =
 
 pub returns-clause-runs : goal.returns-clause-runs
 returns-clause-runs g c =
-    let answer = rw (c.deref.ensures.value, c.deref-2.ensures.value, c.deref-3.ensures.value) at c.in_ok-text.ensures in
+    let answer = c.in_ok-text.ensures in
     let bytes : c.as_bytes.result.now ≡ string_bytes c.in_ok-text.text = search rules in
     record {
       inputs = c.in_ok-requirements.requirements.items ∷ c.in_ok-environment.environment.items ∷ c.in_ok-candidates.candidates.items ∷ [];

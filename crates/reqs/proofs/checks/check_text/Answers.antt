@@ -1,21 +1,22 @@
 use Rattle.std.proofs.Common.{◌∙◌, Ok, ap, sym}
 use Rattle.std.proofs.lemmas.Result.{err_from_is_err_and}
+use Rattle.reqs.specs.Faults.{IsPlain, IsOfTexts}
 use Rattle.reqs.specs.Inputs.{texts_of}
 use Rattle.reqtable_requirements.proofs.Asked.{are_of_nodes}
-use Rattle.reqs.proofs.Steps.{refuses_rest, refuses_texts, lines_rest, whole}
+use Rattle.reqs.proofs.Steps.{refuses_rest, refuses_texts, whole}
 use Rattle.reqs.proofs.checks.check_text.Goals as goal
 
 pub returns-in_err-extras : goal.returns-in_err-extras
 unfolding texts_of
 returns-in_err-extras c =
     let p = err_from_is_err_and c.from_residual.result c.from_residual.ensures.1 in
-    rw (p.1, p.2) (refuses_texts _ _ _ _ (refuses_rest _ _ _ c.in_err-extras.ensures))
+    rw (p.1, p.2) (refuses_texts _ _ _ _ (refuses_rest IsPlain _ _ _ c.in_err-extras.ensures))
 
 pub returns-in_err-requirements : goal.returns-in_err-requirements
 unfolding texts_of
 returns-in_err-requirements c =
     let p = err_from_is_err_and c.from_residual-in_err-requirements.result c.from_residual-in_err-requirements.ensures.1 in
-    rw (p.1, p.2, c.in_ok-extras.ensures) (lines_rest _ _ _ _ _ c.in_err-requirements.ensures)
+    rw (p.1, p.2, c.in_ok-extras.ensures) (refuses_rest (IsOfTexts c.args.vars.now c.args.requirements.now.items) _ _ _ c.in_err-requirements.ensures)
 
 pub text_behind-requires : goal.text_behind-requires
 text_behind-requires c =
@@ -23,7 +24,7 @@ text_behind-requires c =
 
 pub returns : goal.returns
 returns c =
-    whole c.args.vars.now _ c.args.requirements.now c.args.environment.now c.args.candidates.now c.deref.result.now
+    whole c.args.vars.now _ c.args.requirements.now.items c.args.environment.now.items c.args.candidates.now.items c.deref.result.now
     c.in_ok-requirements.ensures.0 (c.in_ok-extras.ensures ∙ ap (λ l. Ok l) (sym c.deref.ensures.value))
     c.in_ok-requirements.ensures.1 c.text_behind.result
     (c.text_behind.ensures c.args.vars.now c.in_ok-requirements.ensures.0 c.in_ok-requirements.ensures.2)

@@ -1,5 +1,6 @@
 use Rattle.std.proofs.Common.{refl}
 use Rattle.std.proofs.lemmas.Result.{err_from_is_err_and}
+use Rattle.reqs.specs.Faults.{IsPlain}
 use Rattle.reqs.specs.Inputs.{behind_lines}
 use Rattle.reqs.proofs.Steps.{refuses_rest}
 use Rattle.reqs.proofs.checks.text_behind.Goals as goal
@@ -8,13 +9,13 @@ pub returns-in_err-environment : goal.returns-in_err-environment
 unfolding behind_lines
 returns-in_err-environment c = λ vars said stands.
     let p = err_from_is_err_and c.from_residual.result c.from_residual.ensures.1 in
-    rw (p.1, p.2) (refuses_rest _ _ _ c.in_err-environment.ensures)
+    rw (p.1, p.2) (refuses_rest IsPlain _ _ _ c.in_err-environment.ensures)
 
 pub returns-in_err-candidates : goal.returns-in_err-candidates
 unfolding behind_lines
 returns-in_err-candidates c = λ vars said stands.
     let p = err_from_is_err_and c.from_residual-in_err-candidates.result c.from_residual-in_err-candidates.ensures.1 in
-    rw (p.1, p.2, c.in_ok-environment.ensures) (refuses_rest _ _ _ c.in_err-candidates.ensures)
+    rw (p.1, p.2, c.in_ok-environment.ensures) (refuses_rest IsPlain _ _ _ c.in_err-candidates.ensures)
 
 pub returns-in-Ok : goal.returns-in-Ok
 unfolding behind_lines

@@ -1,4 +1,4 @@
-use Rattle.std.proofs.Common.{◌≡◌, ◌∙◌, ℕ, List, Bor, Ok, ap, sym, subst, []}
+use Rattle.std.proofs.Common.{◌∙◌, ℕ, List, Bor, Ok, ap, sym, []}
 use Rattle.std.proofs.lemmas.Result.{err_from_is_err_and}
 use Rattle.reqs.proofs.Extras.{one_more, refused}
 use Rattle.reqs.proofs.input.read_extras.Goals as goal
