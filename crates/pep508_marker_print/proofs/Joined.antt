@@ -1,5 +1,5 @@
 -- Bits that stand in others, and bits of all terms.
-use Rattle.std.proofs.Common.{◌≡◌, ℕ, ◌+◌, ◌-◌, ◌*◌, ◌/◌, ◌%◌, ◌^◌, ◌<◌, max, zero, suc, ◌==◌, Bool, true, false, ◌&&◌, ◌||◌, List, [], ◌∷◌, fold, ◌⊎◌, inl, inr, ⊎_elim, refl, sym, ap, ◌∙◌, arith}
+use Rattle.std.proofs.Common.{◌≡◌, ℕ, ◌-◌, ◌*◌, ◌^◌, ◌<◌, zero, suc, ◌==◌, Bool, true, false, ◌||◌, List, [], ◌∷◌, fold, ◌⊎◌, inl, inr, refl, sym, ap, ◌∙◌, arith}
 use Rattle.std.specs.Cmp.{unsigned_Decides}
 use Rattle.std.specs.Int.{bit_at}
 use Rattle.std.specs.Int.Bits.{bit_and, bit_or, or_self, or_add_and, or_zero_l, and_mask, and_comm}
@@ -7,8 +7,8 @@ use Rattle.std.specs.List.{list_all}
 use Rattle.std.proofs.Math.Nat.{mod_self}
 use Rattle.std.proofs.lemmas.Nat.{or_comm}
 use Rattle.std.proofs.lemmas.Nat.Bits.{bit_at_or, bit_at-lt, and_pow, same_from_bits}
-use Rattle.pep508_marker_text.proofs.Removals.{both, together}
-use Rattle.pep508_marker_print.specs.Near.{joined, is_within, has_one, lacks_one}
+use Rattle.pep508_marker_text.proofs.Removals.{both}
+use Rattle.pep508_marker_print.specs.Near.{is_within, has_one, lacks_one}
 
 -- all bits of the second stand in the first
 abbrev pub Within : ℕ → ℕ → Type 0

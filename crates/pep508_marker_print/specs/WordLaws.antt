@@ -1,5 +1,5 @@
 -- Terms of one value have one word, and a term's negation has the literal word that is told of it.
-use Rattle.std.proofs.Common.{◌≡◌, ℕ, Bool, true, false, ◌&&◌, ◌==◌, List, Option, None, Some, ap, sym, ◌∙◌, true≢false}
+use Rattle.std.proofs.Common.{◌≡◌, ℕ, Bool, true, false, ◌==◌, List, Option, None, Some, ap, sym, ◌∙◌, true≢false}
 use Rattle.std.specs.Cmp.{unsigned_Decides}
 use Rattle.std.specs.Option.{option_map_or}
 use Rattle.pep440_operator.specs.declared.operator.Operator.{Operator}
@@ -8,7 +8,7 @@ use Rattle.pep440_rs.specs.Order.{version_eq}
 use Rattle.pep440_rs.specs.SpecifierOrder.{operator_rank}
 use Rattle.pep508_diagram.proofs.Places.{equal_from, texts_same}
 use Rattle.pep508_diagram.specs.Text.{text_cmp}
-use Rattle.pep508_marker.specs.Expression.{ExpressionRecord, Version, VersionIn, String, Extra, expression_of}
+use Rattle.pep508_marker.specs.Expression.{ExpressionRecord, Version, String, Extra, expression_of}
 use Rattle.pep508_marker.specs.Keys.{version_key_rank, text_key_rank}
 use Rattle.pep508_marker.specs.Operators.{marker_negated, extra_negated}
 use Rattle.pep508_marker.specs.Values.{ExtraRecord, Name, Arbitrary, extra_text}
@@ -19,7 +19,7 @@ use Rattle.pep508_marker_print.specs.Terms.{same_expression, opposite_expression
 use Rattle.pep508_marker_print.specs.Terms.{expression_word, expression_literal, expression_negation}
 use Rattle.pep508_marker_print.specs.Words.{with_number, word_behind, term_word, term_literal, term_negation}
 use Rattle.pep508_marker_text.proofs.Removals.{both}
-use Rattle.pep508_marker_text.specs.SameTerms.{same_text, same_version, same_extra, terms_by, same_term, opposite_term}
+use Rattle.pep508_marker_text.specs.SameTerms.{same_text, same_extra, terms_by, same_term, opposite_term}
 use Rattle.pep508_marker_text.specs.SameTerms.{marker_operator_rank, extra_operator_rank}
 
 one_number : (a b : ℕ) → (a == b) ≡ true → a ≡ b
