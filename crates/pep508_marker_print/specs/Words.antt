@@ -3,12 +3,14 @@
 use Rattle.std.specs.Prelude.{ℕ, ◌+◌, ◌*◌, ◌/◌, ◌%◌, ◌^◌, List, fold}
 use Rattle.std.specs.Int.Bits.{bit_or}
 use Rattle.std.specs.Option.{option_map_or}
+use Rattle.pep440_operator.specs.declared.operator.Operator.{Operator}
 use Rattle.pep440_rs.specs.Operators.{negated}
 use Rattle.pep440_rs.specs.SpecifierOrder.{operator_rank}
 use Rattle.pep508_marker.specs.Expression.{ExpressionRecord, Version, VersionIn, String, Extra}
 use Rattle.pep508_marker.specs.Keys.{version_key_rank, text_key_rank}
 use Rattle.pep508_marker.specs.Operators.{marker_negated, extra_negated}
 use Rattle.pep508_marker.specs.Values.{extra_text}
+use Rattle.pep508_marker.specs.declared.operators.MarkerOperator.{MarkerOperator}
 use Rattle.pep508_marker_text.specs.SameTerms.{marker_operator_rank, extra_operator_rank}
 
 -- the odd number next to 2 ^ 64 over the golden ratio: a product with it changes its highest bits where any
@@ -41,15 +43,20 @@ term_literal (String key operator text) =
 term_literal (Extra operator asked) =
     with_number (term_word (Extra operator asked)) (extra_operator_rank operator)
 
--- the word of its negation; 0 where it has none
+-- a word with the negation of an operator; 0 where it has none
+abbrev pub negated_word : ℕ → Operator → ℕ
+negated_word word operator =
+    option_map_or (λ other. with_number word (operator_rank other)) (negated operator) 0
+
+abbrev pub negated_text_word : ℕ → MarkerOperator → ℕ
+negated_text_word word operator =
+    option_map_or (λ other. with_number word (marker_operator_rank other)) (marker_negated operator) 0
+
+-- the word of a comparison's negation; 0 where it has none
 abbrev pub term_negation : ExpressionRecord → ℕ
-term_negation (Version key specifier) =
-    option_map_or (λ other. with_number (term_word (Version key specifier)) (operator_rank other))
-    (negated specifier.operator) 0
+term_negation (Version key specifier) = negated_word (term_word (Version key specifier)) specifier.operator
 term_negation (VersionIn key versions negated) = 0
-term_negation (String key operator text) =
-    option_map_or (λ other. with_number (term_word (String key operator text)) (marker_operator_rank other))
-    (marker_negated operator) 0
+term_negation (String key operator text) = negated_text_word (term_word (String key operator text)) operator
 term_negation (Extra operator asked) =
     with_number (term_word (Extra operator asked)) (extra_operator_rank (extra_negated operator))
 

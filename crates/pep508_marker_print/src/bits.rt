@@ -2,7 +2,8 @@
 
 ghost use Rattle.std.specs.Prelude.{◌≡◌, ◌≤◌, ◌<◌};
 ghost use Rattle.pep508_marker_print.specs.Words.{bit, value_bits, literal_bit};
-ghost use Rattle.pep508_marker_print.specs.Near.{joined, is_within, lacks_one, bits_of, are_near};
+ghost use Rattle.pep508_marker_print.specs.Near.{joined, is_within, bits_of, are_near};
+ghost use Rattle.pep508_marker_print.specs.Near.{may_stand_in, literals_of};
 
 use crate::term::{Term, spread};
 
@@ -25,13 +26,25 @@ impl Bits {
         }
     }
 
-    /// Whether others have no bits of values but these, and one bit of a term at most that isn't among these.
+    /// Whether all bits of others' values are among these.
     pub(crate) fn are_near(self, other: Bits) -> bool
         ensures { result ≡ are_near self other }
     {
-        is_within(self.values, other.values)
-            && (is_within(self.more_values, other.more_values)
-                && lacks_one(self.literals, other.literals))
+        is_within(self.values, other.values) && is_within(self.more_values, other.more_values)
+    }
+
+    /// Whether all bits of others are among these.
+    pub(crate) fn may_stand_in(self, other: Bits) -> bool
+        ensures { result ≡ may_stand_in self other }
+    {
+        self.are_near(other) && is_within(self.literals, other.literals)
+    }
+
+    /// Whether all bits of the terms are among given ones.
+    pub(crate) fn are_among(self, literals: u64) -> bool
+        ensures { result ≡ is_within literals self.literals }
+    {
+        is_within(literals, self.literals)
     }
 }
 
@@ -73,9 +86,16 @@ fn values<T: Term>(terms: &[T], from: u32) -> u64
     bits
 }
 
+/// The bit of a term's negations.
+pub(crate) fn negation_bit<T: Term>(term: &T) -> u64
+    ensures { result ≡ literal_bit (T.negation term.now) }
+{
+    literal_bit(term.negation())
+}
+
 /// The bits of some terms.
-fn literals<T: Term>(terms: &[T]) -> u64
-    ensures { result ≡ joined (λ term. literal_bit (T.literal term)) terms.now }
+pub(crate) fn literals<T: Term>(terms: &[T]) -> u64
+    ensures { result ≡ literals_of T.literal terms.now }
 {
     let mut bits = 0;
     for term in terms {
@@ -89,13 +109,4 @@ fn is_within(own: u64, other: u64) -> bool
     ensures { result ≡ is_within own other }
 {
     other | own == own
-}
-
-/// Whether bits have all of others but one at most.
-#[tactic(auto, using(std::proofs::lemmas::Nat::le_or_r))]
-fn lacks_one(own: u64, other: u64) -> bool
-    ensures { result ≡ lacks_one own other }
-{
-    let lacking = (other | own) - own;
-    lacking == 0 || lacking & (lacking - 1) == 0
 }

@@ -6,8 +6,11 @@ ghost use Rattle.pep508_marker_text.specs.Simplified.{sifted, stands_in, spares,
 ghost use Rattle.pep508_marker_text.specs.Simplified.{shortened_behind, simplified};
 ghost use Rattle.pep508_marker_print.specs.Terms.{lists_of, lent_lists};
 ghost use Rattle.pep508_marker_print.specs.Places.{needless_at};
-ghost use Rattle.pep508_marker_print.specs.Near.{is_near};
+ghost use Rattle.pep508_marker_print.specs.Near.{is_near, literals_of};
+ghost use Rattle.pep508_marker_print.specs.Words.{literal_bit};
+ghost use Rattle.std.specs.Int.Bits.{bit_or};
 
+use crate::bits::{literals, negation_bit};
 use crate::clause::Clause;
 use crate::term::Term;
 use std::alloc::{AllocError, Global};
@@ -53,22 +56,46 @@ fn spares<T: Term>(term: &T, front: &[T], behind: &[T], clause: &[T]) -> bool
     true
 }
 
-/// Whether one of some clauses spares a term.
-fn one_spares<T: Term>(term: &T, front: &[T], behind: &[T], clauses: &[&Clause<T>]) -> bool
+/// Whether a clause spares a term that stands among others, whose bits and that of its negation are given.
+fn spares_by_bits<T: Term>(
+    term: &T,
+    front: &[T],
+    behind: &[T],
+    bits: u64,
+    clause: &Clause<T>,
+) -> bool
+    requires { bits ≡ bit_or (literals_of T.literal (front.now ++ term.now ∷ behind.now))
+        (literal_bit (T.negation term.now)) }
+    ensures { result ≡ spares T.same T.opposite term.now (front.now ++ behind.now) clause.now }
+{
+    clause.is_among(bits) && spares(term, front, behind, clause.terms())
+}
+
+/// Whether one of some clauses spares a term that stands among others, whose bits are given.
+fn one_spares<T: Term>(
+    term: &T,
+    front: &[T],
+    behind: &[T],
+    own: u64,
+    clauses: &[&Clause<T>],
+) -> bool
+    requires { own ≡ literals_of T.literal (front.now ++ term.now ∷ behind.now) }
     ensures { result
         ≡ list_any (spares T.same T.opposite term.now (front.now ++ behind.now)) (lent_lists clauses.now) }
 {
+    let bits = own | negation_bit(term);
     for clause in clauses {
-        if spares(term, front, behind, clause.terms()) {
+        if spares_by_bits(term, front, behind, bits, clause) {
             return true;
         }
     }
     false
 }
 
-/// Whether the term at a place of a clause is needless beside other clauses.
-fn is_needless<T: Term>(clause: &[T], place: usize, others: &[&Clause<T>]) -> bool
-    requires { place < length clause.now }
+/// Whether the term at a place of a clause, whose bits are given, is needless beside other clauses.
+fn is_needless<T: Term>(clause: &[T], own: u64, place: usize, others: &[&Clause<T>]) -> bool
+    requires inside { place < length clause.now }
+    requires bits { own ≡ literals_of T.literal clause.now }
     ensures { result ≡ needless_at T.same T.opposite (lent_lists others.now) clause.now place }
 {
     let (front, from) = clause.split_at(place);
@@ -78,7 +105,7 @@ fn is_needless<T: Term>(clause: &[T], place: usize, others: &[&Clause<T>]) -> bo
             if front.is_empty() && behind.is_empty() {
                 return false;
             }
-            one_spares(term, front, behind, others)
+            one_spares(term, front, behind, own, others)
         }
     }
 }
@@ -88,10 +115,12 @@ fn shorten<T: Term>(clause: &mut Vec<T>, others: &[&Clause<T>])
     ensures { clause.new.items
         ≡ sifted (is_needless T.same T.opposite (lent_lists others.now)) [] clause.old.items }
 {
+    let mut own = literals(clause);
     let mut place = 0;
     while place < clause.len() {
-        if is_needless(clause, place, others) {
+        if is_needless(clause, own, place, others) {
             clause.remove(place);
+            own = literals(clause);
         } else {
             place += 1;
         }
@@ -179,7 +208,7 @@ fn stand_in<T: Term>(clause: &[T], terms: &[T]) -> bool
 fn covers<T: Term>(clause: &Clause<T>, other: &Clause<T>) -> bool
     ensures { result ≡ list_all (stands_in T.same T.opposite clause.now) other.now }
 {
-    clause.is_near(other) && stand_in(clause.terms(), other.terms())
+    clause.may_be_covered(other) && stand_in(clause.terms(), other.terms())
 }
 
 /// Whether all terms of some other clause stand in a clause.

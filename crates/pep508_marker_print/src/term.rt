@@ -10,6 +10,7 @@ ghost use Rattle.pep508_marker_print.specs.Operators.{are_opposite, are_opposite
 ghost use Rattle.pep508_marker_print.specs.Terms.{same_expression, opposite_expression};
 ghost use Rattle.pep508_marker_print.specs.Terms.{expression_word, expression_literal, expression_negation};
 ghost use Rattle.pep508_marker_print.specs.Words.{spread, with_number, word_behind};
+ghost use Rattle.pep508_marker_print.specs.Words.{negated_word, negated_text_word};
 ghost use Rattle.pep508_marker_print.specs.WordLaws.{word_of_same, word_of_opposite};
 ghost use Rattle.pep508_marker_print.specs.WordLaws.{literal_of_same, literal_of_opposite};
 
@@ -61,6 +62,10 @@ pub(crate) trait Term: Drop {
     /// A number that terms have in common where they are the same. Others may have it too.
     fn literal(&self) -> u64
         ensures { result ≡ literal self.now };
+
+    /// That of the term's negations.
+    fn negation(&self) -> u64
+        ensures { result ≡ negation self.now };
 }
 
 /// A word of which each bit counts in the highest ones.
@@ -188,6 +193,25 @@ fn are_opposite_extras(operator: ExtraOperator, other: ExtraOperator) -> bool
     ensures { result ≡ are_opposite_extras operator other }
 {
     extra_operator_rank(operator.negate()) == extra_operator_rank(other)
+}
+
+/// A word with the negation of an operator; 0 where it has none.
+fn negated_word(word: u64, operator: Operator) -> u64
+    ensures { result ≡ negated_word word operator }
+{
+    match operator.negate() {
+        Some(negated) => with_number(word, u64::from(operator_rank(negated))),
+        None => 0,
+    }
+}
+
+fn negated_text_word(word: u64, operator: MarkerOperator) -> u64
+    ensures { result ≡ negated_text_word word operator }
+{
+    match operator.negate() {
+        Some(negated) => with_number(word, u64::from(marker_operator_rank(negated))),
+        None => 0,
+    }
 }
 
 impl Term for MarkerExpression {
@@ -320,6 +344,20 @@ impl Term for MarkerExpression {
             }
             MarkerExpression::Extra { operator, name: _ } => {
                 with_number(word, u64::from(extra_operator_rank(*operator)))
+            }
+        }
+    }
+
+    fn negation(&self) -> u64 {
+        let word = self.word();
+        match self {
+            MarkerExpression::Version { key: _, specifier } => {
+                negated_word(word, specifier.operator())
+            }
+            MarkerExpression::VersionIn { .. } => 0,
+            MarkerExpression::String { operator, .. } => negated_text_word(word, *operator),
+            MarkerExpression::Extra { operator, name: _ } => {
+                with_number(word, u64::from(extra_operator_rank(operator.negate())))
             }
         }
     }
