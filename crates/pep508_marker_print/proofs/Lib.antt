@@ -1,3 +1,4 @@
+pub mod Joined
 pub mod Near
 pub mod Sifting
 pub mod Natural

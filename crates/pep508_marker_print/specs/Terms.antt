@@ -5,7 +5,7 @@ use Rattle.pep508_marker.specs.declared.expression.MarkerExpression.{MarkerExpre
 use Rattle.pep508_marker.specs.Expression.{expression_of}
 use Rattle.pep508_marker_text.specs.Saying.{Clause}
 use Rattle.pep508_marker_text.specs.SameTerms.{same_term, opposite_term}
-use Rattle.pep508_marker_print.specs.Words.{term_word}
+use Rattle.pep508_marker_print.specs.Words.{term_word, term_literal, term_negation}
 
 abbrev pub clause_of : List MarkerExpression → Clause
 clause_of terms = map expression_of terms
@@ -30,3 +30,9 @@ opposite_expression a b = opposite_term (expression_of a) (expression_of b)
 
 abbrev pub expression_word : MarkerExpression → ℕ
 expression_word term = term_word (expression_of term)
+
+abbrev pub expression_literal : MarkerExpression → ℕ
+expression_literal term = term_literal (expression_of term)
+
+abbrev pub expression_negation : MarkerExpression → ℕ
+expression_negation term = term_negation (expression_of term)

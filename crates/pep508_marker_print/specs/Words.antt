@@ -1,51 +1,77 @@
--- Which clauses can matter to a clause: those whose terms all have words of its terms. A term's word is one
--- with that of each term which is the same, and of its negations.
-use Rattle.std.specs.Prelude.{ℕ, ◌+◌, ◌*◌, ◌%◌, ◌^◌, ◌==◌, ◌||◌, Bool, false, List, [], ◌∷◌, nat_lt, cond}
-use Rattle.std.specs.List.{list_all}
+-- Words of terms, and their bits. A term's word is one with that of each term which is the same, and of its
+-- negations; its literal word is one with that of each term which is the same.
+use Rattle.std.specs.Prelude.{ℕ, ◌+◌, ◌*◌, ◌/◌, ◌%◌, ◌^◌, List, fold}
+use Rattle.std.specs.Int.Bits.{bit_or}
+use Rattle.std.specs.Option.{option_map_or}
+use Rattle.pep440_operator.specs.declared.operator.Operator.{Operator}
+use Rattle.pep440_rs.specs.Operators.{negated}
+use Rattle.pep440_rs.specs.SpecifierOrder.{operator_rank}
 use Rattle.pep508_marker.specs.Expression.{ExpressionRecord, Version, VersionIn, String, Extra}
+use Rattle.pep508_marker.specs.Keys.{version_key_rank, text_key_rank}
+use Rattle.pep508_marker.specs.Operators.{marker_negated, extra_negated}
 use Rattle.pep508_marker.specs.Values.{extra_text}
+use Rattle.pep508_marker.specs.declared.operators.MarkerOperator.{MarkerOperator}
+use Rattle.pep508_marker_text.specs.SameTerms.{marker_operator_rank, extra_operator_rank}
 
--- the word of a text's last eight bytes, behind a word; also of a list of numbers
+-- the odd number next to 2 ^ 64 over the golden ratio: a product with it changes its highest bits where any
+-- bit of the word changes
+abbrev pub spread : ℕ → ℕ
+spread word = word * 11400714819323198485 % 2 ^ 64
+
+-- a word with a number more
+abbrev pub with_number : ℕ → ℕ → ℕ
+with_number word number = (spread word + number) % 2 ^ 64
+
+-- the word of a text or of a list of numbers, behind a word
 abbrev pub word_behind : ℕ → List ℕ → ℕ
-word_behind word [] = word
-word_behind word (n ∷ later) = word_behind ((word * 256 % 2 ^ 64 + n) % 2 ^ 64) later
+word_behind word numbers = fold with_number word numbers
 
--- the word of a comparison's value
+-- the word of a comparison's key and value
 abbrev pub term_word : ExpressionRecord → ℕ
-term_word (Version key specifier) = word_behind 0 specifier.version.release
+term_word (Version key specifier) = word_behind (version_key_rank key) specifier.version.release
 term_word (VersionIn key versions negated) = 0
-term_word (String key operator text) = word_behind 0 text
+term_word (String key operator text) = word_behind (text_key_rank key) text
 term_word (Extra operator asked) = word_behind 0 (extra_text asked)
 
--- whether a falling list of words has a word; what follows a smaller word isn't looked at
-abbrev pub holds : List ℕ → ℕ → Bool
-holds [] word = false
-holds (other ∷ later) word = cond (nat_lt other word) false (word == other || holds later word)
+-- the word of a whole comparison
+abbrev pub term_literal : ExpressionRecord → ℕ
+term_literal (Version key specifier) =
+    with_number (term_word (Version key specifier)) (operator_rank specifier.operator)
+term_literal (VersionIn key versions negated) = 0
+term_literal (String key operator text) =
+    with_number (term_word (String key operator text)) (marker_operator_rank operator)
+term_literal (Extra operator asked) =
+    with_number (term_word (Extra operator asked)) (extra_operator_rank operator)
 
--- a word more, in front of the first that isn't greater
-abbrev pub with_word : ℕ → List ℕ → List ℕ
-with_word word [] = word ∷ []
-with_word word (other ∷ later) =
-    cond (nat_lt word other) (other ∷ with_word word later) (word ∷ other ∷ later)
+-- a word with the negation of an operator; 0 where it has none
+abbrev pub negated_word : ℕ → Operator → ℕ
+negated_word word operator =
+    option_map_or (λ other. with_number word (operator_rank other)) (negated operator) 0
 
-abbrev pub greater : ℕ → ℕ → ℕ
-greater a b = cond (nat_lt a b) b a
+abbrev pub negated_text_word : ℕ → MarkerOperator → ℕ
+negated_text_word word operator =
+    option_map_or (λ other. with_number word (marker_operator_rank other)) (marker_negated operator) 0
 
-module _ {T : Type 0} (word : T → ℕ) where
-  -- whether all terms have words among these
-  abbrev pub is_near : List ℕ → List T → Bool
-  is_near words clause = list_all (λ term. holds words (word term)) clause
+-- the word of a comparison's negation; 0 where it has none
+abbrev pub term_negation : ExpressionRecord → ℕ
+term_negation (Version key specifier) = negated_word (term_word (Version key specifier)) specifier.operator
+term_negation (VersionIn key versions negated) = 0
+term_negation (String key operator text) = negated_text_word (term_word (String key operator text)) operator
+term_negation (Extra operator asked) =
+    with_number (term_word (Extra operator asked)) (extra_operator_rank (extra_negated operator))
 
-  -- the words of a clause's terms, the greatest first, beside other words
-  abbrev pub words_behind : List ℕ → List T → List ℕ
-  words_behind words [] = words
-  words_behind words (term ∷ later) = words_behind (with_word (word term) words) later
+-- ---- bits
 
-  abbrev pub greatest_behind : ℕ → List T → ℕ
-  greatest_behind most [] = most
-  greatest_behind most (term ∷ later) = greatest_behind (greater most (word term)) later
+-- one of 64 bits, named by six bits of a word
+abbrev pub bit : ℕ → ℕ → ℕ
+bit word from = 2 ^ (word / 2 ^ from % 64)
 
-  -- the greatest word of a clause's terms
-  abbrev pub greatest_word : List T → ℕ
-  greatest_word [] = 0
-  greatest_word (term ∷ later) = greatest_behind (word term) later
+-- four bits of a value
+unfoldable pub value_bits : ℕ → ℕ → ℕ
+value_bits word from =
+    bit_or (bit_or (bit_or (bit (spread word) from) (bit (spread word) (from + 6))) (bit (spread word) (from + 12)))
+    (bit (spread word) (from + 18))
+
+-- the bit of a term
+abbrev pub literal_bit : ℕ → ℕ
+literal_bit word = bit (spread word) 58

@@ -2,6 +2,7 @@
 //! see a comparison as an `ExpressionRecord`.
 #![tactic(auto)]
 
+mod bits;
 mod clause;
 mod clause_text;
 mod clauses;

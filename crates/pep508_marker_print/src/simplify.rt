@@ -6,9 +6,12 @@ ghost use Rattle.pep508_marker_text.specs.Simplified.{sifted, stands_in, spares,
 ghost use Rattle.pep508_marker_text.specs.Simplified.{shortened_behind, simplified};
 ghost use Rattle.pep508_marker_print.specs.Terms.{lists_of, lent_lists};
 ghost use Rattle.pep508_marker_print.specs.Places.{needless_at};
-ghost use Rattle.pep508_marker_print.specs.Words.{is_near, words_behind};
+ghost use Rattle.pep508_marker_print.specs.Near.{is_near, literals_of};
+ghost use Rattle.pep508_marker_print.specs.Words.{literal_bit};
+ghost use Rattle.std.specs.Int.Bits.{bit_or};
 
-use crate::clause::{Clause, words};
+use crate::bits::{literals, negation_bit};
+use crate::clause::Clause;
 use crate::term::Term;
 use std::alloc::{AllocError, Global};
 
@@ -53,22 +56,46 @@ fn spares<T: Term>(term: &T, front: &[T], behind: &[T], clause: &[T]) -> bool
     true
 }
 
-/// Whether one of some clauses spares a term.
-fn one_spares<T: Term>(term: &T, front: &[T], behind: &[T], clauses: &[&Clause<T>]) -> bool
+/// Whether a clause spares a term that stands among others, whose bits and that of its negation are given.
+fn spares_by_bits<T: Term>(
+    term: &T,
+    front: &[T],
+    behind: &[T],
+    bits: u64,
+    clause: &Clause<T>,
+) -> bool
+    requires { bits ≡ bit_or (literals_of T.literal (front.now ++ term.now ∷ behind.now))
+        (literal_bit (T.negation term.now)) }
+    ensures { result ≡ spares T.same T.opposite term.now (front.now ++ behind.now) clause.now }
+{
+    clause.is_among(bits) && spares(term, front, behind, clause.terms())
+}
+
+/// Whether one of some clauses spares a term that stands among others, whose bits are given.
+fn one_spares<T: Term>(
+    term: &T,
+    front: &[T],
+    behind: &[T],
+    own: u64,
+    clauses: &[&Clause<T>],
+) -> bool
+    requires { own ≡ literals_of T.literal (front.now ++ term.now ∷ behind.now) }
     ensures { result
         ≡ list_any (spares T.same T.opposite term.now (front.now ++ behind.now)) (lent_lists clauses.now) }
 {
+    let bits = own | negation_bit(term);
     for clause in clauses {
-        if spares(term, front, behind, clause.terms()) {
+        if spares_by_bits(term, front, behind, bits, clause) {
             return true;
         }
     }
     false
 }
 
-/// Whether the term at a place of a clause is needless beside other clauses.
-fn is_needless<T: Term>(clause: &[T], place: usize, others: &[&Clause<T>]) -> bool
-    requires { place < length clause.now }
+/// Whether the term at a place of a clause, whose bits are given, is needless beside other clauses.
+fn is_needless<T: Term>(clause: &[T], own: u64, place: usize, others: &[&Clause<T>]) -> bool
+    requires inside { place < length clause.now }
+    requires bits { own ≡ literals_of T.literal clause.now }
     ensures { result ≡ needless_at T.same T.opposite (lent_lists others.now) clause.now place }
 {
     let (front, from) = clause.split_at(place);
@@ -78,7 +105,7 @@ fn is_needless<T: Term>(clause: &[T], place: usize, others: &[&Clause<T>]) -> bo
             if front.is_empty() && behind.is_empty() {
                 return false;
             }
-            one_spares(term, front, behind, others)
+            one_spares(term, front, behind, own, others)
         }
     }
 }
@@ -88,47 +115,49 @@ fn shorten<T: Term>(clause: &mut Vec<T>, others: &[&Clause<T>])
     ensures { clause.new.items
         ≡ sifted (is_needless T.same T.opposite (lent_lists others.now)) [] clause.old.items }
 {
+    let mut own = literals(clause);
     let mut place = 0;
     while place < clause.len() {
-        if is_needless(clause, place, others) {
+        if is_needless(clause, own, place, others) {
             clause.remove(place);
+            own = literals(clause);
         } else {
             place += 1;
         }
     }
 }
 
-/// Adds those of some clauses whose terms all have words among these.
+/// Adds those of some clauses that are near a clause.
 fn add_near<'a, T: Term>(
     near: &mut Vec<&'a Clause<T>>,
-    words: &[u64],
-    clauses: &'a [Clause<T>],
+    clause: &Clause<T>,
+    others: &'a [Clause<T>],
 ) -> Result<(), AllocError>
     ensures { OnOk result (lent_lists near.new.items
-        ≡ lent_lists near.old.items ++ filter (is_near T.word words.now) clauses.now) }
+        ≡ lent_lists near.old.items ++ filter (is_near T.word T.literal clause.now) others.now) }
 {
-    for clause in clauses {
-        if clause.is_near(words) {
-            near.push(clause)?;
+    for other in others {
+        if clause.is_near(other) {
+            near.push(other)?;
         }
     }
     Ok(())
 }
 
-/// The clauses that can matter to a clause with these words.
+/// The clauses that can matter to a clause.
 #[tactic(auto, using(crate::proofs::Near::near_beside))]
 fn near<'a, T: Term>(
     alloc: Global,
-    words: &[u64],
+    clause: &Clause<T>,
     done: &'a [Clause<T>],
     later: &'a [Clause<T>],
 ) -> Result<Vec<&'a Clause<T>>, AllocError>
     ensures { IfOk result (λ near.
-        lent_lists near.items ≡ filter (is_near T.word words.now) (done.now ++ later.now)) }
+        lent_lists near.items ≡ filter (is_near T.word T.literal clause.now) (done.now ++ later.now)) }
 {
     let mut near = Vec::new(alloc);
-    add_near(&mut near, words, done)?;
-    add_near(&mut near, words, later)?;
+    add_near(&mut near, clause, done)?;
+    add_near(&mut near, clause, later)?;
     Ok(near)
 }
 
@@ -142,8 +171,7 @@ fn shortened_clause<T: Term>(
     ensures { IfOk result (λ short.
         short ≡ sifted (is_needless T.same T.opposite (done.now ++ later.now)) [] clause) }
 {
-    let words = words(alloc, clause.terms())?;
-    let near = near(alloc, &words, done, later)?;
+    let near = near(alloc, &clause, done, later)?;
     let mut terms = clause.into_terms();
     shorten(&mut terms, &near);
     Ok(Clause::new(terms))
@@ -176,21 +204,19 @@ fn stand_in<T: Term>(clause: &[T], terms: &[T]) -> bool
     true
 }
 
-/// Whether all terms of a clause stand in a given one, which has these words.
-fn covers<T: Term>(clause: &[T], words: &[u64], other: &Clause<T>) -> bool
-    requires { words.now ≡ words_behind T.word [] clause.now }
+/// Whether all terms of another clause stand in a clause.
+fn covers<T: Term>(clause: &Clause<T>, other: &Clause<T>) -> bool
     ensures { result ≡ list_all (stands_in T.same T.opposite clause.now) other.now }
 {
-    other.is_near(words) && stand_in(clause, other.terms())
+    clause.may_be_covered(other) && stand_in(clause.terms(), other.terms())
 }
 
-/// Whether all terms of some clause stand in a given one, which has these words.
-fn is_covered<T: Term>(clause: &[T], words: &[u64], others: &[Clause<T>]) -> bool
-    requires { words.now ≡ words_behind T.word [] clause.now }
+/// Whether all terms of some other clause stand in a clause.
+fn is_covered<T: Term>(clause: &Clause<T>, others: &[Clause<T>]) -> bool
     ensures { result ≡ is_covered T.same T.opposite clause.now others.now }
 {
     for other in others {
-        if covers(clause, words, other) {
+        if covers(clause, other) {
             return true;
         }
     }
@@ -199,17 +225,10 @@ fn is_covered<T: Term>(clause: &[T], words: &[u64], others: &[Clause<T>]) -> boo
 
 /// Whether one of the clauses in front and behind covers a clause.
 #[tactic(auto, using(crate::proofs::Sifting::covered_beside))]
-fn other_covers<T: Term>(
-    alloc: Global,
-    clause: &[T],
-    kept: &[Clause<T>],
-    later: &[Clause<T>],
-) -> Result<bool, AllocError>
-    ensures { IfOk result (λ covers.
-        covers ≡ is_covered T.same T.opposite clause.now (kept.now ++ later.now)) }
+fn other_covers<T: Term>(clause: &Clause<T>, kept: &[Clause<T>], later: &[Clause<T>]) -> bool
+    ensures { result ≡ is_covered T.same T.opposite clause.now (kept.now ++ later.now) }
 {
-    let words = words(alloc, clause)?;
-    Ok(is_covered(clause, &words, kept) || is_covered(clause, &words, later))
+    is_covered(clause, kept) || is_covered(clause, later)
 }
 
 /// The clauses without those that others cover.
@@ -221,7 +240,7 @@ fn uncovered<T: Term>(alloc: Global, clauses: Vec<Clause<T>>) -> Result<Vec<Clau
     later.reverse();
     let mut kept = Vec::new(alloc);
     while let Some(clause) = later.pop() {
-        if !other_covers(alloc, clause.terms(), &kept, &later)? {
+        if !other_covers(&clause, &kept, &later) {
             kept.push(clause)?;
         }
     }

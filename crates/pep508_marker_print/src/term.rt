@@ -7,9 +7,12 @@ ghost use Rattle.pep508_marker.specs.Values.{extra_of, extra_text};
 ghost use Rattle.pep508_marker_text.specs.SameTerms.{marker_operator_rank, extra_operator_rank};
 ghost use Rattle.pep508_marker_text.specs.SameTerms.{same_text, same_version, same_extra};
 ghost use Rattle.pep508_marker_print.specs.Operators.{are_opposite, are_opposite_texts, are_opposite_extras};
-ghost use Rattle.pep508_marker_print.specs.Terms.{same_expression, opposite_expression, expression_word};
-ghost use Rattle.pep508_marker_print.specs.Words.{word_behind};
+ghost use Rattle.pep508_marker_print.specs.Terms.{same_expression, opposite_expression};
+ghost use Rattle.pep508_marker_print.specs.Terms.{expression_word, expression_literal, expression_negation};
+ghost use Rattle.pep508_marker_print.specs.Words.{spread, with_number, word_behind};
+ghost use Rattle.pep508_marker_print.specs.Words.{negated_word, negated_text_word};
 ghost use Rattle.pep508_marker_print.specs.WordLaws.{word_of_same, word_of_opposite};
+ghost use Rattle.pep508_marker_print.specs.WordLaws.{literal_of_same, literal_of_opposite};
 
 use pep440_operator::Operator;
 use pep440_version::Version;
@@ -28,12 +31,22 @@ pub(crate) trait Term: Drop {
     /// Whether one is the other's negation.
     ghost opposite: { Self → Self → Bool };
 
-    /// A number.
+    /// A number that terms have in common where they are the same, or negations of each other.
     ghost word: { Self → ℕ };
 
     ghost word_of_same: { (a b : Self) → same a b ≡ true → word a ≡ word b };
 
     ghost word_of_opposite: { (a b : Self) → opposite a b ≡ true → word a ≡ word b };
+
+    /// A number that terms have in common where they are the same.
+    ghost literal: { Self → ℕ };
+
+    /// That of the term's negations.
+    ghost negation: { Self → ℕ };
+
+    ghost literal_of_same: { (a b : Self) → same a b ≡ true → literal a ≡ literal b };
+
+    ghost literal_of_opposite: { (a b : Self) → opposite a b ≡ true → negation a ≡ literal b };
 
     fn is_same(&self, other: &Self) -> bool
         ensures { result ≡ same self.now other.now };
@@ -45,26 +58,48 @@ pub(crate) trait Term: Drop {
     /// have it too.
     fn word(&self) -> u64
         ensures { result ≡ word self.now };
+
+    /// A number that terms have in common where they are the same. Others may have it too.
+    fn literal(&self) -> u64
+        ensures { result ≡ literal self.now };
+
+    /// That of the term's negations.
+    fn negation(&self) -> u64
+        ensures { result ≡ negation self.now };
 }
 
-/// The word of a text: its last eight bytes.
-fn text_word(text: &str) -> u64
-    ensures { result ≡ word_behind 0 text.now }
+/// A word of which each bit counts in the highest ones.
+pub(crate) fn spread(word: u64) -> u64
+    ensures { result ≡ spread word }
 {
-    let mut word = 0u64;
+    word.wrapping_mul(11400714819323198485)
+}
+
+/// A word with a number more.
+fn with_number(word: u64, number: u64) -> u64
+    ensures { result ≡ with_number word number }
+{
+    spread(word).wrapping_add(number)
+}
+
+/// The word of a text behind a word.
+fn text_word(key: u64, text: &str) -> u64
+    ensures { result ≡ word_behind key text.now }
+{
+    let mut word = key;
     for byte in text.as_bytes() {
-        word = word.wrapping_mul(256).wrapping_add(u64::from(*byte));
+        word = with_number(word, u64::from(*byte));
     }
     word
 }
 
-/// The word of numbers, those below 256 as the bytes of a text.
-fn numbers_word(numbers: &[u64]) -> u64
-    ensures { result ≡ word_behind 0 numbers.now }
+/// The word of numbers behind a word.
+fn numbers_word(key: u64, numbers: &[u64]) -> u64
+    ensures { result ≡ word_behind key numbers.now }
 {
-    let mut word = 0u64;
+    let mut word = key;
     for number in numbers {
-        word = word.wrapping_mul(256).wrapping_add(*number);
+        word = with_number(word, *number);
     }
     word
 }
@@ -73,8 +108,8 @@ fn extra_word(extra: &MarkerValueExtra) -> u64
     ensures { result ≡ word_behind 0 (extra_text (extra_of extra.now)) }
 {
     match extra {
-        MarkerValueExtra::Extra(name) => text_word(name.as_str()),
-        MarkerValueExtra::Arbitrary(text) => text_word(text.as_str()),
+        MarkerValueExtra::Extra(name) => text_word(0, name.as_str()),
+        MarkerValueExtra::Arbitrary(text) => text_word(0, text.as_str()),
     }
 }
 
@@ -160,6 +195,25 @@ fn are_opposite_extras(operator: ExtraOperator, other: ExtraOperator) -> bool
     extra_operator_rank(operator.negate()) == extra_operator_rank(other)
 }
 
+/// A word with the negation of an operator; 0 where it has none.
+fn negated_word(word: u64, operator: Operator) -> u64
+    ensures { result ≡ negated_word word operator }
+{
+    match operator.negate() {
+        Some(negated) => with_number(word, u64::from(operator_rank(negated))),
+        None => 0,
+    }
+}
+
+fn negated_text_word(word: u64, operator: MarkerOperator) -> u64
+    ensures { result ≡ negated_text_word word operator }
+{
+    match operator.negate() {
+        Some(negated) => with_number(word, u64::from(marker_operator_rank(negated))),
+        None => 0,
+    }
+}
+
 impl Term for MarkerExpression {
     ghost same = { same_expression };
 
@@ -170,6 +224,14 @@ impl Term for MarkerExpression {
     ghost word_of_same = { word_of_same };
 
     ghost word_of_opposite = { word_of_opposite };
+
+    ghost literal = { expression_literal };
+
+    ghost negation = { expression_negation };
+
+    ghost literal_of_same = { literal_of_same };
+
+    ghost literal_of_opposite = { literal_of_opposite };
 
     fn is_same(&self, other: &MarkerExpression) -> bool {
         match (self, other) {
@@ -256,16 +318,47 @@ impl Term for MarkerExpression {
 
     fn word(&self) -> u64 {
         match self {
-            MarkerExpression::Version { key: _, specifier } => {
-                numbers_word(specifier.version().release())
+            MarkerExpression::Version { key, specifier } => {
+                let key = u64::from(version_key_rank(*key));
+                numbers_word(key, specifier.version().release())
             }
             MarkerExpression::VersionIn { .. } => 0,
             MarkerExpression::String {
-                key: _,
+                key,
                 operator: _,
                 value,
-            } => text_word(value.as_str()),
+            } => text_word(u64::from(text_key_rank(*key)), value.as_str()),
             MarkerExpression::Extra { operator: _, name } => extra_word(name),
+        }
+    }
+
+    fn literal(&self) -> u64 {
+        let word = self.word();
+        match self {
+            MarkerExpression::Version { key: _, specifier } => {
+                with_number(word, u64::from(operator_rank(specifier.operator())))
+            }
+            MarkerExpression::VersionIn { .. } => 0,
+            MarkerExpression::String { operator, .. } => {
+                with_number(word, u64::from(marker_operator_rank(*operator)))
+            }
+            MarkerExpression::Extra { operator, name: _ } => {
+                with_number(word, u64::from(extra_operator_rank(*operator)))
+            }
+        }
+    }
+
+    fn negation(&self) -> u64 {
+        let word = self.word();
+        match self {
+            MarkerExpression::Version { key: _, specifier } => {
+                negated_word(word, specifier.operator())
+            }
+            MarkerExpression::VersionIn { .. } => 0,
+            MarkerExpression::String { operator, .. } => negated_text_word(word, *operator),
+            MarkerExpression::Extra { operator, name: _ } => {
+                with_number(word, u64::from(extra_operator_rank(operator.negate())))
+            }
         }
     }
 }

@@ -3,4 +3,4 @@ use Rattle.pep508_marker_print.specs.Words.{word_behind}
 use Rattle.pep508_marker_print.proofs.term.text_word.Given as goal
 
 abbrev pub invariant-loop-byte : goal.invariant-loop-byte
-invariant-loop-byte l = word_behind l.word (drop l.byte-index l.byte-items) ≡ word_behind 0 l.text
+invariant-loop-byte l = word_behind l.word (drop l.byte-index l.byte-items) ≡ word_behind l.key l.text
