@@ -1,5 +1,5 @@
 -- Which clauses can matter to a clause: those that have no bits of values but its own. Of these can cover it
--- those that have no bits of terms but its own, and spare a term those that have no others but the negation's.
+-- those that have no bits of terms but its own, and spare a term those with no others but the negation's.
 use Rattle.std.specs.Prelude.{ℕ, ◌==◌, ◌&&◌, Bool, List, fold}
 use Rattle.std.specs.Int.Bits.{bit_or}
 use Rattle.pep508_marker_print.specs.declared.bits.Bits.{Bits}

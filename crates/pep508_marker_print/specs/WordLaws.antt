@@ -1,5 +1,6 @@
 -- Terms of one value have one word, and a term's negation has the literal word that is told of it.
-use Rattle.std.proofs.Common.{◌≡◌, ℕ, Bool, true, false, ◌==◌, List, Option, None, Some, ap, sym, ◌∙◌, true≢false}
+use Rattle.std.proofs.Common.{◌≡◌, ℕ, Bool, true, false, ◌==◌, List, Option, None, Some}
+use Rattle.std.proofs.Common.{ap, sym, ◌∙◌, true≢false}
 use Rattle.std.specs.Cmp.{unsigned_Decides}
 use Rattle.std.specs.Option.{option_map_or}
 use Rattle.pep440_operator.specs.declared.operator.Operator.{Operator}
@@ -27,7 +28,8 @@ one_number a b e = (unsigned_Decides a b).0 e
 
 one_text : (word : ℕ) (text other : List ℕ) → same_text text other ≡ true →
     word_behind word text ≡ word_behind word other
-one_text word text other e = ap (word_behind word) (texts_same text other (equal_from (text_cmp text other) e))
+one_text word text other e =
+    ap (word_behind word) (texts_same text other (equal_from (text_cmp text other) e))
 
 one_keyed : (key other_key : ℕ) (text other : List ℕ) → (key == other_key) ≡ true →
     same_text text other ≡ true → word_behind key text ≡ word_behind other_key other
@@ -61,7 +63,8 @@ module _ (versions : Operator → Operator → Bool) (texts : MarkerOperator →
 same_value : (term other : ExpressionRecord) → same_term term other ≡ true → term_word term ≡ term_word other
 same_value =
     one_value (λ a b. operator_rank a == operator_rank b)
-    (λ a b. marker_operator_rank a == marker_operator_rank b) (λ a b. extra_operator_rank a == extra_operator_rank b)
+    (λ a b. marker_operator_rank a == marker_operator_rank b)
+    (λ a b. extra_operator_rank a == extra_operator_rank b)
 
 opposite_value : (term other : ExpressionRecord) → opposite_term term other ≡ true →
     term_word term ≡ term_word other
@@ -85,7 +88,8 @@ with_one : (word other rank other_rank : ℕ) → word ≡ other → (rank == ot
 with_one word other rank other_rank words ranks =
     ap (λ w. with_number w rank) words ∙ ap (with_number other) (one_number rank other_rank ranks)
 
-one_literal : (term other : ExpressionRecord) → same_term term other ≡ true → term_literal term ≡ term_literal other
+one_literal : (term other : ExpressionRecord) → same_term term other ≡ true →
+    term_literal term ≡ term_literal other
 one_literal (Version key specifier) (Version other_key other) e =
     let parts = both (version_key_rank key == version_key_rank other_key) _ e in
     with_one _ _ (operator_rank specifier.operator) (operator_rank other.operator)
@@ -114,14 +118,16 @@ one_negation (Version key specifier) (Version other_key other) e =
     let parts = both (version_key_rank key == version_key_rank other_key) _ e in
     one_negated operator_rank _ _ (operator_rank other.operator) (negated specifier.operator)
     (opposite_value (Version key specifier) (Version other_key other) e)
-    (both (option_map_or (λ it. operator_rank it == operator_rank other.operator) (negated specifier.operator) false)
+    (both
+    (option_map_or (λ it. operator_rank it == operator_rank other.operator) (negated specifier.operator) false)
     _ parts.1).0
 one_negation (String key operator text) (String other_key other other_text) e =
     let parts = both (text_key_rank key == text_key_rank other_key) _ e in
     one_negated marker_operator_rank _ _ (marker_operator_rank other) (marker_negated operator)
     (opposite_value (String key operator text) (String other_key other other_text) e)
-    (both (option_map_or (λ it. marker_operator_rank it == marker_operator_rank other) (marker_negated operator)
-    false) _ parts.1).0
+    (both
+    (option_map_or (λ it. marker_operator_rank it == marker_operator_rank other) (marker_negated operator) false)
+    _ parts.1).0
 one_negation (Extra operator asked) (Extra other other_asked) e =
     with_one _ _ (extra_operator_rank (extra_negated operator)) (extra_operator_rank other)
     (opposite_value (Extra operator asked) (Extra other other_asked) e)

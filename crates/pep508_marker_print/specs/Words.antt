@@ -69,7 +69,8 @@ bit word from = 2 ^ (word / 2 ^ from % 64)
 -- four bits of a value
 unfoldable pub value_bits : ℕ → ℕ → ℕ
 value_bits word from =
-    bit_or (bit_or (bit_or (bit (spread word) from) (bit (spread word) (from + 6))) (bit (spread word) (from + 12)))
+    bit_or
+    (bit_or (bit_or (bit (spread word) from) (bit (spread word) (from + 6))) (bit (spread word) (from + 12)))
     (bit (spread word) (from + 18))
 
 -- the bit of a term

@@ -15,11 +15,11 @@ use std::alloc::{AllocError, Global};
 /// The clauses without terms that the other clauses make needless, and then without those that others cover;
 /// no comparison is copied.
 ///
-/// Twice it looks, for each clause, at one number of each other one, among those of the clause's own terms.
-/// Where it is there, it looks at the numbers of all the other's terms, and where these are there too, at the
-/// terms, once for each term of the clause. The numbers are made of the last eight bytes of texts and of the
-/// last eight numbers of releases: of clauses whose values all end alike each term is compared with each
-/// other one.
+/// Twice it looks, for each clause, at three numbers of each other one, in which each term has bits by a hash.
+/// Where the bits of all the other's values are bits of the clause, it looks at one number more for each term
+/// of the clause, and where that has no other bits, at the terms, up to the first that decides: of clauses of
+/// ten terms that is about one in 500 of those that don't matter. The more terms the clauses have, beyond
+/// some twenty, the less the bits tell.
 pub fn simplified_clauses(
     alloc: Global,
     clauses: Vec<Vec<MarkerExpression>>,
