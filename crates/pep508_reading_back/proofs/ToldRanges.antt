@@ -6,7 +6,8 @@ use Rattle.std.specs.Prelude.{option_to_list, drop}
 use Rattle.std.specs.declared.ops.Bound.TheVariants.{Included, Excluded}
 use Rattle.version_ranges.specs.Point.{Point}
 use Rattle.pep440_text.specs.Record.{VersionRecord, release_record}
-use Rattle.pep440_version.specs.Changes.{or_zero, last_raised}
+use Rattle.pep440_version.specs.Changes.{or_zero}
+use Rattle.pep440_text.specs.Releases.{last_raised}
 use Rattle.pep440_version.specs.Order.{stripped, version_cmp}
 use Rattle.pep440_version.specs.OrderLaws.{version_cmp_total}
 use Rattle.pep440_operator.specs.declared.operator.Operator.{Operator}

@@ -5,7 +5,8 @@ use Rattle.std.specs.Option.{option_map}
 use Rattle.std.specs.Prelude.{option_to_list, take}
 use Rattle.std.proofs.lemmas.Bool.Decides.{nat_tests}
 use Rattle.version_ranges.proofs.Membership.{all_append}
-use Rattle.pep440_version.specs.Changes.{or_zero, raised, last_raised}
+use Rattle.pep440_version.specs.Changes.{or_zero}
+use Rattle.pep440_text.specs.Releases.{raised, last_raised}
 use Rattle.pep440_version.specs.Order.{before_stripped, stripped}
 use Rattle.pep440_specifier.specs.Matching.{without_last}
 use Rattle.pep508_comparison.specs.Comparisons.{minor_of}

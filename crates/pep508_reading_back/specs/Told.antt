@@ -5,7 +5,8 @@ use Rattle.std.specs.Str.{IsUtf8}
 use Rattle.version_ranges.specs.declared.boundary.Boundary.TheVariants.{At, JustAbove}
 use Rattle.pep440_text.specs.Printable.{IsPrintable}
 use Rattle.pep440_text.specs.Record.{VersionRecord, release_record}
-use Rattle.pep440_version.specs.Changes.{or_zero, last_raised}
+use Rattle.pep440_version.specs.Changes.{or_zero}
+use Rattle.pep440_text.specs.Releases.{last_raised}
 use Rattle.pep440_version.specs.Order.{stripped}
 use Rattle.pep440_specifier.specs.Matching.{without_last}
 use Rattle.pep508_name.specs.Name.{name_of}
