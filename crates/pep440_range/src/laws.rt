@@ -1,7 +1,7 @@
 //! Laws over the definitions that the contracts cite. The functions do nothing: each one's contract is its
 //! law.
 
-ghost use Rattle.std.specs.Prelude.{◌≡◌, ◌≢◌, ℕ, [], ◌∷◌, List, map, Option, Some, None, Ok, All, false};
+ghost use Rattle.std.specs.Prelude.{◌≡◌, ◌≢◌, ℕ, [], ◌∷◌, List, map, Some, None, Ok, All, false};
 ghost use Rattle.std.specs.Option.{option_map};
 ghost use Rattle.version_ranges.specs.Point.{Point, At, JustAbove};
 ghost use Rattle.std.specs.declared.ops.Bound.{Bound};

@@ -1,6 +1,6 @@
 //! The ranges among releases alone: epochs, suffixes and local parts are dropped.
 
-ghost use Rattle.std.specs.Prelude.{◌≡◌, ◌<◌, ◌≤◌, length, IfOk};
+ghost use Rattle.std.specs.Prelude.{◌≡◌, ◌<◌, ◌≤◌, length};
 ghost use Rattle.pep440_version.specs.Record.{release_record};
 ghost use Rattle.pep440_range.specs.Ranges.{Gives, release_range_of, release_range_by, star_releases};
 ghost use Rattle.pep440_range.specs.Ranges.{compatible_releases};

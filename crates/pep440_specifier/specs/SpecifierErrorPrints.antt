@@ -3,7 +3,6 @@ use Rattle.std.specs.Prelude.{ℕ, List, ◌++◌, codes}
 use Rattle.std.specs.String.{string_bytes}
 use Rattle.pep440_version.specs.Print.{version_text}
 use Rattle.pep440_version.specs.ErrorPrints.{pattern_error_text}
-use Rattle.pep440_operator.specs.declared.operator.OperatorParseError.{OperatorParseError}
 use Rattle.pep440_operator.specs.declared.operator.OperatorParseError.TheVariants as operators
 use Rattle.pep440_specifier.specs.declared.build_error.VersionSpecifierBuildError.{VersionSpecifierBuildError}
 use Rattle.pep440_specifier.specs.declared.build_error.VersionSpecifierBuildError.TheVariants as builds

@@ -10,7 +10,7 @@ ghost use Rattle.pep440_operator.specs.Operators.{is_star};
 ghost use Rattle.pep440_specifier.specs.declared.parse_error.VersionSpecifierParseError.TheVariants as errors;
 ghost use Rattle.pep440_specifier.specs.Matching.{SpecifierRecord};
 ghost use Rattle.pep440_specifier.specs.Building.{built_of_pattern};
-ghost use Rattle.pep440_specifier.specs.SpecifierReading.{cut_at, front_in, SpecifierFault, InvalidTrailing};
+ghost use Rattle.pep440_specifier.specs.SpecifierReading.{cut_at, front_in, InvalidTrailing};
 ghost use Rattle.pep440_specifier.specs.SpecifierReading.{built_before, behind_operator, specifier_reading};
 ghost use Rattle.pep440_specifier.specs.SpecifierReading.{told_specifier, IsPlain, HasGrown};
 

@@ -1,12 +1,15 @@
 -- What is read of the text of a version, from its front on: a value and what follows it, or the first fault.
-use Rattle.std.specs.Prelude.{ℕ, zero, suc, ◌^◌, ◌==◌, Bool, true, false, nat_lt, if◌then◌else◌, List, [], ◌∷◌, ◌++◌, length, drop, Option, Some, None, unwrap_or, option_map, Result, Ok, Err}
+use Rattle.std.specs.Prelude.{ℕ, zero, suc, ◌^◌, ◌==◌, Bool, true, false, nat_lt, if◌then◌else◌, List, []}
+use Rattle.std.specs.Prelude.{◌∷◌, ◌++◌, length, drop, Option, Some, None, unwrap_or, option_map, Result, Ok}
+use Rattle.std.specs.Prelude.{Err}
 use Rattle.std.specs.Char.{is_ascii_digit, is_ascii_whitespace, is_ascii_alphanumeric, to_ascii_lowercase}
 use Rattle.std.specs.List.{prefix_len, take_while, list_all}
 use Rattle.std.specs.Result.{result_ok}
 use Rattle.std.specs.Str.Parse.{digits_value}
 use Rattle.pep440_text.specs.declared.Prerelease.{Prerelease}
 use Rattle.pep440_text.specs.declared.FaultKind.{FaultKind}
-use Rattle.pep440_text.specs.declared.FaultKind.TheVariants.{Wildcard, NumberTooBig, NoLeadingNumber, LocalEmpty, UnexpectedEnd}
+use Rattle.pep440_text.specs.declared.FaultKind.TheVariants.{Wildcard, NumberTooBig, NoLeadingNumber}
+use Rattle.pep440_text.specs.declared.FaultKind.TheVariants.{LocalEmpty, UnexpectedEnd}
 use Rattle.pep440_text.specs.declared.TextFault.{TextFault}
 use Rattle.pep440_text.specs.Record.{Segment, VersionRecord, PatternRecord, epoch_record}
 use Rattle.pep440_text.specs.Text.{is_separator, pre_words, post_words, dev_words, segment_said}

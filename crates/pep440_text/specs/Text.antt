@@ -1,7 +1,9 @@
 -- The text of a version: what its parts are, and what they say (PEP 440, "Version scheme" and Appendix B).
 -- Letters stand in either case. A part that may be there is there wherever it can be, and is as long as it
 -- can be.
-use Rattle.std.specs.Prelude.{◌≡◌, ℕ, ◌<◌, ◌≤◌, ◌^◌, ◌==◌, ◌||◌, ◌&&◌, ◌⊎◌, Bool, cond, if◌then◌else◌, nat_lt, IsTrue, IfSome, All, List, [], ◌∷◌, ◌++◌, length, map, codes, Option, Some, None, unwrap_or}
+use Rattle.std.specs.Prelude.{◌≡◌, ℕ, ◌<◌, ◌≤◌, ◌^◌, ◌==◌, ◌||◌, ◌&&◌, ◌⊎◌, Bool, cond, if◌then◌else◌, nat_lt}
+use Rattle.std.specs.Prelude.{IsTrue, IfSome, All, List, [], ◌∷◌, ◌++◌, length, map, codes, Option, Some}
+use Rattle.std.specs.Prelude.{None, unwrap_or}
 use Rattle.std.specs.Char.{is_ascii_whitespace, is_ascii_alphanumeric, to_ascii_lowercase}
 use Rattle.std.specs.List.{AllZip, AllByRecursion, join_with_byte}
 use Rattle.std.specs.Str.{all_ascii_digits}

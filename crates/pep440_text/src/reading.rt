@@ -2,10 +2,11 @@
 
 ghost use Rattle.std.specs.Prelude.{◌≡◌, ◌<◌, length, Some, Err, IfOk};
 ghost use Rattle.pep440_text.specs.declared.ReadError.TheVariants as errors;
-ghost use Rattle.pep440_text.specs.Record.{PatternRecord, epoch_record, said};
+ghost use Rattle.pep440_text.specs.Record.{epoch_record, said};
 ghost use Rattle.read_outcome.specs.Outcome.{Answers};
 ghost use Rattle.pep440_text.specs.Faults.{told_read, HasNumber};
-ghost use Rattle.pep440_text.specs.Reading.{after_white, after_v, head_at, end_at, suffixed, is_star, read_version, read_pattern};
+ghost use Rattle.pep440_text.specs.Reading.{after_white, after_v, head_at, end_at, suffixed, is_star};
+ghost use Rattle.pep440_text.specs.Reading.{read_version, read_pattern};
 
 use crate::{FaultKind, ReadError, TextFault, VersionParts};
 use std::alloc::Global;

@@ -2,7 +2,10 @@
 use Rattle.std.specs.Prelude.{ℕ, List, ◌++◌, codes}
 use Rattle.std.specs.String.{string_bytes}
 use Rattle.pep440_version.specs.declared.parse_error.VersionParseError.{VersionParseError}
-use Rattle.pep440_version.specs.declared.parse_error.VersionParseError.TheVariants.{Memory, Wildcard, NumberTooBig, NoLeadingNumber, LocalEmpty, UnexpectedEnd}
+use Rattle.pep440_version.specs.declared.parse_error.VersionParseError.TheVariants.{Memory, Wildcard}
+use Rattle.pep440_version.specs.declared.parse_error.VersionParseError.TheVariants.{NumberTooBig}
+use Rattle.pep440_version.specs.declared.parse_error.VersionParseError.TheVariants.{NoLeadingNumber}
+use Rattle.pep440_version.specs.declared.parse_error.VersionParseError.TheVariants.{LocalEmpty, UnexpectedEnd}
 use Rattle.pep440_version.specs.declared.parse_error.VersionPatternParseError.{VersionPatternParseError}
 use Rattle.pep440_version.specs.declared.parse_error.VersionPatternParseError.TheVariants as patterns
 

@@ -8,7 +8,10 @@ use Rattle.std.specs.Bool.{beq}
 use Rattle.std.specs.declared.cmp.Ordering.{Ordering}
 use Rattle.std.specs.declared.cmp.Ordering.TheVariants.{Less, Equal, Greater}
 use Rattle.std.specs.Ordering.{ordering_then, nat_cmp, as_partial_cmp, is_eq}
-use Rattle.std.specs.Cmp.{Equal-is, tied_itself, IsTotalOrder, IsEquivalence, IsPartialEquivalence, IsPartialOrder, partial_equiv_from_equiv, eq_by_cmp_equiv, partial_order_from_agreeing_total, on_total, and_equiv, on_equiv, bool_eq_equiv, booleans_Decides}
+use Rattle.std.specs.Cmp.{Equal-is, tied_itself, IsTotalOrder, IsEquivalence, IsPartialEquivalence}
+use Rattle.std.specs.Cmp.{IsPartialOrder, partial_equiv_from_equiv, eq_by_cmp_equiv}
+use Rattle.std.specs.Cmp.{partial_order_from_agreeing_total, on_total, and_equiv, on_equiv, bool_eq_equiv}
+use Rattle.std.specs.Cmp.{booleans_Decides}
 use Rattle.std.specs.Cmp.Lexicographic.{slice_cmp, lists_total, nat_list_cmp_total}
 use Rattle.pep440_text.specs.Record.{VersionRecord, PatternRecord}
 use Rattle.pep440_version.specs.Order.{key_of, key_cmp, version_cmp, version_eq, fed_key}

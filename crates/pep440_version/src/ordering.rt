@@ -4,8 +4,11 @@ ghost use Rattle.std.specs.Prelude.{◌≡◌, [], ◌∷◌, map, fold, refl};
 ghost use Rattle.std.specs.Ordering.{nat_cmp, as_partial_cmp};
 ghost use Rattle.std.specs.Cmp.Lexicographic.{slice_cmp};
 ghost use Rattle.pep440_text.specs.Record.{segment_of, without_local};
-ghost use Rattle.pep440_version.specs.Order.{key_of, key_cmp, version_cmp, version_eq, segment_key, local_key, fed_numbers, fed_key, class_of, stripped, absent_first, absent_last, pre_key, post_key, kind_rank};
-ghost use Rattle.pep440_version.specs.OrderLaws.{version_cmp_total, version_eq_equiv, version_eq_partial, version_partial_order, alike_versions};
+ghost use Rattle.pep440_version.specs.Order.{key_of, key_cmp, version_cmp, version_eq, segment_key};
+ghost use Rattle.pep440_version.specs.Order.{local_key, fed_numbers, fed_key, class_of, stripped};
+ghost use Rattle.pep440_version.specs.Order.{absent_first, absent_last, pre_key, post_key, kind_rank};
+ghost use Rattle.pep440_version.specs.OrderLaws.{version_cmp_total, version_eq_equiv, version_eq_partial};
+ghost use Rattle.pep440_version.specs.OrderLaws.{version_partial_order, alike_versions};
 
 use crate::{LocalSegment, Prerelease, PrereleaseKind, Version};
 use std::cmp::Ordering;

@@ -4,7 +4,8 @@ ghost use Rattle.std.specs.Prelude.{Some, ◌++◌, map, codes};
 ghost use Rattle.std.specs.Fmt.{DisplaysOnOk, decimal};
 ghost use Rattle.std.specs.List.{flat_map};
 ghost use Rattle.pep440_text.specs.Record.{segment_of};
-ghost use Rattle.pep440_text.specs.Print.{segment_text, dotted_number, dotted_segment, epoch_text, release_text, pre_text, numbered_text, local_text, version_text};
+ghost use Rattle.pep440_text.specs.Print.{segment_text, dotted_number, dotted_segment, epoch_text};
+ghost use Rattle.pep440_text.specs.Print.{release_text, pre_text, numbered_text, local_text, version_text};
 
 use crate::{LocalSegment, Prerelease, Version};
 use std::fmt;

@@ -6,7 +6,7 @@ ghost use Rattle.read_outcome.specs.Outcome.{Answers};
 ghost use Rattle.pep440_version.specs.declared.parse_error.VersionParseError.TheVariants as errors;
 ghost use Rattle.pep440_version.specs.VersionReading.{NoLeadingNumber, version_reading, told_version};
 ghost use Rattle.pep440_text.specs.Releases.{numbers_of};
-ghost use Rattle.pep440_version.specs.Changes.{is_prerelease, has_local, early_version};
+ghost use Rattle.pep440_version.specs.Changes.{is_prerelease, has_local};
 
 use crate::{LocalSegment, Prerelease, VersionParseError};
 use pep440_text::VersionParts;

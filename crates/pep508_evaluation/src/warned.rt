@@ -1,6 +1,6 @@
 //! What is warned of where a tree is evaluated.
 
-ghost use Rattle.std.specs.Prelude.{◌≡◌, ◌++◌, OnOk, IfOk, None, Some, cond, [], ◌∷◌, map, option_copied};
+ghost use Rattle.std.specs.Prelude.{◌≡◌, ◌++◌, OnOk, IfOk, None, Some, [], ◌∷◌, map, option_copied};
 ghost use Rattle.std.specs.Prelude.{option_to_list, is_some};
 ghost use Rattle.std.specs.List.{FoldsTo};
 ghost use Rattle.version_ranges.specs.Boundaries.{point_of};

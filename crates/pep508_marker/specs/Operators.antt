@@ -1,6 +1,6 @@
 -- The operators of markers: their texts, and what bounds say with them (PEP 508, "Environment Markers").
-use Rattle.std.specs.Prelude.{ℕ, ◌&&◌, eqb, not, Bool, true, false, if◌then◌else◌, List, [], ◌∷◌, ◌++◌, drop}
-use Rattle.std.specs.Prelude.{codes, Option, Some, None, option_to_list, Result, Ok, Err}
+use Rattle.std.specs.Prelude.{ℕ, ◌&&◌, eqb, not, Bool, false, if◌then◌else◌, List, ◌++◌, drop}
+use Rattle.std.specs.Prelude.{codes, Option, Some, None, Result, Ok, Err}
 use Rattle.std.specs.Borrow.{Bor}
 use Rattle.std.specs.List.{starts_with}
 use Rattle.std.specs.Option.{option_map_or}

@@ -1,9 +1,6 @@
 //! Comparisons.
 
-ghost use Rattle.std.specs.Prelude.{◌≡◌, ◌++◌, IfOk, Some};
-ghost use Rattle.std.specs.List.{flat_map};
-ghost use Rattle.pep440_text.specs.Print.{version_text};
-ghost use Rattle.pep440_operator.specs.OperatorPrint.{star_text};
+ghost use Rattle.std.specs.Prelude.{◌≡◌, IfOk};
 
 use crate::{
     ExtraOperator, MarkerOperator, MarkerValueExtra, MarkerValueString, MarkerValueVersion,

@@ -1,6 +1,6 @@
 //! The prints of comparisons.
 
-ghost use Rattle.std.specs.Prelude.{◌≡◌, ◌++◌, Some};
+ghost use Rattle.std.specs.Prelude.{◌++◌, Some};
 ghost use Rattle.std.specs.List.{flat_map};
 ghost use Rattle.pep440_text.specs.Print.{version_text};
 ghost use Rattle.pep508_marker.specs.Expression.{expression_of, expression_text, versions_text, behind_blank};

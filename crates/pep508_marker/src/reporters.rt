@@ -2,7 +2,6 @@
 
 ghost use Rattle.std.specs.Prelude.{◌≡◌, Ok};
 ghost use Rattle.std.specs.String.{string_bytes};
-ghost use Rattle.pep508_marker.specs.Warnings.{Warning};
 
 use crate::{MarkerWarningKind, Reporter};
 use log::{Log, warn};

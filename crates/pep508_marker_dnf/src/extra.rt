@@ -5,7 +5,6 @@ ghost use Rattle.std.specs.List.{list_all};
 ghost use Rattle.pep508_marker.specs.Expression.{expression_of};
 ghost use Rattle.pep508_marker.specs.Values.{extra_of};
 ghost use Rattle.pep508_marker_print.specs.Terms.{clause_of, clauses_shown};
-ghost use Rattle.pep508_marker_text.specs.SameTerms.{same_extra};
 ghost use Rattle.pep508_marker_dnf.specs.TopExtra.{extra_asked, first_extra, asks_first, common_extra};
 
 use pep508_marker::{ExtraOperator, MarkerExpression, MarkerValueExtra};

@@ -1,6 +1,6 @@
 //! The walk from a tree to its clauses.
 
-ghost use Rattle.std.specs.Prelude.{◌≡◌, [], ◌∷◌, ◌++◌, map, IfOk, OnOk};
+ghost use Rattle.std.specs.Prelude.{◌≡◌, [], ◌∷◌, ◌++◌, IfOk, OnOk};
 ghost use Rattle.std.specs.List.{filter};
 ghost use Rattle.pep508_marker_print.specs.Terms.{clause_of, clauses_shown};
 ghost use Rattle.pep508_marker_text.specs.Clauses.{clauses_of};

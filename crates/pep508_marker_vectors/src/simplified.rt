@@ -1,6 +1,5 @@
 //! What is asked of markers that are simplified.
 
-ghost use Rattle.std.specs.Prelude.{IfOk};
 ghost use Rattle.pep508_tree.specs.Meaning.{IsTree, Extends};
 
 use crate::reading::{read, refused};

@@ -5,7 +5,7 @@ use Rattle.pep440_specifier_list.specs.Lists.{IsInOrder}
 use Rattle.pep508_error.specs.declared.cursor.Cursor.{Cursor}
 use Rattle.pep508_error.specs.declared.refusal.Refusal.{Refusal}
 use Rattle.pep508_requirement_text.specs.FrontReading as said
-use Rattle.pep508_requirement_text.specs.FrontReading.{Refused, Reading, ◌>>=◌, if_there, cut_around}
+use Rattle.pep508_requirement_text.specs.FrontReading.{Reading, ◌>>=◌, if_there, cut_around}
 use Rattle.pep508_requirement_text.specs.FrontReading.{enclosed}
 use Rattle.pep508_requirement_text.specs.FrontReading.Source.{Any, Specifiers, Url}
 use Rattle.pep508_requirement_text.specs.FrontOutcome.{Tells, behind}

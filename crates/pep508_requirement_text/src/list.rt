@@ -1,6 +1,6 @@
 //! Reading specifiers.
 
-ghost use Rattle.std.specs.Prelude.{◌≡◌, ◌==◌, IfOk, IfErr};
+ghost use Rattle.std.specs.Prelude.{◌==◌, IfOk, IfErr};
 ghost use Rattle.std.specs.Str.{trim_start};
 ghost use Rattle.std.specs.String.{string_bytes};
 ghost use Rattle.pep508_error.specs.Cursors.{IsBehind};

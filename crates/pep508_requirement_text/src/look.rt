@@ -1,9 +1,7 @@
 //! What looks like a URL or a path where a package's name is wanted.
 
-ghost use Rattle.std.specs.Prelude.{◌≡◌, ◌↔◌, IsTrue, IfOk, is_some, option_copied};
+ghost use Rattle.std.specs.Prelude.{◌≡◌, ◌↔◌, IsTrue, IfOk, is_some};
 ghost use Rattle.std.specs.List.{list_any};
-ghost use Rattle.std.specs.Option.{option_map_or};
-ghost use Rattle.pep508_url.specs.Schemes.{scheme_split};
 ghost use Rattle.pep508_requirement_text.specs.Unnamed.{is_slash, begins_with_dot, looks_like_url};
 ghost use Rattle.pep508_requirement_text.specs.Unnamed.{IsBeforeExtras, LooksUnnamed};
 

@@ -1,6 +1,6 @@
 //! What stands at a tree's root, as a copy that can be changed and made a tree again.
 
-ghost use Rattle.std.specs.Prelude.{◌≡◌, ◌∷◌, [], map, Some, IfOk, IfSome, MatchOption};
+ghost use Rattle.std.specs.Prelude.{◌≡◌, ◌∷◌, map, Some, IfOk, IfSome, MatchOption};
 ghost use Rattle.pep508_tree.specs.Meaning.{IsTree, Extends};
 ghost use Rattle.pep508_tree.specs.Roots.{root_of, IsRoot};
 ghost use Rattle.pep508_tree.specs.Joining.{joined, head, tail, node_joined};

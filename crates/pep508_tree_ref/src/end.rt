@@ -5,7 +5,7 @@ ghost use Rattle.std.specs.List.{slice_get};
 ghost use Rattle.std.specs.Cmp.Lexicographic.{slice_cmp};
 ghost use Rattle.version_ranges.specs.Boundaries.{boundary_cmp};
 ghost use Rattle.pep508_marker.specs.Keys.{text_key_rank};
-ghost use Rattle.pep508_diagram.specs.Question.{question_cmp, version_rank, flag_rank, flag_text};
+ghost use Rattle.pep508_diagram.specs.Question.{question_cmp, flag_rank, flag_text};
 ghost use Rattle.pep508_diagram.specs.Question.{version_boundaries, text_boundaries};
 ghost use Rattle.pep508_tree.specs.Meaning.{IsTree};
 ghost use Rattle.pep508_tree.specs.Roots.{root_of};

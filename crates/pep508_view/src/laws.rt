@@ -4,12 +4,12 @@ ghost use Rattle.std.specs.Prelude.{◌≡◌, List};
 ghost use Rattle.std.specs.List.{AllByRecursion};
 ghost use Rattle.version_ranges.specs.Point.{Point};
 ghost use Rattle.pep508_diagram.specs.declared.branch.Branch.{Branch};
-ghost use Rattle.pep508_diagram.specs.Branches.{RisingBranches, branch_at, NeighboursDiffer};
+ghost use Rattle.pep508_diagram.specs.Branches.{RisingBranches, branch_at};
 ghost use Rattle.pep508_tree.specs.Tree.{Tree};
 ghost use Rattle.pep508_tree.specs.Meaning.{IsTree};
 ghost use Rattle.pep508_view.specs.declared.kind.MarkerTreeKind.{MarkerTreeKind};
 ghost use Rattle.pep508_view.specs.Edges.{edges};
-ghost use Rattle.pep508_view.specs.Reading.{JustOne, SpanAll, LeadApart};
+ghost use Rattle.pep508_view.specs.Reading.{JustOne};
 ghost use Rattle.pep508_view.specs.Views.{IsKind};
 ghost use Rattle.pep508_view.specs.ReadOff.{IsReadOff, IsBelow, IsLaidOut, subtrees};
 

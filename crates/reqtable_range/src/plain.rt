@@ -1,6 +1,6 @@
 //! Versions and specifiers of which a range tells what matching says.
 
-ghost use Rattle.std.specs.Prelude.{◌≡◌, ◌↔◌, IsTrue, All};
+ghost use Rattle.std.specs.Prelude.{◌↔◌, IsTrue, All};
 ghost use Rattle.pep440_range.specs.Agreement.{IsSaid, AgreesBesidePosts, IsWithoutPosts};
 ghost use Rattle.reqtable_range.specs.Together.{IsPlain};
 

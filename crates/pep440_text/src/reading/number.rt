@@ -1,11 +1,13 @@
 //! Numbers, and numbers with dots between them.
 
-ghost use Rattle.std.specs.Prelude.{◌≡◌, ◌<◌, ◌^◌, nat_lt, if◌then◌else◌, [], ◌∷◌, length, Some, None, Err, IfOk};
+ghost use Rattle.std.specs.Prelude.{◌≡◌, ◌<◌, ◌^◌, nat_lt, if◌then◌else◌, [], ◌∷◌, length, Some, None, Err};
+ghost use Rattle.std.specs.Prelude.{IfOk};
 ghost use Rattle.std.specs.Str.Parse.{AllDigits, digits_value};
 ghost use Rattle.read_outcome.specs.Outcome.{Answers};
 ghost use Rattle.pep440_text.specs.declared.ReadError.TheVariants as errors;
 ghost use Rattle.pep440_text.specs.Faults.{told_read, HasNumber};
-ghost use Rattle.pep440_text.specs.Reading.{leading_digits, behind_digits, number_of, number_at, marked_number_at, epoch_at, with_front, numbers_at, release_at};
+ghost use Rattle.pep440_text.specs.Reading.{leading_digits, behind_digits, number_of, number_at};
+ghost use Rattle.pep440_text.specs.Reading.{marked_number_at, epoch_at, with_front, numbers_at, release_at};
 
 use super::fault;
 use crate::{FaultKind, ReadError, TextFault};

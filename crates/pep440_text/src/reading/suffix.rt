@@ -4,7 +4,8 @@ ghost use Rattle.std.specs.Prelude.{◌≡◌, map, Some};
 ghost use Rattle.std.specs.Option.{option_map, option_copied};
 ghost use Rattle.pep440_text.specs.Text.{is_separator};
 ghost use Rattle.read_outcome.specs.Outcome.{Answers};
-ghost use Rattle.pep440_text.specs.Reading.{after_separator, behind_word, word_at, suffix_at, pre_at, post_at, dev_at};
+ghost use Rattle.pep440_text.specs.Reading.{after_separator, behind_word, word_at, suffix_at, pre_at};
+ghost use Rattle.pep440_text.specs.Reading.{post_at, dev_at};
 
 use super::number::{marked_number, number};
 use crate::{Prerelease, PrereleaseKind, TextFault};
