@@ -10,80 +10,29 @@ the whole process. The exit status is 1 where an answer is wrong, or where 20,00
 1 by default.
 """
 
-import argparse
 import json
 import os
 import random
-import resource
-import subprocess
-import sys
-import tempfile
 
+from sized import measure, read_words
 from workload import ENVIRONMENT
-
-HERE = os.path.dirname(os.path.abspath(__file__))
-PROGRAM = os.path.join(HERE, "..", "crates", "reqs_cli", "out", "reqs_cli")
-
-
-def numbers(text):
-    return [int(word) for word in text.replace("_", "").split(",")]
-
-
-def read_words():
-    words = argparse.ArgumentParser(
-        description=__doc__, formatter_class=argparse.RawDescriptionHelpFormatter
-    )
-    words.add_argument("program", nargs="?", default=os.path.normpath(PROGRAM))
-    words.add_argument("--sizes", metavar="N,..", type=numbers, default=[5000, 10000, 20000])
-    words.add_argument("--runs", metavar="N", type=int, default=5)
-    words.add_argument("--most", metavar="SECONDS", type=float, default=1.0)
-    return words.parse_args()
 
 
 def write(folder, name, lines):
-    path = os.path.join(folder, name)
-    with open(path, "w", encoding="ascii") as file:
+    with open(os.path.join(folder, name), "w", encoding="ascii") as file:
         file.writelines(f"{line}\n" for line in lines)
-    return path
+    return name
 
 
-def write_lists(folder, size):
-    """Writes the three inputs. Returns their paths."""
+def prepare(folder, size):
     lines = [f"pip!={number}.5" for number in range(size)]
     random.Random(7).shuffle(lines)
-    return [
+    inputs = [
         write(folder, "requirements.txt", lines),
         write(folder, "environment.json", [json.dumps(ENVIRONMENT)]),
         write(folder, "candidates.txt", [f"pip {number}.0" for number in range(size)]),
     ]
+    return ["check", *inputs], f"pip {size - 1}.0\n"
 
 
-def timed(program, paths):
-    """Runs the program. Returns what it says and the processor seconds that it took."""
-    began = resource.getrusage(resource.RUSAGE_CHILDREN)
-    ended = subprocess.run([program, "check", *paths], stdout=subprocess.PIPE, check=True)
-    after = resource.getrusage(resource.RUSAGE_CHILDREN)
-    return ended.stdout.decode(), after.ru_utime + after.ru_stime - began.ru_utime - began.ru_stime
-
-
-def main():
-    words = read_words()
-    program = os.path.abspath(words.program)
-    failed = False
-    print("lines and candidates  processor seconds")
-    for size in words.sizes:
-        with tempfile.TemporaryDirectory() as folder:
-            paths = write_lists(folder, size)
-            runs = [timed(program, paths) for _ in range(words.runs)]
-        least = min(seconds for _, seconds in runs)
-        print(f"{size:20}  {least:17.3f}", flush=True)
-        wrong = [said for said, _ in runs if said != f"pip {size - 1}.0\n"]
-        if wrong:
-            print(f"  wrong: {wrong[0][-80:]}")
-            failed = True
-        if size <= 20000 and least > words.most:
-            failed = True
-    sys.exit(1 if failed else 0)
-
-
-main()
+measure(read_words(__doc__, "reqs_cli", [5000, 10000, 20000]), prepare, 20000)
