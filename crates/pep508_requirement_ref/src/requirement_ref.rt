@@ -24,8 +24,8 @@ use std::fmt;
 /// of other interners (PEP 508).
 ///
 /// Two of them compare by their fields in order, the marker by what it means and not by its place in an
-/// interner; comparing takes no memory. It prints as `requests[security]>=2.8.1,<3 ; os_name == 'nt'`, a
-/// URL behind ` @ `, and a marker only where it doesn't always hold. The marker's text is made while it is
+/// interner, as `MarkerTreeRef` does. It prints as `requests[security]>=2.8.1,<3 ; os_name == 'nt'`, a URL
+/// behind ` @ `, and a marker only where it doesn't always hold. The marker's text is made while it is
 /// printed, and where memory for it is refused, printing fails with `fmt::Error`.
 #[derive(PartialEq, Eq, PartialOrd, Ord, Drop)]
 pub struct RequirementRef<'a, T: Pep508Url = VerbatimUrl> {
@@ -37,8 +37,8 @@ pub struct RequirementRef<'a, T: Pep508Url = VerbatimUrl> {
 }
 
 impl<'a, T: Pep508Url> RequirementRef<'a, T> {
-    /// A requirement with its interner, and what gives memory for the marker's text where it is printed.
-    /// Takes none.
+    /// A requirement with its interner, and what gives memory where its marker is printed or compared. Takes
+    /// none.
     pub fn new(
         alloc: Global,
         interner: &'a Interner,

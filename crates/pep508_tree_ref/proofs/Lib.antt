@@ -2,3 +2,4 @@ pub mod Ordered
 pub mod Edges
 pub mod Walking
 mod Printed
+mod Ties

@@ -4,3 +4,4 @@ pub mod TreeOrderLaws
 pub mod TreeText
 pub mod Lent
 pub mod Sides
+pub mod Ties

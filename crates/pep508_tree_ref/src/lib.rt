@@ -2,6 +2,7 @@
 #![tactic(auto)]
 
 mod end;
+mod known;
 pub mod laws;
 mod order;
 mod root;

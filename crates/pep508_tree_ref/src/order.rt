@@ -1,16 +1,24 @@
 //! Which of two trees comes first by what they show.
 
-ghost use Rattle.std.specs.Prelude.{◌≡◌};
+ghost use Rattle.std.specs.Prelude.{◌≡◌, option_map};
+ghost use Rattle.std.specs.List.{AllByRecursion, slice_get};
 ghost use Rattle.pep508_tree.specs.Meaning.{IsTree, diagram_of};
+ghost use Rattle.pep508_tree.specs.Roots.{root_of};
+ghost use Rattle.pep508_tree_ref.specs.Ties.{AreTied};
+ghost use Rattle.pep508_tree_ref.specs.Sides.{ends_of, end_cmp};
 ghost use Rattle.pep508_tree_ref.specs.TreeOrder.{diagram_cmp};
 
 use crate::end::{cmp_ends, end_at};
+use crate::known::{Name, is_known, keep};
 use crate::root::{root_child, root_child_count};
 use pep508_tree::{Interner, MarkerTree};
+use std::alloc::Global;
 use std::cmp::Ordering;
+use std::collections::BTreeSet;
 
-/// The order of two trees, each in its own interner. It recurses as deep as a path from the root is long.
+/// The order of two trees, each in its own interner.
 pub(crate) fn cmp_trees(
+    alloc: Global,
     tree: MarkerTree,
     interner: &Interner,
     other: MarkerTree,
@@ -21,6 +29,48 @@ pub(crate) fn cmp_trees(
     ensures { result ≡ diagram_cmp (diagram_of interner.now.nodes tree)
         (diagram_of other_interner.now.nodes other) }
 {
+    let mut known = BTreeSet::new(alloc);
+    cmp_beside(&mut known, tree, interner, other, other_interner)
+}
+
+/// The order of where two trees' edges end, by the edges' place.
+fn cmp_ends_at(
+    tree: MarkerTree,
+    interner: &Interner,
+    other: MarkerTree,
+    other_interner: &Interner,
+    index: usize,
+) -> Ordering
+    requires tree { IsTree interner.now.nodes tree }
+    requires other { IsTree other_interner.now.nodes other }
+    ensures { result ≡ end_cmp (slice_get (ends_of (root_of interner.now.nodes tree)) index)
+        (slice_get (ends_of (root_of other_interner.now.nodes other)) index) }
+{
+    cmp_ends(
+        end_at(tree, interner, index),
+        end_at(other, other_interner, index),
+    )
+}
+
+/// The order of two trees beside pairs that are known to tie. It recurses as deep as a path from the root is
+/// long.
+fn cmp_beside(
+    known: &mut BTreeSet<(Name, Name)>,
+    tree: MarkerTree,
+    interner: &Interner,
+    other: MarkerTree,
+    other_interner: &Interner,
+) -> Ordering
+    requires tree { IsTree interner.now.nodes tree }
+    requires other { IsTree other_interner.now.nodes other }
+    requires known { AllByRecursion (AreTied interner.now.nodes other_interner.now.nodes) known.old.keys }
+    ensures order { result ≡ diagram_cmp (diagram_of interner.now.nodes tree)
+        (diagram_of other_interner.now.nodes other) }
+    ensures known { AllByRecursion (AreTied interner.now.nodes other_interner.now.nodes) known.new.keys }
+{
+    if is_known(known, tree, other) {
+        return Ordering::Equal;
+    }
     interner.are_sound();
     other_interner.are_sound();
     let count = root_child_count(tree, interner);
@@ -35,14 +85,11 @@ pub(crate) fn cmp_trees(
         let Some(other_child) = root_child(other, other_interner, index) else {
             unreachable!()
         };
-        let order = cmp_ends(
-            end_at(tree, interner, index),
-            end_at(other, other_interner, index),
-        );
+        let order = cmp_ends_at(tree, interner, other, other_interner, index);
         if order.is_ne() {
             return order;
         }
-        let order = cmp_trees(child, interner, other_child, other_interner);
+        let order = cmp_beside(known, child, interner, other_child, other_interner);
         if order.is_ne() {
             return order;
         }
@@ -50,5 +97,7 @@ pub(crate) fn cmp_trees(
     if count < other_count {
         return Ordering::Less;
     }
-    tree.is_false().cmp(&other.is_false())
+    let order = tree.is_false().cmp(&other.is_false());
+    keep(known, tree, other, order);
+    order
 }

@@ -14,9 +14,10 @@ use std::fmt;
 /// the interner's nodes.
 ///
 /// Two of them are equal exactly where their trees mean the same (`laws::equal_trees_mean_the_same`). A
-/// comparison takes no memory and ends at the first difference; trees that are equal are walked along each
-/// path from the root, of which there can be many more than nodes. Trees of one interner are compared in
-/// constant time by the `==` of `MarkerTree`.
+/// comparison ends at the first difference. It takes memory for the pairs of nodes that it found equal, so that
+/// it walks each node once or twice, in O(n log n) steps for n nodes; where memory is refused, a pair is walked
+/// again for each path that leads to it. Trees of one interner are compared in constant time by the `==` of
+/// `MarkerTree`.
 ///
 /// It prints as the tree's text, `true` where the tree always holds. The text is made while it is printed,
 /// and where memory for it is refused, printing fails with `fmt::Error`.
@@ -38,7 +39,7 @@ impl<'a> MarkerTreeRef<'a> {
     ghost use Rattle.pep508_tree_ref.specs.Lent.{tree_in};
     ghost use Rattle.pep508_tree_ref.specs.TreeIn.{diagram_in};
 
-    /// A tree with its interner, and what gives memory for its text where it is printed. Takes none.
+    /// A tree with its interner, and what gives memory where it is printed or compared. Takes none.
     pub fn new(alloc: Global, interner: &'a Interner, tree: MarkerTree) -> MarkerTreeRef<'a>
         requires { IsTree interner.now.nodes tree }
         ensures { tree_in result ≡ record { nodes = interner.now.nodes; tree = tree } }
@@ -103,7 +104,13 @@ impl Ord for MarkerTreeRef<'_> {
     ghost matches_eq = { λ x y. refl };
 
     fn cmp(&self, other: &Self) -> Ordering {
-        cmp_trees(self.tree, self.interner, other.tree, other.interner)
+        cmp_trees(
+            self.alloc,
+            self.tree,
+            self.interner,
+            other.tree,
+            other.interner,
+        )
     }
 }
 
