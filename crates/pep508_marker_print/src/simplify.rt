@@ -271,9 +271,9 @@ fn as_lists<T: Term>(alloc: Global, clauses: Vec<Clause<T>>) -> Result<Vec<Vec<T
 
 /// The clauses without their needless terms, and then without those that others cover.
 ///
-/// Of each clause it looks at the bits of each other one; where those of its values are the clause's own, at the
-/// bits of its terms, once for each term of the clause; and where these are too, at its terms, up to the first
-/// that decides.
+/// Of each clause it looks at the bits of each other one; where those of its values are the clause's own, at
+/// the bits of its terms, once for each term of the clause; and where these are the clause's own or that of
+/// the term's negation, at its terms, up to the first that decides.
 pub(crate) fn simplified<T: Term>(
     alloc: Global,
     clauses: Vec<Vec<T>>,
