@@ -1,4 +1,5 @@
 pub mod Joined
+pub mod OneMore
 pub mod Near
 pub mod Sifting
 pub mod Natural

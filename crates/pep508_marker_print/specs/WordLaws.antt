@@ -119,15 +119,15 @@ one_negation (Version key specifier) (Version other_key other) e =
     one_negated operator_rank _ _ (operator_rank other.operator) (negated specifier.operator)
     (opposite_value (Version key specifier) (Version other_key other) e)
     (both
-    (option_map_or (λ it. operator_rank it == operator_rank other.operator) (negated specifier.operator) false)
-    _ parts.1).0
+    (option_map_or (λ it. operator_rank it == operator_rank other.operator)
+    (negated specifier.operator) false) _ parts.1).0
 one_negation (String key operator text) (String other_key other other_text) e =
     let parts = both (text_key_rank key == text_key_rank other_key) _ e in
     one_negated marker_operator_rank _ _ (marker_operator_rank other) (marker_negated operator)
     (opposite_value (String key operator text) (String other_key other other_text) e)
     (both
-    (option_map_or (λ it. marker_operator_rank it == marker_operator_rank other) (marker_negated operator) false)
-    _ parts.1).0
+    (option_map_or (λ it. marker_operator_rank it == marker_operator_rank other)
+    (marker_negated operator) false) _ parts.1).0
 one_negation (Extra operator asked) (Extra other other_asked) e =
     with_one _ _ (extra_operator_rank (extra_negated operator)) (extra_operator_rank other)
     (opposite_value (Extra operator asked) (Extra other other_asked) e)

@@ -73,6 +73,6 @@ value_bits word from =
     (bit_or (bit_or (bit (spread word) from) (bit (spread word) (from + 6))) (bit (spread word) (from + 12)))
     (bit (spread word) (from + 18))
 
--- the bit of a term
-abbrev pub literal_bit : ℕ → ℕ
-literal_bit word = bit (spread word) 58
+-- one of 64 bits of a term
+abbrev pub literal_bit : ℕ → ℕ → ℕ
+literal_bit word from = bit (spread word) from

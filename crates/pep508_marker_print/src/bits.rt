@@ -1,18 +1,73 @@
 //! Bits that tell of a clause's terms.
 
 ghost use Rattle.std.specs.Prelude.{◌≡◌, ◌≤◌, ◌<◌};
-ghost use Rattle.pep508_marker_print.specs.Words.{bit, value_bits, literal_bit};
-ghost use Rattle.pep508_marker_print.specs.Near.{joined, is_within, bits_of, are_near};
-ghost use Rattle.pep508_marker_print.specs.Near.{may_stand_in, literals_of};
+ghost use Rattle.pep508_marker_print.specs.Words.{bit, value_bits};
+ghost use Rattle.pep508_marker_print.specs.Near.{joined, is_within, is_within_but_one, literals_of};
+ghost use Rattle.pep508_marker_print.specs.Near.{with_literal, have_literals, nearly_have_literals};
+ghost use Rattle.pep508_marker_print.specs.Near.{bits_of, have_values, are_near, may_stand_in};
 
 use crate::term::{Term, spread};
+
+/// Two bits of each of some terms.
+#[derive(Clone, Copy)]
+pub(crate) struct Literals {
+    first: u64,
+    second: u64,
+}
+
+impl Literals {
+    pub(crate) fn of<T: Term>(terms: &[T]) -> Literals
+        ensures { result ≡ literals_of T.literal terms.now }
+    {
+        let mut literals = Literals {
+            first: 0,
+            second: 0,
+        };
+        for term in terms {
+            literals = literals.with_word(term.literal());
+        }
+        literals
+    }
+
+    /// These and the bits of a word.
+    fn with_word(self, word: u64) -> Literals
+        ensures { result ≡ with_literal self word }
+    {
+        let word = spread(word);
+        Literals {
+            first: self.first | bit(word, 58),
+            second: self.second | bit(word, 52),
+        }
+    }
+
+    /// These and the bits of a term's negations.
+    pub(crate) fn with_negation<T: Term>(self, term: &T) -> Literals
+        ensures { result ≡ with_literal self (T.negation term.now) }
+    {
+        self.with_word(term.negation())
+    }
+
+    /// Whether all others are among these.
+    pub(crate) fn have(self, other: Literals) -> bool
+        ensures { result ≡ have_literals self other }
+    {
+        is_within(self.first, other.first) && is_within(self.second, other.second)
+    }
+
+    /// Whether all others are among these, but for one of each kind at most.
+    fn nearly_have(self, other: Literals) -> bool
+        ensures { result ≡ nearly_have_literals self other }
+    {
+        is_within_but_one(self.first, other.first) && is_within_but_one(self.second, other.second)
+    }
+}
 
 /// The bits of the values of some terms, twice, and of the terms themselves.
 #[derive(Clone, Copy)]
 pub(crate) struct Bits {
     values: u64,
     more_values: u64,
-    literals: u64,
+    literals: Literals,
 }
 
 impl Bits {
@@ -22,29 +77,35 @@ impl Bits {
         Bits {
             values: values(terms, 40),
             more_values: values(terms, 16),
-            literals: literals(terms),
+            literals: Literals::of(terms),
         }
     }
 
     /// Whether all bits of others' values are among these.
+    fn have_values(self, other: Bits) -> bool
+        ensures { result ≡ have_values self other }
+    {
+        is_within(self.values, other.values) && is_within(self.more_values, other.more_values)
+    }
+
+    /// Whether all bits of others' values are among these, and nearly all of their terms.
     pub(crate) fn are_near(self, other: Bits) -> bool
         ensures { result ≡ are_near self other }
     {
-        is_within(self.values, other.values) && is_within(self.more_values, other.more_values)
+        self.have_values(other) && self.literals.nearly_have(other.literals)
     }
 
     /// Whether all bits of others are among these.
     pub(crate) fn may_stand_in(self, other: Bits) -> bool
         ensures { result ≡ may_stand_in self other }
     {
-        self.are_near(other) && is_within(self.literals, other.literals)
+        self.have_values(other) && self.literals.have(other.literals)
     }
 
-    /// Whether all bits of the terms are among given ones.
-    pub(crate) fn are_among(self, literals: u64) -> bool
-        ensures { result ≡ is_within literals self.literals }
+    pub(crate) fn literals(self) -> Literals
+        ensures { result ≡ self.literals }
     {
-        is_within(literals, self.literals)
+        self.literals
     }
 }
 
@@ -67,13 +128,6 @@ fn value_bits(word: u64, from: u32) -> u64
     bit(word, from) | bit(word, from + 6) | bit(word, from + 12) | bit(word, from + 18)
 }
 
-/// The bit of a term.
-fn literal_bit(word: u64) -> u64
-    ensures { result ≡ literal_bit word }
-{
-    bit(spread(word), 58)
-}
-
 /// The bits of the values of some terms.
 fn values<T: Term>(terms: &[T], from: u32) -> u64
     requires { from ≤ 40 }
@@ -86,27 +140,16 @@ fn values<T: Term>(terms: &[T], from: u32) -> u64
     bits
 }
 
-/// The bit of a term's negations.
-pub(crate) fn negation_bit<T: Term>(term: &T) -> u64
-    ensures { result ≡ literal_bit (T.negation term.now) }
-{
-    literal_bit(term.negation())
-}
-
-/// The bits of some terms.
-pub(crate) fn literals<T: Term>(terms: &[T]) -> u64
-    ensures { result ≡ literals_of T.literal terms.now }
-{
-    let mut bits = 0;
-    for term in terms {
-        bits |= literal_bit(term.literal());
-    }
-    bits
-}
-
 /// Whether bits have all of others.
 fn is_within(own: u64, other: u64) -> bool
     ensures { result ≡ is_within own other }
 {
     other | own == own
+}
+
+/// Whether bits have all of others, but for one at most.
+fn is_within_but_one(own: u64, other: u64) -> bool
+    ensures { result ≡ is_within_but_one own other }
+{
+    ((other | own) ^ own).count_ones() <= 1
 }

@@ -1,9 +1,9 @@
 //! Clauses that tell quickly whether they can matter to another one.
 
 ghost use Rattle.std.specs.Prelude.{◌≡◌};
-ghost use Rattle.pep508_marker_print.specs.Near.{is_within, literals_of, is_near, may_cover};
+ghost use Rattle.pep508_marker_print.specs.Near.{have_literals, literals_of, is_near, may_cover};
 
-use crate::bits::Bits;
+use crate::bits::{Bits, Literals};
 use crate::term::Term;
 use std::marker::Model;
 
@@ -45,12 +45,13 @@ impl<T: Term> Clause<T> {
         self.terms
     }
 
-    /// Whether another clause can matter to this one, as far as the bits of values tell.
+    /// Whether another clause can spare one of this clause's terms, as far as bits tell.
     pub(crate) fn is_near(&self, other: &Clause<T>) -> bool
         ensures { result ≡ is_near T.word T.literal self.now other.now }
     {
         self.bits.are_near(other.bits)
     }
+
     /// Whether another clause can cover this one, as far as bits tell.
     pub(crate) fn may_be_covered(&self, other: &Clause<T>) -> bool
         ensures { result ≡ may_cover T.word T.literal self.now other.now }
@@ -59,9 +60,9 @@ impl<T: Term> Clause<T> {
     }
 
     /// Whether all bits of the clause's terms are among given ones.
-    pub(crate) fn is_among(&self, literals: u64) -> bool
-        ensures { result ≡ is_within literals (literals_of T.literal self.now) }
+    pub(crate) fn is_among(&self, literals: Literals) -> bool
+        ensures { result ≡ have_literals literals (literals_of T.literal self.now) }
     {
-        self.bits.are_among(literals)
+        literals.have(self.bits.literals())
     }
 }

@@ -12,14 +12,17 @@ use crate::simplify::simplified;
 use pep508_marker::MarkerExpression;
 use std::alloc::{AllocError, Global};
 
-/// The clauses without terms that the other clauses make needless, and then without those that others cover;
-/// no comparison is copied.
+/// The clauses without terms that the other clauses make needless, and then without those that others
+/// cover; no comparison is copied.
 ///
-/// Twice it looks, for each clause, at three numbers of each other one, in which each term has bits by a hash.
-/// Where the bits of all the other's values are bits of the clause, it looks at one number more for each term
-/// of the clause, and where that has no other bits, at the terms, up to the first that decides: of clauses of
-/// ten terms that is about one in 500 of those that don't matter. The more terms the clauses have, beyond
-/// some twenty, the less the bits tell.
+/// For each clause it looks twice at each other one, at four numbers at most: the bits, by hashes, of its
+/// values, twice, and of its terms, in two kinds. It goes on where the other's bits are all the clause's own;
+/// the first time, where a term may be needless, one of each kind may be another. Then it looks, for each
+/// term of the clause, at two of the numbers again, and where they have no bits but those of the clause and
+/// of the term's negation, at the terms, up to the first that decides. The second time, where the clause may
+/// be covered, it goes on to the terms at once. Clauses of the same ten flags have all bits of each other's
+/// values: of these it goes on for about one in 50, where one in 100 matters. The more terms the clauses
+/// have, beyond some twenty, the less the bits tell.
 pub fn simplified_clauses(
     alloc: Global,
     clauses: Vec<Vec<MarkerExpression>>,

@@ -6,11 +6,9 @@ ghost use Rattle.pep508_marker_text.specs.Simplified.{sifted, stands_in, spares,
 ghost use Rattle.pep508_marker_text.specs.Simplified.{shortened_behind, simplified};
 ghost use Rattle.pep508_marker_print.specs.Terms.{lists_of, lent_lists};
 ghost use Rattle.pep508_marker_print.specs.Places.{needless_at};
-ghost use Rattle.pep508_marker_print.specs.Near.{is_near, literals_of};
-ghost use Rattle.pep508_marker_print.specs.Words.{literal_bit};
-ghost use Rattle.std.specs.Int.Bits.{bit_or};
+ghost use Rattle.pep508_marker_print.specs.Near.{is_near, literals_of, with_literal};
 
-use crate::bits::{literals, negation_bit};
+use crate::bits::Literals;
 use crate::clause::Clause;
 use crate::term::Term;
 use std::alloc::{AllocError, Global};
@@ -61,11 +59,11 @@ fn spares_by_bits<T: Term>(
     term: &T,
     front: &[T],
     behind: &[T],
-    bits: u64,
+    bits: Literals,
     clause: &Clause<T>,
 ) -> bool
-    requires { bits ≡ bit_or (literals_of T.literal (front.now ++ term.now ∷ behind.now))
-        (literal_bit (T.negation term.now)) }
+    requires { bits ≡ with_literal (literals_of T.literal (front.now ++ term.now ∷ behind.now))
+        (T.negation term.now) }
     ensures { result ≡ spares T.same T.opposite term.now (front.now ++ behind.now) clause.now }
 {
     clause.is_among(bits) && spares(term, front, behind, clause.terms())
@@ -76,14 +74,14 @@ fn one_spares<T: Term>(
     term: &T,
     front: &[T],
     behind: &[T],
-    own: u64,
+    own: Literals,
     clauses: &[&Clause<T>],
 ) -> bool
     requires { own ≡ literals_of T.literal (front.now ++ term.now ∷ behind.now) }
     ensures { result
         ≡ list_any (spares T.same T.opposite term.now (front.now ++ behind.now)) (lent_lists clauses.now) }
 {
-    let bits = own | negation_bit(term);
+    let bits = own.with_negation(term);
     for clause in clauses {
         if spares_by_bits(term, front, behind, bits, clause) {
             return true;
@@ -93,7 +91,7 @@ fn one_spares<T: Term>(
 }
 
 /// Whether the term at a place of a clause, whose bits are given, is needless beside other clauses.
-fn is_needless<T: Term>(clause: &[T], own: u64, place: usize, others: &[&Clause<T>]) -> bool
+fn is_needless<T: Term>(clause: &[T], own: Literals, place: usize, others: &[&Clause<T>]) -> bool
     requires inside { place < length clause.now }
     requires bits { own ≡ literals_of T.literal clause.now }
     ensures { result ≡ needless_at T.same T.opposite (lent_lists others.now) clause.now place }
@@ -115,12 +113,12 @@ fn shorten<T: Term>(clause: &mut Vec<T>, others: &[&Clause<T>])
     ensures { clause.new.items
         ≡ sifted (is_needless T.same T.opposite (lent_lists others.now)) [] clause.old.items }
 {
-    let mut own = literals(clause);
+    let mut own = Literals::of(clause);
     let mut place = 0;
     while place < clause.len() {
         if is_needless(clause, own, place, others) {
             clause.remove(place);
-            own = literals(clause);
+            own = Literals::of(clause);
         } else {
             place += 1;
         }
@@ -271,9 +269,11 @@ fn as_lists<T: Term>(alloc: Global, clauses: Vec<Clause<T>>) -> Result<Vec<Vec<T
 
 /// The clauses without their needless terms, and then without those that others cover.
 ///
-/// Of each clause it looks at the bits of each other one; where those of its values are the clause's own, at the
-/// bits of its terms, once for each term of the clause; and where these are too, at its terms, up to the first
-/// that decides.
+/// Of each clause it looks at four numbers of each other one at most. Where the bits of its values are all
+/// the clause's own, and those of its terms but for one of each kind, it looks at these once for each term of
+/// the clause, and where they are the clause's own or the negation's, at the terms, up to the first that
+/// decides. Then it looks at four numbers of each other one again, and at the terms where all bits are the
+/// clause's.
 pub(crate) fn simplified<T: Term>(
     alloc: Global,
     clauses: Vec<Vec<T>>,
