@@ -1,9 +1,9 @@
 -- What is read of a candidate line is in the grammar, and what is in the grammar is read.
 use Rattle.std.proofs.Common.{◌≡◌, ◌↔◌, ℕ, List, Option, Some, None, Result, Ok, Err, refl, ap, sym, subst, ◌∙◌}
 use Rattle.std.specs.Str.{encode_utf8_all, IsUtf8, trim}
-use Rattle.pep440_rs.specs.Record.{VersionRecord}
-use Rattle.pep440_rs.specs.Reading.{version_of}
-use Rattle.pep440_rs.specs.Text.{IsVersionText}
+use Rattle.pep440_version.specs.Record.{VersionRecord}
+use Rattle.pep440_version.specs.Reading.{version_of}
+use Rattle.pep440_version.specs.Text.{IsVersionText}
 use Rattle.pep508_name.specs.Name.{name_of}
 use Rattle.reqtable_text.specs.declared.candidates.Candidate.{Candidate}
 use Rattle.reqtable_text.specs.declared.candidates.CandidateFault.{CandidateFault}
@@ -12,7 +12,7 @@ use Rattle.reqtable_text.specs.CandidateLine.{parts_in, candidate_by, candidate_
 use Rattle.reqtable_text.specs.CandidateText.{AreItsParts, IsCandidateLine, IsCandidateFault}
 use Rattle.reqtable_text.proofs.CandidateParts.{parts_found, parts_again}
 
--- what pep440_rs says of versions and their texts
+-- what pep440_text says of versions and their texts
 abbrev pub VersionLaw : Type 0
 VersionLaw = (text : List ℕ) (version : VersionRecord) → (version_of text ≡ Some version) ↔ IsVersionText text version
 

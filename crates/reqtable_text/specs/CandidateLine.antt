@@ -1,11 +1,12 @@
 -- A candidate line: between optional white space a name, white space, and a version.
-use Rattle.std.specs.Prelude.{ℕ, Bool, false, List, Option, Some, None, Result, Ok, Err, if◌then◌else◌, encode_utf8_all}
+use Rattle.std.specs.Prelude.{ℕ, Bool, false, List, if◌then◌else◌, encode_utf8_all}
+use Rattle.std.specs.Prelude.{Option, Some, None, Result, Ok, Err}
 use Rattle.std.specs.Option.{option_map_or}
 use Rattle.std.specs.List.{list_any, before_first, after_first}
 use Rattle.std.specs.Char.{is_whitespace}
 use Rattle.std.specs.Str.{chars, trim, trim_start}
-use Rattle.pep440_rs.specs.Record.{VersionRecord}
-use Rattle.pep440_rs.specs.Reading.{version_of}
+use Rattle.pep440_version.specs.Record.{VersionRecord}
+use Rattle.pep440_version.specs.Reading.{version_of}
 use Rattle.pep508_name.specs.Name.{is_name, name_of}
 use Rattle.reqtable_text.specs.declared.candidates.Candidate.{Candidate}
 use Rattle.reqtable_text.specs.declared.candidates.CandidateFault.{CandidateFault}

@@ -4,8 +4,8 @@ use Rattle.std.specs.Prelude.{◌≡◌, ℕ, ◌<◌, IsTrue, List, ◌++◌, �
 use Rattle.std.specs.List.{AllByRecursion, AllZip}
 use Rattle.std.specs.Char.{is_whitespace}
 use Rattle.std.specs.Str.{chars, NonePass, skip_leading_whitespace, drop_trailing_whitespace}
-use Rattle.pep440_rs.specs.Record.{VersionRecord}
-use Rattle.pep440_rs.specs.Text.{IsVersionText}
+use Rattle.pep440_version.specs.Record.{VersionRecord}
+use Rattle.pep440_version.specs.Text.{IsVersionText}
 use Rattle.pep508_name.specs.Name.{name_of}
 use Rattle.reqtable_text.specs.declared.candidates.Candidate.{Candidate}
 use Rattle.reqtable_text.specs.declared.candidates.CandidateFault.{CandidateFault}

@@ -1,5 +1,6 @@
 -- The lines of a list: which there are, where each ends, and which are skipped.
-use Rattle.std.specs.Prelude.{ℕ, ◌==◌, ◌&&◌, Bool, true, not, List, [], ◌∷◌, map, take, Option, Some, None, Result, Ok, Err, if◌then◌else◌}
+use Rattle.std.specs.Prelude.{ℕ, ◌==◌, ◌&&◌, Bool, true, not, List, [], ◌∷◌, map, take, if◌then◌else◌}
+use Rattle.std.specs.Prelude.{Option, Some, None, Result, Ok, Err}
 use Rattle.std.specs.Option.{option_map_or}
 use Rattle.std.specs.List.{filter, slice_split, enumerate_from, list_all, position_or_len, zip}
 use Rattle.std.specs.Char.{is_whitespace}

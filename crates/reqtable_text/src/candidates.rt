@@ -10,7 +10,7 @@ ghost use Rattle.reqtable_text.specs.Candidates.{candidate_at, candidates_of, to
 
 use crate::pieces::{read_name, read_version};
 use crate::text_lines::{as_text, is_blank, line_text};
-use pep440_rs::Version;
+use pep440_version::Version;
 use pep508_name::PackageName;
 use std::alloc::{AllocError, AllocFailed, Global};
 use std::marker::Model;

@@ -12,7 +12,7 @@ ghost use Rattle.reqtable_text.specs.CandidateLine.{candidate_of};
 ghost use Rattle.reqtable_text.specs.CandidateText.{IsCandidateLine, IsNumberedCandidate, IsFirstFault};
 ghost use Rattle.reqtable_text.specs.Candidates.{candidates_of};
 
-use pep440_rs::laws::version_text_is_read;
+use pep440_text::laws::version_text_is_read;
 
 /// A text is read as a candidate exactly where the grammar says that it is that candidate's line.
 pub fn candidate_line_is_read()

@@ -1,10 +1,10 @@
 //! The words of a line: a name, a version.
 
 ghost use Rattle.std.specs.Prelude.{◌≡◌, IsTrue, IfOk, OnErr};
-ghost use Rattle.pep440_rs.specs.Reading.{version_of};
+ghost use Rattle.pep440_version.specs.Reading.{version_of};
 ghost use Rattle.pep508_name.specs.Name.{is_name, name_of};
 
-use pep440_rs::{Version, VersionParseError};
+use pep440_version::{Version, VersionParseError};
 use pep508_name::{PackageName, is_name};
 use std::alloc::{AllocError, Global};
 
