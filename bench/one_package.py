@@ -1,11 +1,12 @@
 #!/usr/bin/env python3
 """Times `reqs check` on N lines and N candidates of one package.
 
-    one_package.py [PROGRAM] [--sizes N,..] [--runs N] [--most SECONDS]
+    one_package.py [PROGRAM] [--version FORM] [--sizes N,..] [--runs N] [--most SECONDS]
 
 PROGRAM is crates/reqs_cli/out/reqs_cli where none is named (`./build` makes it). The lines are `pip!=K.5` in no
 order, and the candidates `pip K.0` rise, so that each of them lies above the best before it and each line takes
-it: asked one by one that would be N times N questions. Times are the least processor seconds of several runs of
+it: asked one by one that would be N times N questions. FORM is a candidate's version with {} for its number, `{}.0`
+where none is named: `{}.0+cpu` and `{}.0.post1` give each a local part and a post-release. Times are the least processor seconds of several runs of
 the whole process. The exit status is 1 where an answer is wrong, or where 20,000 or fewer took longer than SECONDS,
 1 by default.
 """
@@ -34,6 +35,7 @@ def read_words():
         description=__doc__, formatter_class=argparse.RawDescriptionHelpFormatter
     )
     words.add_argument("program", nargs="?", default=os.path.normpath(PROGRAM))
+    words.add_argument("--version", metavar="FORM", default="{}.0")
     words.add_argument("--sizes", metavar="N,..", type=numbers, default=[5000, 10000, 20000])
     words.add_argument("--runs", metavar="N", type=int, default=5)
     words.add_argument("--most", metavar="SECONDS", type=float, default=1.0)
@@ -47,14 +49,14 @@ def write(folder, name, lines):
     return path
 
 
-def write_lists(folder, size):
+def write_lists(folder, size, form):
     """Writes the three inputs. Returns their paths."""
     lines = [f"pip!={number}.5" for number in range(size)]
     random.Random(7).shuffle(lines)
     return [
         write(folder, "requirements.txt", lines),
         write(folder, "environment.json", [json.dumps(ENVIRONMENT)]),
-        write(folder, "candidates.txt", [f"pip {number}.0" for number in range(size)]),
+        write(folder, "candidates.txt", [f"pip {form.format(number)}" for number in range(size)]),
     ]
 
 
@@ -73,11 +75,11 @@ def main():
     print("lines and candidates  processor seconds")
     for size in words.sizes:
         with tempfile.TemporaryDirectory() as folder:
-            paths = write_lists(folder, size)
+            paths = write_lists(folder, size, words.version)
             runs = [timed(program, paths) for _ in range(words.runs)]
         least = min(seconds for _, seconds in runs)
         print(f"{size:20}  {least:17.3f}", flush=True)
-        wrong = [said for said, _ in runs if said != f"pip {size - 1}.0\n"]
+        wrong = [said for said, _ in runs if said != f"pip {words.version.format(size - 1)}\n"]
         if wrong:
             print(f"  wrong: {wrong[0][-80:]}")
             failed = True
