@@ -14,7 +14,7 @@ import json
 import os
 import random
 
-from sized import measure, read_words
+from sized import measure, words_of
 
 
 def prepare(folder, size):
@@ -26,4 +26,4 @@ def prepare(folder, size):
     return [], f"{question} {size + 1}\n"
 
 
-measure(read_words(__doc__, "pep440_vectors", [10000, 20000, 40000, 80000]), prepare, 40000)
+measure(words_of(__doc__, "pep440_vectors", [10000, 20000, 40000, 80000]).parse_args(), prepare, 40000)

@@ -14,7 +14,8 @@ def numbers(text):
     return [int(word) for word in text.replace("_", "").split(",")]
 
 
-def read_words(description, program, sizes):
+def words_of(description, program, sizes):
+    """A parser of the words that each of these scripts takes."""
     words = argparse.ArgumentParser(
         description=description, formatter_class=argparse.RawDescriptionHelpFormatter
     )
@@ -23,7 +24,7 @@ def read_words(description, program, sizes):
     words.add_argument("--sizes", metavar="N,..", type=numbers, default=sizes)
     words.add_argument("--runs", metavar="N", type=int, default=5)
     words.add_argument("--most", metavar="SECONDS", type=float, default=1.0)
-    return words.parse_args()
+    return words
 
 
 def timed(command, folder):

@@ -9,6 +9,7 @@ pub mod Tails
 pub mod Sides
 pub mod Agreeing
 pub mod Lists
+pub mod Simple
 pub mod ReleaseRanges
 pub mod Complements
 pub mod NextNumbers

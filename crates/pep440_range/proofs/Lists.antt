@@ -1,6 +1,6 @@
 -- Lists: what all ranges of the members hold, where each member agrees with its range.
 use Rattle.std.proofs.Common.{◌≡◌, Bool, true, false, ◌&&◌, List, [], ◌∷◌, map, Option, Some, None}
-use Rattle.std.proofs.Common.{is_some, inr, refl, sym, true≢false}
+use Rattle.std.proofs.Common.{is_some, inl, inr, refl, sym, true≢false}
 use Rattle.std.specs.List.{All, AllByRecursion, list_all}
 use Rattle.std.proofs.lemmas.List.Elements.{recursion_from_All}
 use Rattle.version_ranges.specs.Point.{Point, At}
@@ -58,9 +58,9 @@ beside_posts ExactEqual version candidate none h = h
 beside_posts NotEqual version candidate none h = tt
 beside_posts NotEqualStar version candidate none h = tt
 beside_posts TildeEqual version candidate none h = tt
-beside_posts LessThan version candidate none h = inr (h, none)
+beside_posts LessThan version candidate none h = inr h
 beside_posts LessThanEqual version candidate none h = tt
-beside_posts GreaterThan version candidate none h = inr (h, none)
+beside_posts GreaterThan version candidate none h = inl (inr (h, none))
 beside_posts GreaterThanEqual version candidate none h = tt
 
 pub without_posts : (candidate : VersionRecord) → candidate.post ≡ None → (member : SpecifierRecord)

@@ -1,5 +1,5 @@
 -- `<` and `>`: what lies on one side of a version.
-use Rattle.std.proofs.Common.{◌≡◌, ℕ, ◌+◌, inl, inr, ◌&&◌, not, Bool, true, false, if◌then◌else◌, List}
+use Rattle.std.proofs.Common.{◌≡◌, ◌⊎◌, ℕ, ◌+◌, inl, inr, ◌&&◌, not, Bool, true, false, if◌then◌else◌, List}
 use Rattle.std.proofs.Common.{[], ◌∷◌, Option, Some, None, is_some, refl, ap, sym, ◌∙◌, true≢false}
 use Rattle.std.specs.declared.cmp.Ordering.{Ordering}
 use Rattle.std.specs.declared.cmp.Ordering.TheVariants.{Less, Equal, Greater}
@@ -13,13 +13,14 @@ use Rattle.pep440_version.specs.Order.{version_cmp, key_cmp}
 use Rattle.pep440_version.specs.OrderLaws.{version_cmp_total}
 use Rattle.pep440_specifier.specs.Matching.{same_release}
 use Rattle.pep440_range.specs.Ranges.{PointTest, from_bound, end_of_less, greater_range}
-use Rattle.pep440_range.specs.Agreement.{IsSaid, AreApart}
+use Rattle.pep440_range.specs.Agreement.{IsSaid, IsFinal, AreApart}
 use Rattle.pep440_range.proofs.Orderings.{turned_greater, not_from, last_not_greater, and_true, neither}
 use Rattle.pep440_range.proofs.Orderings.{is_none, mapped_from}
 use Rattle.pep440_range.proofs.Prefixes.{raised_is}
 use Rattle.pep440_range.proofs.Fronts.{tail_of, tail_key, tail_cmp, front_cmp, rest_of, by_front}
 use Rattle.pep440_range.proofs.Fronts.{same_front, before, said_tail}
 use Rattle.pep440_range.proofs.Tails.{least_not_above, below_final, dev_raised, none_behind}
+use Rattle.pep440_range.proofs.Tails.{final_behind}
 
 -- where versions that are apart have one release, neither is a post-release
 no_posts : (version candidate : VersionRecord) → AreApart version candidate → front_cmp version candidate
@@ -29,6 +30,13 @@ no_posts version candidate (inl other) e =
 no_posts version candidate (inr none) e = none
 
 -- ---- `<`
+
+-- where versions of one release agree beside `<`, the specifier's is no post-release
+no_post : (version candidate : VersionRecord) → (same_release version candidate ≡ false)
+    ⊎ (version.post ≡ None) → front_cmp version candidate ≡ Equal → version.post ≡ None
+no_post version candidate (inl other) e =
+    absurd (true≢false (sym (same_front version candidate ∙ ap is_eq e) ∙ other))
+no_post version candidate (inr none) e = none
 
 nothing_taken : (x s p : Bool) → x ≡ (x && not (s && (p && false)))
 nothing_taken false s p = refl
@@ -49,20 +57,20 @@ less_by_front Greater t p h = refl
 
 -- what lies below a version that is no pre-release, at its release, is one
 below_is_prerelease : (version candidate : VersionRecord) → IsSaid version → version.local ≡ []
-    → IsSaid candidate → candidate.local ≡ [] → AreApart version candidate → is_prerelease version ≡ false
+    → IsSaid candidate → candidate.local ≡ [] → (same_release version candidate ≡ false)
+    ⊎ (version.post ≡ None) → is_prerelease version ≡ false
     → front_cmp version candidate ≡ Equal → is_gt (tail_cmp version candidate) ≡ true
     → is_prerelease candidate ≡ true
 below_is_prerelease version candidate said plain other_said other_plain apart final e h =
-    let posts = no_posts version candidate apart e in
+    let post = no_post version candidate apart e in
     let parts = neither (is_some version.pre) (is_some version.dev) final in
     let pre : version.pre ≡ None = is_none version.pre parts.0 in
     let dev : version.dev ≡ None = is_none version.dev parts.1 in
     let left : tail_key version ≡ tail_of None None None None None [] = said_tail version said plain
-    ∙ (λ i. tail_of (pre i) (posts.0 i) (dev i) None None []) in
-    let right : tail_key candidate ≡ tail_of candidate.pre None candidate.dev None None [] =
-    said_tail candidate other_said other_plain
-    ∙ (λ i. tail_of candidate.pre (posts.1 i) candidate.dev None None []) in
-    below_final candidate.pre candidate.dev (sym (λ i. is_gt (key_cmp (left i) (right i))) ∙ h)
+    ∙ (λ i. tail_of (pre i) (post i) (dev i) None None []) in
+    let right : tail_key candidate ≡ tail_of candidate.pre candidate.post candidate.dev None None [] =
+    said_tail candidate other_said other_plain in
+    below_final candidate.pre candidate.post candidate.dev (sym (λ i. is_gt (key_cmp (left i) (right i))) ∙ h)
 
 -- the place below all of a release
 pub before_least : (version candidate : VersionRecord) → IsSaid candidate → candidate.local ≡ []
@@ -90,7 +98,8 @@ less_sides version candidate p q =
     λ i. sym low i && not (sym same i && (p && q))
 
 less_by : (version candidate : VersionRecord) (t : Bool) → is_prerelease version ≡ t → IsSaid version
-    → version.local ≡ [] → IsSaid candidate → candidate.local ≡ [] → AreApart version candidate
+    → version.local ≡ [] → IsSaid candidate → candidate.local ≡ []
+    → (same_release version candidate ≡ false) ⊎ (version.post ≡ None)
     → is_lt (version_cmp candidate (if t then version else record version { least = Some 0 }))
     ≡ (is_lt (version_cmp candidate version)
     && not (same_release version candidate && (is_prerelease candidate && not t)))
@@ -104,7 +113,8 @@ less_by version candidate false e said plain other_said other_plain apart =
     ∙ less_sides version candidate (is_prerelease candidate) true
 
 pub less_agrees : (version candidate : VersionRecord) → IsSaid version → version.local ≡ []
-    → IsSaid candidate → candidate.local ≡ [] → AreApart version candidate
+    → IsSaid candidate → candidate.local ≡ []
+    → (same_release version candidate ≡ false) ⊎ (version.post ≡ None)
     → is_lt (version_cmp candidate (end_of_less version))
     ≡ (is_lt (version_cmp candidate version)
     && not (same_release version candidate && (is_prerelease candidate && not (is_prerelease version))))
@@ -217,40 +227,82 @@ most_level version candidate d said plain other_said other_plain none other_none
     ∙ (λ i. is_lt (key_cmp (sym first i) (sym right i)))
     ∙ none_taken version candidate (is_lt (tail_cmp version candidate)) other_none
 
+-- and behind a final release: behind its post-releases too
+final_level : (version candidate : VersionRecord) → IsFinal version → IsSaid version → version.local
+    ≡ [] → IsSaid candidate → candidate.local ≡ []
+    → is_lt (tail_cmp (record version { most = Some 0 }) candidate)
+    ≡ (is_lt (tail_cmp version candidate) && not (newly_post version candidate))
+final_level version candidate final said plain other_said other_plain =
+    let first : tail_key version ≡ tail_of None None None None None [] = said_tail version said plain
+    ∙ (λ i. tail_of (final.no_pre i) (final.no_post i) (final.no_dev i) None None []) in
+    let last : tail_key (record version { most = Some 0 }) ≡ tail_of None None None None (Some 0) [] =
+    (λ i. tail_of (final.no_pre i) (final.no_post i) (final.no_dev i) (said.no_least i) (Some 0) (plain i)) in
+    let right : tail_key candidate ≡ tail_of candidate.pre candidate.post candidate.dev None None [] =
+    said_tail candidate other_said other_plain in
+    (λ i. is_lt (key_cmp (last i) (right i)))
+    ∙ final_behind candidate.pre candidate.post candidate.dev
+    ∙ (λ i. is_lt (key_cmp (sym first i) (sym right i))
+    && not (is_some candidate.post && not (is_some (sym final.no_post i))))
+
+-- where a version agrees beside `>`
+abbrev IsClear : VersionRecord → VersionRecord → Type 0
+IsClear version candidate = AreApart version candidate ⊎ IsFinal version
+
+level : (version candidate : VersionRecord) → version.dev ≡ None → IsSaid version → version.local ≡ []
+    → IsSaid candidate → candidate.local ≡ [] → IsClear version candidate → front_cmp version candidate
+    ≡ Equal → is_lt (tail_cmp (record version { most = Some 0 }) candidate)
+    ≡ (is_lt (tail_cmp version candidate) && not (newly_post version candidate))
+level version candidate d said plain other_said other_plain (inl apart) e =
+    most_level version candidate d said plain other_said other_plain
+    (no_posts version candidate apart e).0 (no_posts version candidate apart e).1
+level version candidate d said plain other_said other_plain (inr final) e =
+    final_level version candidate final said plain other_said other_plain
+
 behind_most : (version candidate : VersionRecord) → version.dev ≡ None → IsSaid version → version.local
-    ≡ [] → IsSaid candidate → candidate.local ≡ [] → AreApart version candidate
+    ≡ [] → IsSaid candidate → candidate.local ≡ [] → IsClear version candidate
     → not (is_gt (ordering_then (version_cmp (record version { most = Some 0 }) candidate) Greater))
     ≡ IsTaken version candidate
-behind_most version candidate d said plain other_said other_plain apart =
+behind_most version candidate d said plain other_said other_plain clear =
     let start : VersionRecord = record version { most = Some 0 } in
     ap (λ o. not (is_gt (ordering_then o Greater))) (by_front start candidate)
     ∙ behind_by_front (front_cmp version candidate) (tail_cmp start candidate)
     (tail_cmp version candidate) (newly_post version candidate)
-    (λ e. most_level version candidate d said plain other_said other_plain
-    (no_posts version candidate apart e).0 (no_posts version candidate apart e).1)
+    (level version candidate d said plain other_said other_plain clear)
     ∙ greater_sides version candidate
+
+-- beside a developmental or a post-release, which is no final one
+apart_by_dev : (version candidate : VersionRecord) (dev : ℕ) → version.dev ≡ Some dev
+    → IsClear version candidate → AreApart version candidate
+apart_by_dev version candidate dev d (inl apart) = apart
+apart_by_dev version candidate dev d (inr final) = let none = final.no_dev in absurd (cc)
+
+apart_by_post : (version candidate : VersionRecord) (post : ℕ) → version.post ≡ Some post
+    → IsClear version candidate → AreApart version candidate
+apart_by_post version candidate post p (inl apart) = apart
+apart_by_post version candidate post p (inr final) = let none = final.no_post in absurd (cc)
 
 greater_by : (version candidate : VersionRecord) (range : PointTest) (dev post : Option ℕ) → version.dev
     ≡ dev → version.post ≡ post → IsSaid version → version.local ≡ [] → IsSaid candidate → candidate.local
-    ≡ [] → AreApart version candidate → greater_range version dev post ≡ Some range → range (At candidate)
+    ≡ [] → IsClear version candidate → greater_range version dev post ≡ Some range → range (At candidate)
     ≡ IsTaken version candidate
-greater_by version candidate range (Some dev) post d p said plain other_said other_plain apart e =
+greater_by version candidate range (Some dev) post d p said plain other_said other_plain clear e =
     let found = mapped_from (λ (next : ℕ). from_bound (Included (record version { dev = Some next })))
     (raised dev) range e in
     ap (λ (r : PointTest). r (At candidate)) (sym found.2)
     ∙ from_dev version candidate dev found.0 d (raised_is dev found.0 found.1) said plain other_said
-    other_plain apart
-greater_by version candidate range None (Some post) d p said plain other_said other_plain apart e =
+    other_plain (apart_by_dev version candidate dev d clear)
+greater_by version candidate range None (Some post) d p said plain other_said other_plain clear e =
     let found = mapped_from (λ (next : ℕ). from_bound (Included (record version { post = Some next })))
     (raised post) range e in
-    ap (λ (r : PointTest). r (At candidate)) (sym found.2) ∙ from_post version candidate post found.0 p apart
-greater_by version candidate range None None d p said plain other_said other_plain apart e =
+    ap (λ (r : PointTest). r (At candidate)) (sym found.2)
+    ∙ from_post version candidate post found.0 p (apart_by_post version candidate post p clear)
+greater_by version candidate range None None d p said plain other_said other_plain clear e =
     let same : from_bound (Excluded (record version { most = Some 0 })) ≡ range = cc in
     ap (λ (r : PointTest). r (At candidate)) (sym same)
-    ∙ behind_most version candidate d said plain other_said other_plain apart
+    ∙ behind_most version candidate d said plain other_said other_plain clear
 
 pub greater_agrees : (version candidate : VersionRecord) (range : PointTest) → IsSaid version
-    → version.local ≡ [] → IsSaid candidate → candidate.local ≡ [] → AreApart version candidate
+    → version.local ≡ [] → IsSaid candidate → candidate.local ≡ [] → IsClear version candidate
     → greater_range version version.dev version.post ≡ Some range → range (At candidate)
     ≡ IsTaken version candidate
 greater_agrees version candidate range =

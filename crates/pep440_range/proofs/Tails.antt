@@ -1,6 +1,6 @@
 -- What stands behind epoch and release, compared: the first of a release, and what `<` and `>` set beside
 -- a version.
-use Rattle.std.proofs.Common.{◌≡◌, ℕ, ◌+◌, ◌<◌, true, false, not, ◌||◌, List, [], ◌∷◌, Option, Some, None}
+use Rattle.std.proofs.Common.{◌≡◌, ℕ, ◌+◌, ◌<◌, true, false, not, ◌&&◌, ◌||◌, List, [], ◌∷◌, Option, Some, None}
 use Rattle.std.proofs.Common.{is_some, refl, ap, sym, ◌∙◌, true≢false, arith}
 use Rattle.std.specs.declared.cmp.Ordering.{Ordering}
 use Rattle.std.specs.declared.cmp.Ordering.TheVariants.{Less, Equal, Greater}
@@ -66,13 +66,14 @@ least_not_above rest None (Some number) dev = refl
 least_not_above rest None None (Some number) = refl
 least_not_above rest None None None = refl
 
--- what lies below a release itself, and is no post-release, is a pre-release
-pub below_final : (pre : Option Prerelease) (dev : Option ℕ)
-    → is_gt (key_cmp (tail_of None None None None None []) (tail_of pre None dev None None [])) ≡ true
+-- what lies below a release itself is a pre-release
+pub below_final : (pre : Option Prerelease) (post dev : Option ℕ)
+    → is_gt (key_cmp (tail_of None None None None None []) (tail_of pre post dev None None [])) ≡ true
     → (is_some pre || is_some dev) ≡ true
-below_final (Some pre) dev h = refl
-below_final None (Some number) h = refl
-below_final None None h = absurd (true≢false (sym h))
+below_final (Some pre) post dev h = refl
+below_final None post (Some number) h = refl
+below_final None (Some number) None h = absurd (true≢false (sym h))
+below_final None None None h = absurd (true≢false (sym h))
 
 -- ---- beside `>`: a number of a developmental release raised
 
@@ -150,3 +151,18 @@ none_behind (Some pre) other None =
 none_behind (Some pre) other (Some number) =
     behind_all (nat_cmp (2 + kind_rank pre.kind) (suffix_class other None (Some number) None))
     (slice_cmp nat_cmp (pre_key (Some pre)) (pre_key other)) Greater Greater refl refl
+
+-- behind a final release there are its post-releases alone, and all of them come before the last of it
+pub final_behind : (pre : Option Prerelease) (post dev : Option ℕ)
+    → is_lt (key_cmp (tail_of None None None None (Some 0) []) (tail_of pre post dev None None []))
+    ≡ (is_lt (key_cmp (tail_of None None None None None []) (tail_of pre post dev None None []))
+    && not (is_some post && true))
+final_behind (Some pre) post dev =
+    let rest : List (List ℕ) = rest_of (Some pre) post dev None None [] in
+    ap is_lt (class_decides 6 (2 + kind_rank pre.kind) Greater (rest_of None None None None (Some 0) [])
+    rest (post_above pre.kind))
+    ∙ sym (ap (λ o. is_lt o && not (is_some post && true)) (class_decides 5 (2 + kind_rank pre.kind) Greater
+    (rest_of None None None None None []) rest (final_above pre.kind)))
+final_behind None (Some number) dev = refl
+final_behind None None (Some number) = refl
+final_behind None None None = refl

@@ -1,5 +1,5 @@
 -- Where ranges and matching agree.
-use Rattle.std.specs.Prelude.{◌≡◌, ◌⊎◌, false, None}
+use Rattle.std.specs.Prelude.{◌≡◌, ◌⊎◌, false, None, []}
 use Rattle.pep440_version.specs.Record.{VersionRecord}
 use Rattle.pep440_operator.specs.declared.operator.Operator.{Operator}
 use Rattle.pep440_operator.specs.declared.operator.Operator.TheVariants.{Equal, EqualStar, ExactEqual}
@@ -14,13 +14,20 @@ pub record IsSaid (version : VersionRecord) : Type 0 where
   pub no_least : version.least ≡ None
   pub no_most : version.most ≡ None
 
+-- epoch and release alone, but for a local part (PEP 440, "Final releases")
+pub record IsFinal (version : VersionRecord) : Type 0 where
+  pub no_pre : version.pre ≡ None
+  pub no_post : version.post ≡ None
+  pub no_dev : version.dev ≡ None
+
 -- two versions of different epochs or releases, or of which neither is a post-release
 abbrev pub AreApart : VersionRecord → VersionRecord → Type 0
 AreApart version candidate =
     (same_release version candidate ≡ false) ⊎ ((version.post ≡ None) × (candidate.post ≡ None))
 
 -- where an operator's range holds just the versions that it takes: nowhere for `===`, which goes by prints,
--- and beside `<` and `>` apart from post-releases of one release
+-- beside `<` apart from versions of a post-release's own release, and beside `>` apart from post-releases of
+-- one release, or where the version is a final one
 abbrev pub Agrees : Operator → VersionRecord → VersionRecord → Type 0
 Agrees Equal version candidate = Unit {0}
 Agrees EqualStar version candidate = Unit {0}
@@ -28,9 +35,9 @@ Agrees ExactEqual version candidate = ⊥
 Agrees NotEqual version candidate = Unit {0}
 Agrees NotEqualStar version candidate = Unit {0}
 Agrees TildeEqual version candidate = Unit {0}
-Agrees LessThan version candidate = AreApart version candidate
+Agrees LessThan version candidate = (same_release version candidate ≡ false) ⊎ (version.post ≡ None)
 Agrees LessThanEqual version candidate = Unit {0}
-Agrees GreaterThan version candidate = AreApart version candidate
+Agrees GreaterThan version candidate = AreApart version candidate ⊎ IsFinal version
 Agrees GreaterThanEqual version candidate = Unit {0}
 
 -- where it does so for each candidate that is no post-release: not for `===`, nor for a post-release beside
@@ -47,6 +54,20 @@ AgreesBesidePosts LessThanEqual version = Unit {0}
 AgreesBesidePosts GreaterThan version = version.post ≡ None
 AgreesBesidePosts GreaterThanEqual version = Unit {0}
 
+-- where it does so for each candidate: not for `===`, nor for a post-release beside `<`, nor for any but a
+-- final release beside `>`
+abbrev pub AgreesEverywhere : Operator → VersionRecord → Type 0
+AgreesEverywhere Equal version = Unit {0}
+AgreesEverywhere EqualStar version = Unit {0}
+AgreesEverywhere ExactEqual version = ⊥
+AgreesEverywhere NotEqual version = Unit {0}
+AgreesEverywhere NotEqualStar version = Unit {0}
+AgreesEverywhere TildeEqual version = Unit {0}
+AgreesEverywhere LessThan version = version.post ≡ None
+AgreesEverywhere LessThanEqual version = Unit {0}
+AgreesEverywhere GreaterThan version = IsFinal version
+AgreesEverywhere GreaterThanEqual version = Unit {0}
+
 -- a specifier as texts say it, which agrees with its range at a candidate
 pub record IsAgreeing (candidate : VersionRecord) (specifier : SpecifierRecord) : Type 0 where
   pub built : IsBuilt specifier
@@ -58,3 +79,10 @@ pub record IsWithoutPosts (specifier : SpecifierRecord) : Type 0 where
   pub built : IsBuilt specifier
   pub said : IsSaid specifier.version
   pub agrees : AgreesBesidePosts specifier.operator specifier.version
+
+-- a specifier as texts say it, without a local part, which agrees with its range at each candidate
+pub record IsSimple (specifier : SpecifierRecord) : Type 0 where
+  pub built : IsBuilt specifier
+  pub said : IsSaid specifier.version
+  pub no_local : specifier.version.local ≡ []
+  pub agrees : AgreesEverywhere specifier.operator specifier.version

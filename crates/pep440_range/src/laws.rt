@@ -7,7 +7,7 @@ ghost use Rattle.version_ranges.specs.Point.{Point, At, JustAbove};
 ghost use Rattle.std.specs.declared.ops.Bound.{Bound};
 ghost use Rattle.version_ranges.specs.Bounds.{is_within, intervals};
 ghost use Rattle.version_ranges.specs.Held.{holds_at, IsNormal};
-ghost use Rattle.pep440_version.specs.Record.{VersionRecord};
+ghost use Rattle.pep440_version.specs.Record.{VersionRecord, without_local};
 ghost use Rattle.pep440_version.specs.Changes.{is_prerelease};
 ghost use Rattle.pep440_version.specs.Order.{version_cmp};
 ghost use Rattle.pep440_operator.specs.declared.operator.Operator.{Operator};
@@ -20,7 +20,7 @@ ghost use Rattle.pep440_specifier.specs.Building.{IsBuilt};
 ghost use Rattle.pep440_specifier.specs.Matching.{SpecifierRecord, matches};
 ghost use Rattle.pep440_specifier_list.specs.Lists.{IsInOrder, matches_all};
 ghost use Rattle.pep440_specifier_list.specs.ListBounds.{Interval, AreReleaseIntervals, list_specifiers};
-ghost use Rattle.pep440_range.specs.Agreement.{Agrees, IsSaid, IsAgreeing, IsWithoutPosts};
+ghost use Rattle.pep440_range.specs.Agreement.{Agrees, IsSaid, IsAgreeing, IsWithoutPosts, IsSimple};
 ghost use Rattle.pep440_range.specs.Complements.{IsComplemented};
 ghost use Rattle.pep440_range.specs.Intervals.{ShareJust, HasNumbers, HaveNumbers, AreBehind, GapsAreSaid};
 ghost use Rattle.pep440_range.specs.Intervals.{is_in_one};
@@ -31,7 +31,8 @@ use pep440_version::Version;
 use version_ranges::laws::intervals_hold_the_set;
 
 /// A specifier's range holds a version without a local part exactly where the specifier takes it; but for
-/// `===`, and for post-releases of one release beside `<` and `>`.
+/// `===`, for versions of its own release beside `<` and a post-release, and for post-releases of one release
+/// beside `>` and any but a final release.
 pub fn ranges_agree_with_matching()
     ensures { (specifier : SpecifierRecord) (candidate : VersionRecord) (range : PointTest) →
         IsBuilt specifier → IsSaid specifier.version → IsSaid candidate → candidate.local ≡ [] →
@@ -58,6 +59,17 @@ pub fn ranges_agree_beside_posts()
         All IsWithoutPosts members → IsSaid candidate → candidate.local ≡ [] → candidate.post ≡ None →
         GivesAll (Ok set) (map range_of members) →
         holds_at version_cmp set (At candidate) ≡ matches_all members candidate }
+{}
+
+/// A list's range tells of each candidate whether the list takes it, asked without the candidate's local part:
+/// where no member is of `===`, has a local part or a post-release beside `<`, or has any but a final release
+/// beside `>`.
+pub fn ranges_agree_everywhere()
+    ensures { (members : List SpecifierRecord) (candidate : VersionRecord)
+        (set : List (Point VersionRecord)) →
+        All IsSimple members → IsSaid candidate →
+        GivesAll (Ok set) (map range_of members) →
+        holds_at version_cmp set (At (without_local candidate)) ≡ matches_all members candidate }
 {}
 
 /// Among versions of release numbers alone, a specifier's range among releases holds a candidate exactly

@@ -13,9 +13,8 @@ use pep440_specifier_list::VersionSpecifiers;
 use pep440_version::Version;
 use pep508_requirement::{Requirement, VersionOrUrl};
 use pep508_url::VerbatimUrl;
-use reqtable_range::is_plain;
+use reqtable_range::OneRange;
 use std::alloc::{AllocError, Global};
-use version_ranges::Ranges;
 
 /// Whether some ask is of a URL.
 pub fn is_direct(asks: &[&Requirement<VerbatimUrl>]) -> bool
@@ -61,7 +60,7 @@ fn has_prerelease_in(list: &VersionSpecifiers) -> bool
 pub fn may_be_taken<F: Fn(&Version, bool) -> bool>(
     alloc: Global,
     asks: &[&Requirement<VerbatimUrl>],
-    range: &Option<Ranges<Version>>,
+    range: &Option<OneRange>,
     names_prerelease: bool,
     admission: &Admission<F>,
     version: &Version,
@@ -80,7 +79,7 @@ pub fn may_be_taken<F: Fn(&Version, bool) -> bool>(
 fn all_take(
     alloc: Global,
     asks: &[&Requirement<VerbatimUrl>],
-    range: &Option<Ranges<Version>>,
+    range: &Option<OneRange>,
     version: &Version,
 ) -> Result<bool, AllocError>
     requires { TellsTaken asks.now range.now }
@@ -88,8 +87,8 @@ fn all_take(
         taken ≡ list_all (λ ask. ask_takes version.now (ask_seen ask.now)) asks.now) }
 {
     if let Some(range) = range {
-        if is_plain(version) {
-            return Ok(range.contains(version));
+        if let Some(taken) = range.tells(alloc, version)? {
+            return Ok(taken);
         }
     }
     takes_all(alloc, asks, version)

@@ -16,9 +16,9 @@ use crate::ranged::range_of;
 use pep440_version::Version;
 use pep508_requirement::Requirement;
 use pep508_url::VerbatimUrl;
+use reqtable_range::OneRange;
 use reqtable_text::Candidate;
 use std::alloc::{AllocError, Global};
-use version_ranges::Ranges;
 
 /// A candidate, and its place in the list.
 #[derive(Clone, Copy)]
@@ -72,7 +72,7 @@ fn greatest<'a, F: Fn(&Version, bool) -> bool>(
 fn greatest_by<'a, F: Fn(&Version, bool) -> bool>(
     alloc: Global,
     asks: &[&Requirement<VerbatimUrl>],
-    range: &Option<Ranges<Version>>,
+    range: &Option<OneRange>,
     candidates: &[Numbered<'a>],
     admission: &Admission<F>,
 ) -> Result<Option<Numbered<'a>>, AllocError>
@@ -96,7 +96,7 @@ fn greatest_by<'a, F: Fn(&Version, bool) -> bool>(
 fn better<'a, F: Fn(&Version, bool) -> bool>(
     alloc: Global,
     asks: &[&Requirement<VerbatimUrl>],
-    range: &Option<Ranges<Version>>,
+    range: &Option<OneRange>,
     prerelease: bool,
     admission: &Admission<F>,
     candidate: &Numbered<'a>,

@@ -9,32 +9,29 @@ ghost use Rattle.reqtable_answer.specs.Ranged.{TellsTaken};
 ghost use Rattle.reqtable_answer.specs.Says.{ask_seen};
 
 use pep440_specifier_list::VersionSpecifiers;
-use pep440_version::Version;
 use pep508_requirement::{Requirement, VersionOrUrl};
 use pep508_url::VerbatimUrl;
-use reqtable_range::laws::range_tells_what_all_take;
-use reqtable_range::range_of_all;
+use reqtable_range::laws::one_range_tells_what_all_take;
+use reqtable_range::{OneRange, one_range};
 use std::alloc::{AllocError, Global};
-use version_ranges::Ranges;
 
 /// With fewer asks or candidates each candidate is asked of every ask.
 const MANY: usize = 16;
 
-/// A range that tells what the asks take of plain versions: for many of them and of candidates, where they
-/// have one.
+/// A range that tells what the asks take: for many of them and of candidates, where they have one.
 pub fn range_of(
     alloc: Global,
     asks: &[&Requirement<VerbatimUrl>],
     candidates: usize,
-) -> Result<Option<Ranges<Version>>, AllocError>
+) -> Result<Option<OneRange>, AllocError>
     ensures { IfOk result (TellsTaken asks.now) }
 {
     if asks.len() < MANY || candidates < MANY {
         return Ok(None);
     }
-    range_tells_what_all_take();
+    one_range_tells_what_all_take();
     let lists = lists_of(alloc, asks)?;
-    range_of_all(alloc, &lists)
+    one_range(alloc, &lists)
 }
 
 /// The lists of specifiers that the asks have.

@@ -1,5 +1,5 @@
 -- What many lists of specifiers take together, and where a range tells it.
-use Rattle.std.specs.Prelude.{◌≡◌, Bool, true, List, [], map, All, Option, Some, None}
+use Rattle.std.specs.Prelude.{◌≡◌, Bool, true, false, List, [], map, All, Option, Some, None}
 use Rattle.std.specs.Option.{is_some}
 use Rattle.std.specs.List.{list_all, flat_map}
 use Rattle.version_ranges.specs.Point.{Point}
@@ -24,6 +24,11 @@ pub record IsPlain (candidate : VersionRecord) : Type 0 where
   pub said : IsSaid candidate
   pub no_local : candidate.local ≡ []
   pub no_post : candidate.post ≡ None
+
+-- the versions of which one range tells: all that texts say where each member is simple, else the plain ones
+abbrev pub IsTold : Bool → VersionRecord → Type 0
+IsTold true candidate = IsSaid candidate
+IsTold false candidate = IsPlain candidate
 
 -- each member has a range, which tells what it takes of plain versions
 pub record HaveRanges (members : List SpecifierRecord) : Type 0 where

@@ -2,8 +2,11 @@
 #![tactic(auto)]
 
 pub mod laws;
+mod one;
 mod plain;
 mod shared;
+mod simple;
 
+pub use one::{OneRange, one_range};
 pub use plain::is_plain;
 pub use shared::range_of_all;

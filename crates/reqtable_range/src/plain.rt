@@ -14,7 +14,7 @@ pub fn is_plain(version: &Version) -> bool
     is_said(version) && version.local().is_empty() && version.post().is_none()
 }
 
-fn is_said(version: &Version) -> bool
+pub(crate) fn is_said(version: &Version) -> bool
     ensures { IsTrue result ↔ IsSaid version.now }
 {
     version.min().is_none() && version.max().is_none()

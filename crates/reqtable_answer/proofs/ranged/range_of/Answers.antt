@@ -5,6 +5,6 @@ use Rattle.reqtable_answer.proofs.ranged.range_of.Goals as goal
 
 pub returns : goal.returns
 returns c =
-    range_tells c.range_tells_what_all_take.ensures c.args.asks.now (map (λ list. list.now) c.deref.result.now)
+    range_tells c.one_range_tells_what_all_take.ensures c.args.asks.now (map (λ list. list.now) c.deref.result.now)
     (λ v. ap (λ lists. all_take (map (λ list. list.now) lists) v) c.deref.ensures.value ∙ c.in_ok-lists.ensures v)
-    c.range_of_all.result c.range_of_all.ensures
+    c.one_range.result c.one_range.ensures

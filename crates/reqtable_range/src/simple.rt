@@ -1,0 +1,64 @@
+//! Specifiers of which a range tells what matching says of each version.
+
+ghost use Rattle.std.specs.Prelude.{◌↔◌, IsTrue, All};
+ghost use Rattle.pep440_range.specs.Agreement.{IsFinal, AgreesEverywhere, IsSimple};
+
+use crate::plain::is_said;
+use pep440_specifier::{Operator, VersionSpecifier};
+use pep440_specifier_list::VersionSpecifiers;
+use pep440_version::Version;
+
+/// Whether each member of the lists has no local part, and agrees with its range at all versions.
+pub(crate) fn are_simple(lists: &[&VersionSpecifiers]) -> bool
+    ensures { IsTrue result ↔ All (λ list. All IsSimple list.now) lists.now }
+{
+    for list in lists {
+        if !are_simple_members(list.as_slice()) {
+            return false;
+        }
+    }
+    true
+}
+
+fn are_simple_members(members: &[VersionSpecifier]) -> bool
+    ensures { IsTrue result ↔ All IsSimple members.now }
+{
+    for member in members {
+        if !is_simple(member) {
+            return false;
+        }
+    }
+    true
+}
+
+fn is_simple(member: &VersionSpecifier) -> bool
+    ensures { IsTrue result ↔ IsSimple member.now }
+{
+    let version = member.version();
+    let is_public = version.local().is_empty();
+    is_said(version) && is_public && agrees_everywhere(member.operator(), version)
+}
+
+fn agrees_everywhere(operator: Operator, version: &Version) -> bool
+    ensures { IsTrue result ↔ AgreesEverywhere operator version.now }
+{
+    match operator {
+        Operator::ExactEqual => false,
+        Operator::LessThan => version.post().is_none(),
+        Operator::GreaterThan => is_final(version),
+        Operator::Equal
+        | Operator::EqualStar
+        | Operator::NotEqual
+        | Operator::NotEqualStar
+        | Operator::TildeEqual
+        | Operator::LessThanEqual
+        | Operator::GreaterThanEqual => true,
+    }
+}
+
+/// Whether the version is neither a pre-release nor a post-release nor a developmental release.
+fn is_final(version: &Version) -> bool
+    ensures { IsTrue result ↔ IsFinal version.now }
+{
+    version.pre().is_none() && version.post().is_none() && version.dev().is_none()
+}
