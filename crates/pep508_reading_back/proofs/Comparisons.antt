@@ -444,12 +444,12 @@ version_read_back : (key : MarkerValueVersion) (specifier : SpecifierRecord) (re
 version_read_back key specifier rest h =
     let text = pattern_says specifier.operator specifier.version in
     let plain : Plain text = plain_append (version_text specifier.version) (star_text specifier.operator)
-    (plain_version specifier.version h.0.printable) (plain_star specifier.operator) in
+    (plain_version specifier.version h.0.printed.printable) (plain_star specifier.operator) in
     let found : compared (VersionKey key) (written_as (sign_of specifier.operator)) (Quoted text)
     ≡ record { said = Some (Version key specifier); warned = [] } =
     compared_sign key specifier.operator text
     ∙ ap (of_specifier key)
-    (specifier_read specifier.version h.0.printable specifier.operator h.0.in_markers h.0.built) in
+    (specifier_read specifier.version h.0.printed.printable specifier.operator h.0.in_markers h.0.printed.built) in
     subst (λ signs. IsComparisonText (chars (term_text (version_key_name key) signs text) ++ rest)
     (marker_of (Version key specifier)) rest)
     (sym (signs_are specifier.operator h.0.in_markers))
@@ -653,7 +653,7 @@ pub comparison_utf8 : (term : ExpressionRecord) → IsReadable term → IsUtf8 (
 comparison_utf8 (Version key specifier) h =
     let plain : Plain (pattern_says specifier.operator specifier.version) =
     plain_append (version_text specifier.version) (star_text specifier.operator)
-    (plain_version specifier.version h.0.printable) (plain_star specifier.operator) in
+    (plain_version specifier.version h.0.printed.printable) (plain_star specifier.operator) in
     term_utf8 (version_key_name key) (operator_text specifier.operator)
     (pattern_says specifier.operator specifier.version) (version_named key).ascii
     (signs_ascii specifier.operator) (plain_quotable (pattern_says specifier.operator specifier.version) plain).encoded

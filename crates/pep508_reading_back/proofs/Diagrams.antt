@@ -55,11 +55,13 @@ pub release_readable : (operator : Operator) (numbers : List ℕ) → is_tilde o
     operator ≢ versions.ExactEqual → AllSmall numbers → 0 < length numbers →
     IsReadableSpecifier (record { operator = operator; version = release_record numbers })
 release_readable operator numbers tilde exact small some = record {
-  printable = release_printable numbers small some;
-  built = record {
-    local = λ e. refl;
-    numbers = λ e. absurd (false≢true (sym tilde ∙ e));
-    star = λ e. refl;
+  printed = record {
+    printable = release_printable numbers small some;
+    built = record {
+      local = λ e. refl;
+      numbers = λ e. absurd (false≢true (sym tilde ∙ e));
+      star = λ e. refl;
+    };
   };
   in_markers = exact;
 }

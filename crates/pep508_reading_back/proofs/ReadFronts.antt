@@ -26,7 +26,7 @@ use Rattle.pep508_requirement_text.specs.FrontText.{IsSpacedName, IsInside, IsEx
 use Rattle.pep508_requirement.specs.declared.version_or_url.VersionOrUrl.{VersionOrUrl}
 use Rattle.pep508_requirement.specs.declared.version_or_url.VersionOrUrl.TheVariants as asked
 use Rattle.pep508_requirement.specs.RequirementReading.{AsksFor}
-use Rattle.pep508_reading_back.specs.ReadableRequirements.{IsPrintableSpecifier}
+use Rattle.pep508_reading_back.specs.Readable.{IsPrintableSpecifier}
 use Rattle.pep508_reading_back.specs.Views.{IsReadableAsked}
 use Rattle.pep508_reading_back.specs.ReadViews.{AsksNoUrl}
 use Rattle.pep508_reading_back.proofs.SortedLists.{some_kept}

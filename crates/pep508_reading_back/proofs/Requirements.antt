@@ -28,7 +28,8 @@ use Rattle.pep508_requirement_text.specs.UrlEnds.{begins_with}
 use Rattle.pep508_requirement.specs.MarkerBehind.{no_marker}
 use Rattle.pep508_requirement.specs.RequirementText.{IsMarkedText}
 use Rattle.pep508_reading_back.specs.Diagrams.{IsReadableDiagram}
-use Rattle.pep508_reading_back.specs.ReadableRequirements.{IsPrintableSpecifier, IsReadableFront, ReadsRequirement}
+use Rattle.pep508_reading_back.specs.Readable.{IsPrintableSpecifier}
+use Rattle.pep508_reading_back.specs.ReadableRequirements.{IsReadableFront, ReadsRequirement}
 use Rattle.pep508_requirement_ref.specs.RequirementPrint.{extras_text, front_text, requirement_text}
 use Rattle.pep508_reading_back.proofs.Plain.{plain_ascii, ascii_by, ascii_encoded, front_chars}
 use Rattle.pep508_reading_back.proofs.Comparisons.{plain_name}

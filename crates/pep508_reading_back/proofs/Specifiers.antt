@@ -23,7 +23,7 @@ use Rattle.pep440_specifier.specs.Matching.{SpecifierRecord}
 use Rattle.pep440_specifier.specs.SpecifierPrint.{specifier_text}
 use Rattle.pep440_specifier.specs.SpecifierText.{AreSpaces, IsSpecifierText}
 use Rattle.pep440_specifier_list.specs.ListText.{AreSpecifierTexts, list_value_text}
-use Rattle.pep508_reading_back.specs.ReadableRequirements.{IsPrintableSpecifier}
+use Rattle.pep508_reading_back.specs.Readable.{IsPrintableSpecifier}
 use Rattle.pep508_reading_back.proofs.Plain.{is_plain, Plain, all_from, ascii_chars}
 use Rattle.pep508_reading_back.proofs.Patterns.{plain_append, plain_version, version_pattern, star_pattern}
 use Rattle.pep508_reading_back.proofs.Comparisons.{built_is, pattern_says, plain_star}

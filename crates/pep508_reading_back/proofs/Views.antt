@@ -171,7 +171,7 @@ said_back : {T E : Type 0} (nodes : List NodeRecord) (shown : RequirementRef T E
     SaysAt nodes shown (SaysDiagram (diagram_in (tree_in shown.marker))) shown.version_or_url.now result →
     ReadsBack nodes shown result
 said_back nodes shown (Ok r) h =
-    record { name = h.0; extras = h.1; asks = h.2; marker = λ v. h.5.truth v ∙ h.4 v }
+    record { front = record { name = h.0; extras = h.1; asks = h.2 }; marker = λ v. h.5.truth v ∙ h.4 v }
 said_back nodes shown (Err error) h = h
 
 pub view_reads_back : {T E : Type 0} (Reads : List ℕ → Result T E → Type 0) (lacks : E → Bool)

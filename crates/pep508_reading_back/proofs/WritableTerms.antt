@@ -48,11 +48,13 @@ version_writable : (key : VersionVariable) (operator : Operator) (version : Vers
 version_writable key operator version star tilde exact points h = (
   (
     record {
-      printable = h;
-      built = record {
-        local = λ e. refl;
-        numbers = λ e. absurd (false≢true (sym tilde ∙ e));
-        star = λ e. absurd (false≢true (sym star ∙ e));
+      printed = record {
+        printable = h;
+        built = record {
+          local = λ e. refl;
+          numbers = λ e. absurd (false≢true (sym tilde ∙ e));
+          star = λ e. absurd (false≢true (sym star ∙ e));
+        };
       };
       in_markers = exact;
     },

@@ -8,13 +8,14 @@ use Rattle.pep508_marker.specs.declared.keys.MarkerValueString.{MarkerValueStrin
 use Rattle.pep508_marker.specs.Keys.{is_deprecated}
 use Rattle.pep508_diagram.specs.declared.variable.Flag.{Flag}
 use Rattle.pep508_diagram.specs.declared.variable.Flag.TheVariants.{In, Contains, Extra, Arbitrary}
-use Rattle.pep508_diagram.specs.Diagram.{Diagram, Leaf, Test}
+use Rattle.pep508_diagram.specs.Diagram.{Diagram}
 use Rattle.pep508_diagram.specs.Question.{Question, VersionBelow, TextBelow, IsSet, Valuation, truth}
 use Rattle.pep508_expression.specs.Expressions.{expression_holds}
 use Rattle.pep508_marker_read.specs.Formula.{formula_holds}
 use Rattle.pep508_marker_read.specs.MarkerReading.{Marker}
 use Rattle.pep508_marker_read.specs.MarkerText.{IsMarkerText}
 use Rattle.pep508_marker_text.specs.ReleaseBounds.{IsPlainRelease}
+use Rattle.pep508_reading_back.specs.Questions.{AllQuestions}
 use Rattle.pep508_reading_back.specs.Readable.{IsQuotable}
 
 -- a version of epoch 0 and one release number or more
@@ -42,8 +43,7 @@ AsksReadably (IsSet flag) = IsReadableFlag flag
 
 -- only such values stand in the questions of the diagram
 abbrev pub IsReadableDiagram : Diagram Question → Type 0
-IsReadableDiagram (Leaf b) = Unit {0}
-IsReadableDiagram (Test q low high) = AsksReadably q × IsReadableDiagram low × IsReadableDiagram high
+IsReadableDiagram = AllQuestions AsksReadably
 
 -- the marker holds where the diagram does
 abbrev pub SaysDiagram : Diagram Question → Marker → Type 0

@@ -1,5 +1,5 @@
 -- Requirements that were read, with their interner, and what is kept of them when their print is read again.
-use Rattle.std.specs.Prelude.{◌≡◌, ℕ, List, Option, Some, None, Result, Ok, Err}
+use Rattle.std.specs.Prelude.{ℕ, List, Option, Some, None, Result, Ok, Err}
 use Rattle.pep508_error.specs.declared.error.Pep508Error.{Pep508Error}
 use Rattle.pep508_tree.specs.Meaning.{NodeRecord, Extends}
 use Rattle.pep508_requirement.specs.declared.requirement.Requirement.{Requirement}
@@ -8,7 +8,7 @@ use Rattle.pep508_requirement.specs.declared.version_or_url.VersionOrUrl.TheVari
 use Rattle.pep508_requirement.specs.RequirementReading.{IsRead}
 use Rattle.pep508_requirement_ref.specs.declared.requirement_ref.RequirementRef.{RequirementRef}
 use Rattle.pep508_requirement_ref.specs.Views.{IsViewOf}
-use Rattle.pep508_reading_back.specs.Views.{AsksAgain, IsWantOfMemory}
+use Rattle.pep508_reading_back.specs.Views.{HasFront, IsWantOfMemory}
 
 -- nothing or specifiers are asked for, and no URL
 abbrev pub AsksNoUrl : {T E : Type 0} → Option (VersionOrUrl T E) → Type 0
@@ -27,13 +27,7 @@ pub record ShowsRead {T E : Type 0} (Reads : List ℕ → Result T E → Type 0)
   pub keeps : Extends old now
   pub shows : IsViewOf now (record requirement { origin = shown.origin.now }) shown
 
--- the requirement has the name, the extras and the specifiers that are shown
-pub record HasFront {T E : Type 0} (shown : RequirementRef T E) (r : Requirement T E) : Type 0 where
-  pub name : r.name ≡ shown.name.now
-  pub extras : r.extras.items ≡ shown.extras.now
-  pub asks : AsksAgain shown.version_or_url.now r.version_or_url
-
--- a requirement that has them, or want of memory
+-- a requirement that has the name, the extras and the specifiers that are shown, or want of memory
 abbrev pub KeepsFront : {T E : Type 0} → RequirementRef T E → Result (Requirement T E) (Pep508Error T E)
     → Type 0
 KeepsFront shown (Ok r) = HasFront shown r

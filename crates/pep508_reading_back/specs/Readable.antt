@@ -16,15 +16,23 @@ use Rattle.pep508_expression.specs.Expressions.{has_points}
 use Rattle.pep508_marker_read.specs.Formula.{Says}
 use Rattle.pep508_marker_read.specs.MarkerReading.{Marker}
 
+-- no character of it is a single quote
+abbrev pub IsUnquoted : List ℕ → Type 0
+IsUnquoted text = All (λ c. (c == 39) ≡ false) (chars text)
+
 -- a text that may stand between single quotes
 pub record IsQuotable (text : List ℕ) : Type 0 where
   pub encoded : IsUtf8 text
-  pub unquoted : All (λ c. (c == 39) ≡ false) (chars text)
+  pub unquoted : IsUnquoted text
 
--- an operator and a version that go together and that a text can have; `===` is no operator of markers
-pub record IsReadableSpecifier (specifier : SpecifierRecord) : Type 0 where
+-- an operator and a version that go together and that a text can have
+pub record IsPrintableSpecifier (specifier : SpecifierRecord) : Type 0 where
   pub printable : IsPrintable specifier.version
   pub built : IsBuilt specifier
+
+-- one that a marker can have, of which `===` is no operator
+pub record IsReadableSpecifier (specifier : SpecifierRecord) : Type 0 where
+  pub printed : IsPrintableSpecifier specifier
   pub in_markers : specifier.operator ≢ ExactEqual
 
 -- a name in normal form, or a text that is no name

@@ -1,9 +1,6 @@
 -- Which requirements are read as what they print (PEP 508, "Grammar").
 use Rattle.std.specs.Prelude.{◌≡◌, ℕ, ◌<◌, List, length, Some}
 use Rattle.std.specs.List.{AllByRecursion}
-use Rattle.pep440_specifier.specs.Building.{IsBuilt}
-use Rattle.pep440_specifier.specs.Matching.{SpecifierRecord}
-use Rattle.pep440_text.specs.Printable.{IsPrintable}
 use Rattle.pep508_name.specs.Name.{name_of}
 use Rattle.pep508_diagram.specs.Diagram.{Diagram}
 use Rattle.pep508_diagram.specs.Question.{Question}
@@ -13,11 +10,7 @@ use Rattle.pep508_requirement_text.specs.FrontReading.Source.{Any, Specifiers, U
 use Rattle.pep508_requirement_text.specs.FrontReading as front
 use Rattle.pep508_requirement.specs.RequirementText.{IsMarkedText}
 use Rattle.pep508_reading_back.specs.Diagrams.{SaysDiagram}
-
--- an operator and a version that go together and that a text can have
-pub record IsPrintableSpecifier (specifier : SpecifierRecord) : Type 0 where
-  pub printable : IsPrintable specifier.version
-  pub built : IsBuilt specifier
+use Rattle.pep508_reading_back.specs.Readable.{IsPrintableSpecifier}
 
 -- nothing, or some specifiers, and no URL
 abbrev pub IsReadableSource : front.Source → Type 0

@@ -70,7 +70,7 @@ questions_of (Either f g) = questions_of f ++ questions_of g
 
 -- ---- what a text can say
 
--- a name in normal form is an extra, and no other text is a name
+-- an extra is asked for by its normal name, and otherwise by a text that is no name
 abbrev pub IsToldFlag : Flag → Type 0
 IsToldFlag (flag.In key text) = IsUtf8 text
 IsToldFlag (flag.Contains key text) = IsUtf8 text

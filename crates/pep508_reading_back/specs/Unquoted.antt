@@ -1,6 +1,5 @@
 -- Diagrams of which no text has a single quote, so that a text can have each of them between two.
-use Rattle.std.specs.Prelude.{◌≡◌, ◌≢◌, ℕ, ◌==◌, false, List, All}
-use Rattle.std.specs.Str.{chars}
+use Rattle.std.specs.Prelude.{◌≡◌, ◌≢◌, false}
 use Rattle.pep508_marker.specs.Keys.{is_deprecated}
 use Rattle.pep508_marker_text.specs.ReleaseBounds.{HasReleasesAlone}
 use Rattle.pep508_diagram.specs.declared.variable.Flag.{Flag}
@@ -9,11 +8,9 @@ use Rattle.pep508_diagram.specs.Diagram.{Diagram, Leaf}
 use Rattle.pep508_diagram.specs.Question.{Question, VersionBelow, TextBelow, IsSet}
 use Rattle.pep508_reading_back.specs.Diagrams.{StandsAt}
 use Rattle.pep508_reading_back.specs.Questions.{AllQuestions}
+use Rattle.pep508_reading_back.specs.Readable.{IsUnquoted}
 
-abbrev pub IsUnquoted : List ℕ → Type 0
-IsUnquoted text = All (λ c. (c == 39) ≡ false) (chars text)
-
--- in a name there is none
+-- a name has no quote
 abbrev pub IsUnquotedFlag : Flag → Type 0
 IsUnquotedFlag (In key text) = IsUnquoted text
 IsUnquotedFlag (Contains key text) = IsUnquoted text

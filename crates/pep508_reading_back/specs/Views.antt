@@ -16,7 +16,7 @@ use Rattle.pep508_requirement.specs.declared.version_or_url.VersionOrUrl.{Versio
 use Rattle.pep508_requirement.specs.declared.version_or_url.VersionOrUrl.TheVariants as asked
 use Rattle.pep508_requirement_ref.specs.declared.requirement_ref.RequirementRef.{RequirementRef}
 use Rattle.pep508_reading_back.specs.Diagrams.{IsReadableDiagram}
-use Rattle.pep508_reading_back.specs.ReadableRequirements.{IsPrintableSpecifier}
+use Rattle.pep508_reading_back.specs.Readable.{IsPrintableSpecifier}
 
 -- nothing, or some specifiers, which stand by version as in each list of them, and no URL
 abbrev pub IsReadableAsked : {T E : Type 0} → Option (VersionOrUrl T E) → Type 0
@@ -39,12 +39,16 @@ AsksAgain None None = Unit {0}
 AsksAgain (Some (asked.VersionSpecifier given)) (Some (asked.VersionSpecifier list)) = given ≡ list
 AsksAgain what other = ⊥
 
--- the requirement says what is shown; its marker is a tree of these nodes
-pub record SaysShown {T E : Type 0} (nodes : List NodeRecord) (shown : RequirementRef T E)
-    (r : Requirement T E) : Type 0 where
+-- the requirement has the name, the extras and the specifiers that are shown
+pub record HasFront {T E : Type 0} (shown : RequirementRef T E) (r : Requirement T E) : Type 0 where
   pub name : r.name ≡ shown.name.now
   pub extras : r.extras.items ≡ shown.extras.now
   pub asks : AsksAgain shown.version_or_url.now r.version_or_url
+
+-- and its marker, a tree of these nodes, means what the shown one does
+pub record SaysShown {T E : Type 0} (nodes : List NodeRecord) (shown : RequirementRef T E)
+    (r : Requirement T E) : Type 0 where
+  pub front : HasFront shown r
   pub marker : (v : Valuation) → holds nodes r.marker v ≡ truth (diagram_in (tree_in shown.marker)) v
 
 abbrev pub IsWantOfMemory : {T E : Type 0} → Pep508ErrorSource T E → Type 0

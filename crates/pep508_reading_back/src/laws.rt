@@ -1,6 +1,6 @@
 //! Laws over the definitions. The functions do nothing: each one's contract is its law.
 ghost use Rattle.std.specs.Prelude.{◌≡◌, ◌≢◌, ℕ, false, List, Option, Some, None};
-ghost use Rattle.std.specs.Str.{chars, IsUtf8};
+ghost use Rattle.std.specs.Str.{chars};
 ghost use Rattle.pep508_marker.specs.Expression.{ExpressionRecord, expression_text};
 ghost use Rattle.pep508_diagram.specs.Diagram.{Diagram, Leaf};
 ghost use Rattle.pep508_diagram.specs.Question.{Question, Valuation, truth, IsCanonical};
@@ -41,8 +41,8 @@ use pep508_requirement_ref::RequirementRef;
 use pep508_url::Pep508Url;
 use std::fmt;
 
-/// A printed comparison is read as that very comparison; a warning tells of an extra whose text is no name,
-/// and of nothing else.
+/// A printed comparison that a text can have is read as that very comparison; a warning tells of an extra whose
+/// text is no name, and of nothing else.
 pub fn a_printed_comparison_is_read()
     ensures { (term : ExpressionRecord) → IsReadable term
         → IsMarkerText (chars (expression_text term)) (marker_of term) }
@@ -63,8 +63,9 @@ pub fn a_printed_marker_means_its_diagram()
         → diagram ≢ Leaf false → marker_text diagram ≡ Some text → ReadsDiagram (chars text) diagram }
 {}
 
-/// A printed requirement without a URL is read with its name, its extras and its specifiers: without a
-/// marker, and with whatever marker is read of the text behind the `;`.
+/// A printed requirement without a URL, whose names are normal and whose specifiers a text can have, is read
+/// with its name, its extras and its specifiers: without a marker, and with whatever marker is read of the text
+/// behind the `;`.
 pub fn a_printed_requirement_is_read()
     ensures plain { (front : Front) → IsReadableFront front
         → IsMarkedText (requirement_text front None) front no_marker }
@@ -72,8 +73,8 @@ pub fn a_printed_requirement_is_read()
         → IsMarkerText (chars text) marker → IsMarkedText (requirement_text front (Some text)) front marker }
 {}
 
-/// So a requirement that is printed with the text of a diagram is read with a marker that holds exactly where
-/// the diagram does; where that is always, no marker is written.
+/// So such a requirement that is printed with the text of such a diagram is read with a marker that holds
+/// exactly where the diagram does; where that is always, no marker is written.
 pub fn a_printed_requirement_means_its_diagram()
     ensures { (front : Front) (diagram : Diagram Question) → IsReadableFront front → IsCanonical diagram
         → IsReadableDiagram diagram → diagram ≢ Leaf false
@@ -94,7 +95,7 @@ pub fn a_printed_requirement_reads_back<T: Pep508Url>()
     a_written_requirement_is_read();
 }
 
-/// What a requirement without a URL prints with its interner, as its `to_string` gives it, is read by
+/// What such a requirement prints with its interner, as its `to_string` gives it, is read by
 /// `Requirement::parse` with any interner, unless memory runs out: with its name, its extras and its
 /// specifiers, and a tree that means what its marker does.
 pub fn a_printed_view_reads_back<'a, T: Pep508Url>(shown: &RequirementRef<'a, T>)
@@ -116,8 +117,8 @@ pub fn a_printed_marker_is_a_marker()
         → marker_text diagram ≡ Some text → (marker : Marker) × IsMarkerText (chars text) marker }
 {}
 
-/// A marker whose truth some questions settle asks these questions alone, up to the spelling of equal
-/// versions.
+/// The diagram of a marker whose truth some questions settle asks these questions alone, up to the spelling of
+/// equal versions.
 pub fn a_marker_asks_what_its_meaning_asks()
     ensures { (asked : List Question) (diagram : Diagram Question) → IsCanonical diagram
         → ((v w : Valuation) → AnswerAlike asked v w → truth diagram v ≡ truth diagram w)
@@ -130,21 +131,21 @@ pub fn a_formula_hangs_on_its_questions()
         formula_holds (λ t. expression_holds t v) f ≡ formula_holds (λ t. expression_holds t w) f }
 {}
 
-/// The diagram of a marker that was read of a text asks for what texts can say alone: for versions and texts
-/// that could stand in it, and for extras by their normal names.
-pub fn a_read_marker_asks_what_texts_say()
-    ensures { (text : List ℕ) (front : Front) (marker : Marker) (diagram : Diagram Question) → IsUtf8 text
-        → IsMarkedText text front marker → IsCanonical diagram → HasShortVersions diagram
+/// The diagram of a marker that was read of a text, as interners keep it, asks for what texts can say alone: for
+/// versions and texts that could stand in it, and for extras by their normal names.
+pub fn a_read_marker_asks_what_texts_say(text: &str)
+    ensures { (front : Front) (marker : Marker) (diagram : Diagram Question)
+        → IsMarkedText text.now front marker → IsCanonical diagram → HasShortVersions diagram
         → SaysDiagram diagram marker → AllQuestions IsTold diagram }
 {}
 
 /// What a requirement that was read without a URL prints with its interner is read by `Requirement::parse`
 /// with any interner, unless memory runs out, with its name, its extras and its specifiers: where no text of
 /// its marker has a single quote, which a text in double quotes may have.
-pub fn a_read_requirement_reads_back<'a, T: Pep508Url>(shown: &RequirementRef<'a, T>)
-    ensures { (vars others : Variables) (directory other : Option (List ℕ)) (given text : List ℕ)
-        (nodes : List NodeRecord) (answer : _) → IsUtf8 given
-        → ShowsRead (λ url. T.reads vars url directory) given shown.now
+pub fn a_read_requirement_reads_back<'a, T: Pep508Url>(given: &str, shown: &RequirementRef<'a, T>)
+    ensures { (vars others : Variables) (directory other : Option (List ℕ)) (text : List ℕ)
+        (nodes : List NodeRecord) (answer : _)
+        → ShowsRead (λ url. T.reads vars url directory) given.now shown.now
         → AsksNoUrl shown.now.version_or_url.now
         → IsUnquotedDiagram (diagram_in (tree_in shown.now.marker))
         → ⟦<RequirementRef<'a, T> as fmt::Display>⟧.output shown.now ≡ Some text
@@ -160,10 +161,10 @@ pub fn a_read_requirement_reads_back<'a, T: Pep508Url>(shown: &RequirementRef<'a
 /// The marker of a requirement that was read without a URL reads back too, as a tree that means the same:
 /// where its texts have no single quote, its versions are releases of epoch 0, its keys are no old names, and
 /// it sometimes holds.
-pub fn a_read_marker_reads_back<'a, T: Pep508Url>(shown: &RequirementRef<'a, T>)
-    ensures { (vars others : Variables) (directory other : Option (List ℕ)) (given text : List ℕ)
-        (nodes : List NodeRecord) (answer : _) → IsUtf8 given
-        → ShowsRead (λ url. T.reads vars url directory) given shown.now
+pub fn a_read_marker_reads_back<'a, T: Pep508Url>(given: &str, shown: &RequirementRef<'a, T>)
+    ensures { (vars others : Variables) (directory other : Option (List ℕ)) (text : List ℕ)
+        (nodes : List NodeRecord) (answer : _)
+        → ShowsRead (λ url. T.reads vars url directory) given.now shown.now
         → AsksNoUrl shown.now.version_or_url.now → IsPlainDiagram (diagram_in (tree_in shown.now.marker))
         → ⟦<RequirementRef<'a, T> as fmt::Display>⟧.output shown.now ≡ Some text
         → reading.ReadsRequirement (λ url. T.reads others url other) T.lacks_memory others nodes text answer
