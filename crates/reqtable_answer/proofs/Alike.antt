@@ -1,15 +1,14 @@
 -- Asks that say the same of each package have the same answers.
-use Rattle.std.proofs.Common.{◌≡◌, ℕ, Bool, cond, not, ◌&&◌, List, [], ◌∷◌, filter, sym, ap, ◌∙◌}
-use Rattle.std.specs.List.{list_any, list_all, AllByRecursion}
+use Rattle.std.proofs.Common.{◌≡◌, ℕ, Bool, cond, not, ◌&&◌, List, [], ◌∷◌, filter, option_map, sym, ap, subst, ◌∙◌}
+use Rattle.std.specs.List.{list_any, list_all, enumerate_from, AllByRecursion}
 use Rattle.std.specs.List.Sorted.{IsPermutation}
-use Rattle.std.specs.Str.{bytes_eq}
 use Rattle.std.proofs.lemmas.List.Sorted.{list_any-IsPermutation}
 use Rattle.reqtable_answer.proofs.Tests.{any_kept, all_any}
 use Rattle.pep440_version.specs.Record.{VersionRecord}
 use Rattle.pep508_requirement_text.specs.FrontReading.{Front}
 use Rattle.reqtable_text.specs.declared.candidates.Candidate.{Candidate}
-use Rattle.reqtable_answer.specs.Asks.{is_of, has_extra, has_url, ask_takes, has_prerelease, names_prerelease}
-use Rattle.reqtable_answer.specs.Answer.{Admits, RowRecord, IsRow, IsAnswer, outcome_of, chosen, greatest_place}
+use Rattle.reqtable_answer.specs.Asks.{is_of, has_extra, has_url, ask_takes, has_prerelease, names_prerelease, is_candidate}
+use Rattle.reqtable_answer.specs.Answer.{Admits, RowRecord, IsRowOf, IsRow, IsAnswer, outcome_of, chosen, first_greatest, by_version}
 use Rattle.reqtable_answer.specs.declared.answer.Outcome.TheVariants.{Direct}
 
 -- the same of one package
@@ -24,32 +23,28 @@ pub record AreAlike (asks others : List Front) : Type 0 where
   pub same : (name : List ℕ) → SayTheSame (filter (is_of name) asks) (filter (is_of name) others)
 
 module _ (admits : Admits) (candidates : List Candidate) where
-  pub same_outcome : (asks others : List Front) (name : List ℕ) → SayTheSame asks others
-      → outcome_of admits asks candidates name ≡ outcome_of admits others candidates name
-  unfolding outcome_of
-  same_outcome asks others name same =
-      let places : greatest_place (λ c. bytes_eq name c.name && (list_all (ask_takes c.version) asks && admits c.version (names_prerelease asks))) candidates
-      ≡ greatest_place (λ c. bytes_eq name c.name && (list_all (ask_takes c.version) others && admits c.version (names_prerelease others))) candidates =
-      λ i. greatest_place (λ c. bytes_eq name c.name && (same.takes c.version i && admits c.version (same.prereleases i))) candidates in
-      λ i. cond (same.urls i) Direct (chosen (places i))
+  abbrev numbered : List ℕ → List (ℕ × Candidate)
+  numbered name = filter (is_candidate name) (enumerate_from 0 candidates)
+
+  same_outcome : (asks others : List Front) (own : List (ℕ × Candidate)) → SayTheSame asks others
+      → outcome_of admits asks own ≡ outcome_of admits others own
+  same_outcome asks others own same =
+      λ i. cond (same.urls i) Direct (chosen (option_map (λ c. c.0)
+      (first_greatest by_version (filter (λ c. same.takes c.1.version i && admits c.1.version (same.prereleases i)) own))))
 
   pub same_row : (asks others : List Front) → AreAlike asks others → (row : RowRecord)
       → IsRow admits asks candidates row → IsRow admits others candidates row
   same_row asks others alike row is = record {
     extras_rise = is.extras_rise;
     extras_are = λ extra. is.extras_are extra ∙ (alike.same row.name).extras extra;
-    outcome = is.outcome ∙ same_outcome (filter (is_of row.name) asks) (filter (is_of row.name) others) row.name (alike.same row.name);
+    outcome = is.outcome ∙ same_outcome (filter (is_of row.name) asks) (filter (is_of row.name) others) (numbered row.name) (alike.same row.name);
   }
 
   -- a row goes by what is asked of its package
   pub row_by_its_asks : (asks others : List Front) (row : RowRecord)
       → filter (is_of row.name) asks ≡ filter (is_of row.name) others
       → IsRow admits asks candidates row → IsRow admits others candidates row
-  row_by_its_asks asks others row same is = record {
-    extras_rise = is.extras_rise;
-    extras_are = λ extra. is.extras_are extra ∙ ap (list_any (has_extra extra)) same;
-    outcome = is.outcome ∙ ap (λ xs. outcome_of admits xs candidates row.name) same;
-  }
+  row_by_its_asks asks others row same is = subst (λ xs. IsRowOf admits xs (numbered row.name) row) same is
 
   same_rows : (asks others : List Front) → AreAlike asks others → (rows : List RowRecord)
       → AllByRecursion (IsRow admits asks candidates) rows → AllByRecursion (IsRow admits others candidates) rows

@@ -1,5 +1,5 @@
 -- Groups by package: what is in them, and the rows of them.
-use Rattle.std.proofs.Common.{◌≡◌, ℕ, ◌+◌, ◌<◌, ◌≤◌, take, get_or, Bor, Bool, true, false, cond, ◌&&◌, ◌||◌, List, [], ◌∷◌, ◌++◌, All, filter, map, length, option_map, refl, sym, ap, subst, arith, append-nil, append_assoc, Option, Some, is_some, true≢false, ◌∙◌}
+use Rattle.std.proofs.Common.{◌≡◌, ℕ, ◌+◌, ◌<◌, ◌≤◌, take, get_or, Bor, Bool, true, false, cond, ◌&&◌, ◌||◌, List, [], ◌∷◌, ◌++◌, All, filter, map, length, refl, sym, ap, subst, arith, append-nil, append_assoc, Option, Some, is_some, true≢false, ◌∙◌}
 use Rattle.std.proofs.lemmas.List.{length-map, get_or-map, length-take-le, take_more, map-append}
 use Rattle.std.proofs.lemmas.List.Elements.{filter-append, All-nil, All-cons}
 use Rattle.std.proofs.lemmas.List.FromFn.{length-enumerate_from, get_or-enumerate_from}
@@ -10,28 +10,17 @@ use Rattle.std.specs.Option.{option_map_or}
 use Rattle.std.specs.BTreeMap.{BTreeMap}
 use Rattle.pep508_requirement_text.specs.FrontReading.{Front}
 use Rattle.reqtable_text.specs.declared.candidates.Candidate.{Candidate}
-use Rattle.reqtable_answer.specs.declared.answer.Outcome.TheVariants.{Direct}
 use Rattle.reqtable_answer.specs.declared.choosing.Numbered.{Numbered}
 use Rattle.reqtable_answer.specs.declared.grouping.Group.{Group}
-use Rattle.reqtable_answer.specs.Asks.{is_of, has_url}
-use Rattle.reqtable_answer.specs.Answer.{Admits, RowRecord, IsRow, outcome_of, chosen, first_greatest, by_version}
+use Rattle.reqtable_answer.specs.Asks.{is_of, is_candidate}
+use Rattle.reqtable_answer.specs.Answer.{Admits, RowRecord, IsRowOf, IsRow}
 use Rattle.reqtable_answer.specs.declared.answer.Row.{Row}
 use Rattle.reqtable_answer.specs.Rows.{row_seen}
 use Rattle.reqtable_answer.specs.Says.{Asked, ask_seen, asks_seen}
 use Rattle.reqtable_answer.proofs.Tests.{same_bytes}
-use Rattle.reqtable_answer.specs.Groups.{group_of, has_group, candidates_for, IsRowOf, is_candidate, numbered_seen, passes, outcome_among}
+use Rattle.reqtable_answer.specs.Groups.{group_of, has_group, candidates_for, numbered_seen}
 
 -- ---- filters
-
-kept_twice_by : {X : Type 0} (p q : X → Bool) (x : X) (xs : List X) (b : Bool) → p x ≡ b
-    → filter (λ y. p y && q y) xs ≡ filter q (filter p xs)
-    → cond (b && q x) (x ∷ filter (λ y. p y && q y) xs) (filter (λ y. p y && q y) xs) ≡ filter q (cond b (x ∷ filter p xs) (filter p xs))
-kept_twice_by p q x xs true h rest = ap (λ l. cond (q x) (x ∷ l) l) rest
-kept_twice_by p q x xs false h rest = rest
-
-pub kept_twice : {X : Type 0} (p q : X → Bool) (xs : List X) → filter (λ y. p y && q y) xs ≡ filter q (filter p xs)
-kept_twice p q [] = refl
-kept_twice p q (x ∷ xs) = kept_twice_by p q x xs (p x) refl (kept_twice p q xs)
 
 all_kept_by : {X : Type 0} (p : X → Bool) (x : X) (xs : List X) (b : Bool) → p x ≡ b → list_all p xs ≡ true
     → list_all p (cond b (x ∷ xs) xs) ≡ true
@@ -177,24 +166,12 @@ first_named q (a ∷ asks) d h all =
 
 -- ---- rows
 
--- what becomes of a package goes by its own candidates alone
-pub outcome_by_its_own : (admits : Admits) (asks : List Front) (candidates : List Candidate) (name : List ℕ)
-    → outcome_of admits asks candidates name ≡ outcome_among admits asks (filter (is_candidate name) (enumerate_from 0 candidates))
-unfolding outcome_of
-outcome_by_its_own admits asks candidates name =
-    ap (λ found. cond (list_any has_url asks) Direct (chosen (option_map (λ c. c.0) (first_greatest by_version found))))
-    (kept_twice (is_candidate name) (passes admits asks) (enumerate_from 0 candidates))
-
 pub row_is : (admits : Admits) (all : List Front) (candidates : List Candidate) (group : List Front) (numbered : List (ℕ × Candidate)) (row : RowRecord)
     → group ≡ filter (is_of row.name) all → numbered ≡ filter (is_candidate row.name) (enumerate_from 0 candidates)
     → IsRowOf admits group numbered row → IsRow admits all candidates row
-row_is admits all candidates group numbered row g n is = record {
-  extras_rise = is.extras_rise;
-  extras_are = λ extra. is.extras_are extra ∙ ap (list_any (λ ask. list_any (bytes_eq extra) ask.extras)) g;
-  outcome =
-      is.outcome ∙ (λ i. outcome_among admits (g i) (n i))
-      ∙ sym (outcome_by_its_own admits (filter (is_of row.name) all) candidates row.name);
-}
+row_is admits all candidates group numbered row g n is =
+    let by_asks = subst (λ asks. IsRowOf admits asks numbered row) g is in
+    subst (λ own. IsRowOf admits (filter (is_of row.name) all) own row) n by_asks
 
 pub rows_more : (P : RowRecord → Type 0) (rows : List RowRecord) (row : RowRecord) → AllByRecursion P rows → P row → AllByRecursion P (rows ++ row ∷ [])
 rows_more P [] row all one = (one, tt)

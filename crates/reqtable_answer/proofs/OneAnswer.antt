@@ -1,6 +1,6 @@
 -- What is asked has one answer.
 use Rattle.std.proofs.Common.{◌≡◌, ℕ, List, [], ◌∷◌, map, filter, sym, ap, refl, ◌∙◌}
-use Rattle.std.specs.List.{list_any, AllByRecursion}
+use Rattle.std.specs.List.{list_any, enumerate_from, AllByRecursion}
 use Rattle.std.specs.List.Sorted.{IsStrictlySortedBy}
 use Rattle.std.specs.BTreeSet.{BTreeSet}
 use Rattle.std.specs.BTreeMap.{is_at}
@@ -12,7 +12,7 @@ use Rattle.std.proofs.lemmas.Map.Lookups.{btree_set_from_contains, exact_bytes}
 use Rattle.std.proofs.lemmas.Map.Text.{is_eq-slice_cmp}
 use Rattle.pep508_requirement_text.specs.FrontReading.{Front}
 use Rattle.reqtable_text.specs.declared.candidates.Candidate.{Candidate}
-use Rattle.reqtable_answer.specs.Asks.{is_of}
+use Rattle.reqtable_answer.specs.Asks.{is_of, is_candidate}
 use Rattle.reqtable_answer.specs.Answer.{Admits, RowRecord, IsRow, IsAnswer, IsAnswerText, answer_text, outcome_of}
 
 any_at : (q : List ℕ) (xs : List (List ℕ)) → list_any (is_at (slice_cmp nat_cmp q)) xs ≡ list_any (bytes_eq q) xs
@@ -33,7 +33,7 @@ module _ (admits : Admits) (asks : List Front) (candidates : List Candidate) whe
       let extras : r.extras ≡ s.extras =
       same_texts r.extras s.extras a.extras_rise b.extras_rise
       (λ q. a.extras_are q ∙ ap (λ m. list_any (λ ask. list_any (bytes_eq q) ask.extras) (filter (is_of m) asks)) n ∙ sym (b.extras_are q)) in
-      let outcome : r.outcome ≡ s.outcome = a.outcome ∙ ap (λ m. outcome_of admits (filter (is_of m) asks) candidates m) n ∙ sym b.outcome in
+      let outcome : r.outcome ≡ s.outcome = a.outcome ∙ ap (λ m. outcome_of admits (filter (is_of m) asks) (filter (is_candidate m) (enumerate_from 0 candidates))) n ∙ sym b.outcome in
       λ i. record { name = n i; extras = extras i; outcome = outcome i }
 
   one_list : (rs ss : List RowRecord) → map (λ row. row.name) rs ≡ map (λ row. row.name) ss

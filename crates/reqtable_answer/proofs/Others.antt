@@ -12,10 +12,9 @@ use Rattle.pep508_requirement_text.specs.FrontReading.{Front}
 use Rattle.reqtable_text.specs.declared.candidates.Candidate.{Candidate}
 use Rattle.reqtable_answer.specs.declared.answer.Outcome.{Outcome}
 use Rattle.reqtable_answer.specs.declared.answer.Outcome.TheVariants.{Direct}
-use Rattle.reqtable_answer.specs.Asks.{is_of, has_url, ask_takes, names_prerelease, may_be_taken}
-use Rattle.reqtable_answer.specs.Answer.{Admits, RowRecord, IsRow, outcome_of, chosen, first_greatest, by_version, passing, greatest_place, outcome_text, extras_text, row_text}
+use Rattle.reqtable_answer.specs.Asks.{is_of, has_url, ask_takes, names_prerelease, is_candidate, may_be_taken}
+use Rattle.reqtable_answer.specs.Answer.{Admits, RowRecord, IsRow, outcome_of, chosen, first_greatest, by_version, outcome_text, extras_text, row_text}
 use Rattle.reqtable_answer.proofs.OneAnswer.{same_texts}
-use Rattle.reqtable_answer.proofs.ByPackage.{kept_twice}
 
 -- ---- places
 
@@ -60,12 +59,16 @@ mapped_by : {X Y : Type 0} (g : X → Y) (b : Bool) (x : X) (xs : List X) (ys : 
 mapped_by g true x xs ys h = ap (λ l. g x ∷ l) h
 mapped_by g false x xs ys h = h
 
-values_kept : {X : Type 0} (test : X → Bool) (n : ℕ) (xs : List X)
-    → map {A = ℕ × X} (λ c. c.1) (filter (λ c. test c.1) (enumerate_from n xs)) ≡ filter test xs
-values_kept test n [] = refl
-values_kept {X = X} test n (x ∷ xs) =
+values_kept : {X : Type 0} (test : X → Bool) (xs : List (ℕ × X))
+    → map {A = ℕ × X} (λ c. c.1) (filter (λ c. test c.1) xs) ≡ filter test (map (λ c. c.1) xs)
+values_kept test [] = refl
+values_kept {X = X} test (x ∷ xs) =
     let value : ℕ × X → X = λ c. c.1 in
-    mapped_by value (test x) (n, x) (filter (λ c. test c.1) (enumerate_from (n + 1) xs)) (filter test xs) (values_kept test (n + 1) xs)
+    mapped_by value (test x.1) x (filter (λ c. test c.1) xs) (filter test (map value xs)) (values_kept test xs)
+
+values : {X : Type 0} (n : ℕ) (xs : List X) → map {A = ℕ × X} (λ c. c.1) (enumerate_from n xs) ≡ xs
+values n [] = refl
+values n (x ∷ xs) = ap (λ l. x ∷ l) (values (n + 1) xs)
 
 find_by : {X Y : Type 0} (g : X → Y) (b : Bool) (x : X) (rest : Option X) (other : Option Y) → option_map g rest ≡ other
     → option_map g (cond b (Some x) rest) ≡ cond b (Some (g x)) other
@@ -100,15 +103,21 @@ chosen_text : (candidates : List Candidate) (best : Option (ℕ × Candidate)) �
 chosen_text candidates None h = refl
 chosen_text candidates (Some c) h = ap (λ o. option_map_or (λ d. version_text d.version) o []) h
 
-greatest_text : (candidates : List Candidate) (test : Candidate → Bool)
-    → outcome_text candidates (chosen (greatest_place test candidates)) ≡ text_of (first_greatest cmp (filter test candidates))
-greatest_text candidates test =
+greatest_text : (candidates : List Candidate) (own test : Candidate → Bool)
+    → outcome_text candidates (chosen (option_map (λ c. c.0)
+    (first_greatest by_version (filter (λ c. test c.1) (filter (λ c. own c.1) (enumerate_from 0 candidates))))))
+    ≡ text_of (first_greatest cmp (filter test (filter own candidates)))
+greatest_text candidates own test =
     let P : ℕ × Candidate → Type 0 = λ c. slice_get candidates c.0 ≡ Some c.1 in
-    let hold : AllByRecursion P (enumerate_from 0 candidates) = places_hold candidates [] candidates 0 refl refl in
-    let some = passing test candidates in
-    let kept : AllByRecursion P some = all_kept P (λ c. test c.1) (enumerate_from 0 candidates) hold in
+    let all : List (ℕ × Candidate) = enumerate_from 0 candidates in
+    let its : List (ℕ × Candidate) = filter (λ c. own c.1) all in
+    let some : List (ℕ × Candidate) = filter (λ c. test c.1) its in
+    let hold : AllByRecursion P all = places_hold candidates [] candidates 0 refl refl in
+    let kept : AllByRecursion P some = all_kept P (λ c. test c.1) its (all_kept P (λ c. own c.1) all hold) in
+    let values_are : map value some ≡ filter test (filter own candidates) =
+    values_kept test its ∙ ap (filter test) (values_kept own all ∙ ap (filter own) (values 0 candidates)) in
     chosen_text candidates (first_greatest by_version some) (found P (λ x. list_all (λ y. not (is_gt (by_version y x))) some) some kept)
-    ∙ ap text_of (greatest_value some ∙ ap (first_greatest cmp) (values_kept test 0 candidates))
+    ∙ ap text_of (greatest_value some ∙ ap (first_greatest cmp) values_are)
 
 direct_by : (b : Bool) (cs ds : List Candidate) (x y : Outcome) → outcome_text cs x ≡ outcome_text ds y
     → outcome_text cs (cond b Direct x) ≡ outcome_text ds (cond b Direct y)
@@ -118,16 +127,22 @@ direct_by false cs ds x y h = h
 abbrev of_name : List ℕ → Candidate → Bool
 of_name name candidate = bytes_eq name candidate.name
 
+-- what becomes of a package for these asks
+abbrev outcome_in : Admits → List Front → List ℕ → List Candidate → Outcome
+outcome_in admits asks name cs = outcome_of admits asks (filter (is_candidate name) (enumerate_from 0 cs))
+
+abbrev taken_in : Admits → List Front → List ℕ → List Candidate → Outcome
+taken_in admits asks name cs =
+    chosen (option_map (λ c. c.0) (first_greatest by_version (filter (may_be_taken admits asks) (filter (is_candidate name) (enumerate_from 0 cs)))))
+
 same_outcome_text : (admits : Admits) (asks : List Front) (cs ds : List Candidate) (name : List ℕ)
     → filter (of_name name) cs ≡ filter (of_name name) ds
-    → outcome_text cs (outcome_of admits asks cs name) ≡ outcome_text ds (outcome_of admits asks ds name)
-unfolding outcome_of
+    → outcome_text cs (outcome_in admits asks name cs) ≡ outcome_text ds (outcome_in admits asks name ds)
 same_outcome_text admits asks cs ds name same =
-    let test = may_be_taken admits name asks in
-    let rest : Candidate → Bool = λ c. list_all (ask_takes c.version) asks && admits c.version (names_prerelease asks) in
-    let alike : filter test cs ≡ filter test ds = kept_twice (of_name name) rest cs ∙ ap (filter rest) same ∙ sym (kept_twice (of_name name) rest ds) in
-    direct_by (list_any has_url asks) cs ds (chosen (greatest_place test cs)) (chosen (greatest_place test ds))
-    (greatest_text cs test ∙ ap (λ l. text_of (first_greatest cmp l)) alike ∙ sym (greatest_text ds test))
+    let test : Candidate → Bool = λ c. list_all (ask_takes c.version) asks && admits c.version (names_prerelease asks) in
+    direct_by (list_any has_url asks) cs ds (taken_in admits asks name cs) (taken_in admits asks name ds)
+    (greatest_text cs (of_name name) test ∙ ap (λ l. text_of (first_greatest cmp (filter test l))) same
+    ∙ sym (greatest_text ds (of_name name) test))
 
 pub same_line : (admits : Admits) (asks : List Front) (cs ds : List Candidate) (row other : RowRecord) → IsRow admits asks cs row
     → IsRow admits asks ds other → row.name ≡ other.name → filter (of_name row.name) cs ≡ filter (of_name row.name) ds
@@ -138,5 +153,5 @@ same_line admits asks cs ds row other a b n same =
     (λ q. a.extras_are q ∙ ap (λ m. list_any (λ ask. list_any (bytes_eq q) ask.extras) (filter (is_of m) asks)) n ∙ sym (b.extras_are q)) in
     let outcome : outcome_text cs row.outcome ≡ outcome_text ds other.outcome =
     ap (outcome_text cs) a.outcome ∙ same_outcome_text admits (filter (is_of row.name) asks) cs ds row.name same
-    ∙ ap (λ m. outcome_text ds (outcome_of admits (filter (is_of m) asks) ds m)) n ∙ sym (ap (outcome_text ds) b.outcome) in
+    ∙ ap (λ m. outcome_text ds (outcome_in admits (filter (is_of m) asks) m ds)) n ∙ sym (ap (outcome_text ds) b.outcome) in
     λ i. n i ++ (extras_text (extras i) ++ (codes " " ++ (outcome i ++ codes "\n")))

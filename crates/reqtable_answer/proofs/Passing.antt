@@ -7,9 +7,9 @@ use Rattle.pep440_version.specs.OrderLaws.{version_cmp_total}
 use Rattle.pep508_requirement_text.specs.FrontReading.{Front}
 use Rattle.reqtable_text.specs.declared.candidates.Candidate.{Candidate}
 use Rattle.reqtable_answer.specs.declared.answer.Outcome.TheVariants.{Direct}
-use Rattle.reqtable_answer.specs.Asks.{has_url, has_prerelease, ask_takes}
-use Rattle.reqtable_answer.specs.Answer.{Admits, first_greatest, by_version, chosen}
-use Rattle.reqtable_answer.specs.Groups.{passes, passes_by, outcome_among}
+use Rattle.reqtable_answer.specs.Asks.{has_url, has_prerelease, ask_takes, may_be_taken}
+use Rattle.reqtable_answer.specs.Answer.{Admits, first_greatest, by_version, chosen, outcome_of}
+use Rattle.reqtable_answer.specs.Groups.{passes_by}
 use Rattle.reqtable_answer.specs.Says.{Asked, ask_seen, asks_seen}
 use Rattle.reqtable_answer.proofs.Tests.{any_mapped}
 
@@ -18,20 +18,20 @@ by_version_total = on_total (λ c. c.1.version) version_cmp_total
 
 -- the tests by requirements are those by what they say
 pub passes_same : (admits : Admits) (asks : List (Bor Asked)) (prerelease : Bool)
-    → prerelease ≡ list_any (λ ask. has_prerelease (ask_seen ask.now)) asks → passes_by admits asks prerelease ≡ passes admits (asks_seen asks)
+    → prerelease ≡ list_any (λ ask. has_prerelease (ask_seen ask.now)) asks → passes_by admits asks prerelease ≡ may_be_taken admits (asks_seen asks)
 passes_same admits asks prerelease h =
     let seen : Bor Asked → Front = λ ask. ask_seen ask.now in
     let named = h ∙ sym (any_mapped has_prerelease seen asks) in
     λ i c. sym (list_all-map (ask_takes c.1.version) seen asks) i && admits c.1.version (named i)
 
 pub direct_is : (admits : Admits) (asks : List Front) (candidates : List (ℕ × Candidate)) → list_any has_url asks ≡ true
-    → Direct ≡ outcome_among admits asks candidates
+    → Direct ≡ outcome_of admits asks candidates
 direct_is admits asks candidates h =
-    sym (ap (λ b. cond b Direct (chosen (option_map (λ c. c.0) (first_greatest by_version (filter (passes admits asks) candidates))))) h)
+    sym (ap (λ b. cond b Direct (chosen (option_map (λ c. c.0) (first_greatest by_version (filter (may_be_taken admits asks) candidates))))) h)
 
 pub chosen_is : (admits : Admits) (asks : List Front) (candidates : List (ℕ × Candidate)) → list_any has_url asks ≡ false
-    → (found : Option (ℕ × Candidate)) → found ≡ first_greatest by_version (filter (passes admits asks) candidates)
-    → chosen (option_map (λ c. c.0) found) ≡ outcome_among admits asks candidates
+    → (found : Option (ℕ × Candidate)) → found ≡ first_greatest by_version (filter (may_be_taken admits asks) candidates)
+    → chosen (option_map (λ c. c.0) found) ≡ outcome_of admits asks candidates
 chosen_is admits asks candidates h found is =
     ap (λ f. chosen (option_map (λ c. c.0) f)) is
-    ∙ sym (ap (λ b. cond b Direct (chosen (option_map (λ c. c.0) (first_greatest by_version (filter (passes admits asks) candidates))))) h)
+    ∙ sym (ap (λ b. cond b Direct (chosen (option_map (λ c. c.0) (first_greatest by_version (filter (may_be_taken admits asks) candidates))))) h)

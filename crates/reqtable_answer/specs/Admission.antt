@@ -3,7 +3,8 @@ use Rattle.std.specs.Prelude.{◌≡◌, Bool}
 use Rattle.std.specs.Borrow.{Bor}
 use Rattle.pep440_version.specs.Record.{VersionRecord}
 
--- whether a version may be taken, by the version and by whether some specifier names a pre-release
+-- whether a version may be taken, by the version and by whether some specifier has a pre-release or
+-- developmental release
 abbrev pub Admits : Type 0
 Admits = VersionRecord → Bool → Bool
 

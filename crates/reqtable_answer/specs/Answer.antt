@@ -1,6 +1,6 @@
 -- The answer to what is asked of packages, by whole lists: which packages have a row, what stands in it, and
 -- the rows' text.
-use Rattle.std.specs.Prelude.{◌≡◌, ℕ, Bool, not, List, [], ◌∷◌, ◌++◌, map, filter, find, codes}
+use Rattle.std.specs.Prelude.{◌≡◌, ℕ, not, List, [], ◌∷◌, ◌++◌, map, filter, find, codes}
 use Rattle.std.specs.Prelude.{Option, Some, None, option_map, if◌then◌else◌}
 use Rattle.std.specs.Option.{option_map_or}
 use Rattle.std.specs.List.{list_any, list_all, enumerate_from, flat_map, join_with_byte, slice_get}
@@ -17,7 +17,7 @@ use Rattle.reqtable_text.specs.declared.candidates.Candidate.{Candidate}
 use Rattle.reqtable_answer.specs.declared.answer.Outcome.{Outcome}
 use Rattle.reqtable_answer.specs.declared.answer.Outcome.TheVariants.{Taken, Nothing, Direct}
 pub use Rattle.reqtable_answer.specs.Admission.{Admits}
-use Rattle.reqtable_answer.specs.Asks.{is_of, has_extra, has_url, may_be_taken}
+use Rattle.reqtable_answer.specs.Asks.{is_of, has_extra, has_url, is_candidate, may_be_taken}
 
 -- ---- what becomes of a package
 
@@ -29,24 +29,17 @@ first_greatest cmp xs = find (λ x. list_all (λ y. not (is_gt (cmp y x))) xs) x
 abbrev pub by_version : ℕ × Candidate → ℕ × Candidate → Ordering
 by_version a b = version_cmp a.1.version b.1.version
 
--- the candidates that pass a test, with their places in the list
-abbrev pub passing : (Candidate → Bool) → List Candidate → List (ℕ × Candidate)
-passing test candidates = filter (λ c. test c.1) (enumerate_from 0 candidates)
-
--- the place of the first among the greatest candidates that pass a test
-abbrev pub greatest_place : (Candidate → Bool) → List Candidate → Option ℕ
-greatest_place test candidates =
-    option_map (λ found. found.0) (first_greatest by_version (passing test candidates))
-
 abbrev pub chosen : Option ℕ → Outcome
 chosen None = Nothing
 chosen (Some place) = Taken place
 
--- what becomes of a package for all that is asked of it
-unfoldable pub outcome_of : Admits → List Front → List Candidate → List ℕ → Outcome
-outcome_of admits asks candidates name =
+-- what becomes of a package for what is asked of it, and for its candidates: the first among the greatest of
+-- those that may be taken
+abbrev pub outcome_of : Admits → List Front → List (ℕ × Candidate) → Outcome
+outcome_of admits asks candidates =
     if list_any has_url asks then Direct
-    else chosen (greatest_place (may_be_taken admits name asks) candidates)
+    else chosen (option_map (λ found. found.0)
+    (first_greatest by_version (filter (may_be_taken admits asks) candidates)))
 
 -- ---- rows
 
@@ -56,13 +49,20 @@ pub record RowRecord : Type 0 where
   pub extras : List (List ℕ)
   pub outcome : Outcome
 
--- the row of a package: the extras that any ask for it has, each once and in the order of their bytes
-pub record IsRow (admits : Admits) (asks : List Front) (candidates : List Candidate) (row : RowRecord)
-    : Type 0 where
+-- the row of a package, by what is asked of it and by its candidates: the extras that any of the asks has,
+-- each once and in the order of their bytes
+pub record IsRowOf (admits : Admits) (asks : List Front) (candidates : List (ℕ × Candidate))
+    (row : RowRecord) : Type 0 where
   pub extras_rise : IsStrictlySortedBy (slice_cmp nat_cmp) row.extras
-  pub extras_are : (extra : List ℕ) →
-      list_any (bytes_eq extra) row.extras ≡ list_any (has_extra extra) (filter (is_of row.name) asks)
-  pub outcome : row.outcome ≡ outcome_of admits (filter (is_of row.name) asks) candidates row.name
+  pub extras_are : (extra : List ℕ) → list_any (bytes_eq extra) row.extras ≡ list_any (has_extra extra) asks
+  pub outcome : row.outcome ≡ outcome_of admits asks candidates
+
+-- the same, by those of all asks and candidates that are of the package, with the candidates' places in
+-- the list
+abbrev pub IsRow : Admits → List Front → List Candidate → RowRecord → Type 0
+IsRow admits asks candidates row =
+    IsRowOf admits (filter (is_of row.name) asks)
+    (filter (is_candidate row.name) (enumerate_from 0 candidates)) row
 
 -- the rows of an answer: one for each package that is asked for, in the order of their names' bytes
 pub record IsAnswer (admits : Admits) (asks : List Front) (candidates : List Candidate)

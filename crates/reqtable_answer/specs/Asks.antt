@@ -47,8 +47,11 @@ has_prerelease ask = list_any (λ s. is_prerelease s.version) (specifiers_of ask
 abbrev pub names_prerelease : List Front → Bool
 names_prerelease asks = list_any has_prerelease asks
 
--- a candidate of the package that all asks take and that is admitted
-abbrev pub may_be_taken : Admits → List ℕ → List Front → Candidate → Bool
-may_be_taken admits name asks candidate =
-    bytes_eq name candidate.name
-    && (list_all (ask_takes candidate.version) asks && admits candidate.version (names_prerelease asks))
+-- a candidate with its place is of the package
+abbrev pub is_candidate : List ℕ → ℕ × Candidate → Bool
+is_candidate name numbered = bytes_eq name numbered.1.name
+
+-- all asks take the candidate, and it is admitted
+abbrev pub may_be_taken : Admits → List Front → ℕ × Candidate → Bool
+may_be_taken admits asks numbered =
+    list_all (ask_takes numbered.1.version) asks && admits numbered.1.version (names_prerelease asks)

@@ -1,25 +1,19 @@
 -- What is asked, and candidates with their places, by the package that each is of.
-use Rattle.std.specs.Prelude.{◌≡◌, ℕ, ◌&&◌, Bool, true, List, [], map, filter, Option, Some, None}
-use Rattle.std.specs.Prelude.{option_map, is_some}
+use Rattle.std.specs.Prelude.{ℕ, ◌&&◌, Bool, true, List, [], map, Option, Some, None, is_some}
 use Rattle.std.specs.Prelude.{if◌then◌else◌}
-use Rattle.std.specs.List.{list_any, list_all}
-use Rattle.std.specs.List.Sorted.{IsStrictlySortedBy}
+use Rattle.std.specs.List.{list_all}
 use Rattle.std.specs.Option.{option_map_or}
 use Rattle.std.specs.Ordering.{nat_cmp, is_gt}
 use Rattle.std.specs.Cmp.Lexicographic.{slice_cmp}
 use Rattle.std.specs.Borrow.{Bor}
 use Rattle.std.specs.BTreeMap.{BTreeMap, get_by}
-use Rattle.std.specs.Str.{bytes_eq}
 use Rattle.std.specs.declared.cmp.Ordering.{Ordering}
 use Rattle.pep508_requirement_text.specs.FrontReading.{Front}
 use Rattle.reqtable_text.specs.declared.candidates.Candidate.{Candidate}
-use Rattle.reqtable_answer.specs.declared.answer.Outcome.{Outcome}
-use Rattle.reqtable_answer.specs.declared.answer.Outcome.TheVariants.{Direct}
 use Rattle.reqtable_answer.specs.declared.choosing.Numbered.{Numbered}
 use Rattle.reqtable_answer.specs.declared.grouping.Group.{Group}
 use Rattle.reqtable_answer.specs.Admission.{Admits}
-use Rattle.reqtable_answer.specs.Asks.{has_url, has_extra, ask_takes, names_prerelease}
-use Rattle.reqtable_answer.specs.Answer.{RowRecord, first_greatest, by_version, chosen}
+use Rattle.reqtable_answer.specs.Asks.{ask_takes}
 use Rattle.reqtable_answer.specs.Says.{Asked, ask_seen, asks_seen}
 
 -- the group of a name, where it has one
@@ -39,21 +33,6 @@ abbrev pub candidates_for : BTreeMap (Bor (List ℕ)) Group → List ℕ → Lis
 candidates_for groups name =
     option_map_or (λ g. map numbered_seen g.candidates.items) (group_of groups name) []
 
-abbrev pub is_candidate : List ℕ → ℕ × Candidate → Bool
-is_candidate name numbered = bytes_eq name numbered.1.name
-
--- a candidate that all asks take and that is admitted
-abbrev pub passes : Admits → List Front → ℕ × Candidate → Bool
-passes admits asks c =
-    list_all (ask_takes c.1.version) asks && admits c.1.version (names_prerelease asks)
-
--- what becomes of a package for what is asked of it, and for its candidates
-abbrev pub outcome_among : Admits → List Front → List (ℕ × Candidate) → Outcome
-outcome_among admits asks candidates =
-    if list_any has_url asks then Direct
-    else chosen (option_map (λ found. found.0)
-    (first_greatest by_version (filter (passes admits asks) candidates)))
-
 -- whether a value lies above another, if there is one
 abbrev pub exceeds : {K : Type 0} → (K → K → Ordering) → K → Option K → Bool
 exceeds cmp x None = true
@@ -67,10 +46,3 @@ better_of cmp test x best = if exceeds cmp x best && test x then Some x else bes
 abbrev pub passes_by : Admits → List (Bor Asked) → Bool → ℕ × Candidate → Bool
 passes_by admits asks prerelease c =
     list_all (λ ask. ask_takes c.1.version (ask_seen ask.now)) asks && admits c.1.version prerelease
-
--- the row of a package, by what is asked of it and by its candidates
-pub record IsRowOf (admits : Admits) (asks : List Front) (candidates : List (ℕ × Candidate))
-    (row : RowRecord) : Type 0 where
-  pub extras_rise : IsStrictlySortedBy (slice_cmp nat_cmp) row.extras
-  pub extras_are : (extra : List ℕ) → list_any (bytes_eq extra) row.extras ≡ list_any (has_extra extra) asks
-  pub outcome : row.outcome ≡ outcome_among admits asks candidates

@@ -8,8 +8,8 @@ use std::marker::Model;
 
 /// A test of candidates' versions.
 ///
-/// It is asked of a version, and of whether a specifier of those that ask for the package names a
-/// pre-release.
+/// It is asked of a version, and of whether a specifier of those that ask for the package has a
+/// pre-release or developmental release.
 #[derive(Drop)]
 pub struct Admission<F> {
     test: F,

@@ -6,8 +6,8 @@ ghost use Rattle.std.specs.List.{list_all};
 ghost use Rattle.pep508_requirement_text.specs.FrontReading.{Front};
 ghost use Rattle.reqtable_answer.specs.Admission.{Admits, AnswersBy};
 ghost use Rattle.reqtable_answer.specs.Asks.{is_of};
-ghost use Rattle.reqtable_answer.specs.Answer.{IsAnswer};
-ghost use Rattle.reqtable_answer.specs.Groups.{numbered_seen, IsRowOf};
+ghost use Rattle.reqtable_answer.specs.Answer.{IsRowOf, IsAnswer};
+ghost use Rattle.reqtable_answer.specs.Groups.{numbered_seen};
 ghost use Rattle.reqtable_answer.specs.Rows.{row_seen, IsTakenBelow};
 ghost use Rattle.reqtable_answer.specs.Says.{SayAll, asks_seen};
 

@@ -32,7 +32,7 @@ fn has_url(ask: &Requirement<VerbatimUrl>) -> bool
     }
 }
 
-/// Whether some specifier names a pre-release.
+/// Whether some specifier has a pre-release or developmental release.
 pub fn names_prerelease(asks: &[&Requirement<VerbatimUrl>]) -> bool
     ensures { result ≡ list_any (λ ask. has_prerelease (ask_seen ask.now)) asks.now }
 {

@@ -2,9 +2,9 @@
 
 ghost use Rattle.std.specs.Prelude.{◌≡◌, ℕ, ◌<◌, All, map, filter, option_map, IfOk, IfSome};
 ghost use Rattle.reqtable_answer.specs.Admission.{Admits, AnswersBy};
-ghost use Rattle.reqtable_answer.specs.Answer.{by_version, chosen, first_greatest};
-ghost use Rattle.reqtable_answer.specs.Groups.{numbered_seen, passes, passes_by, outcome_among};
-ghost use Rattle.reqtable_answer.specs.Groups.{exceeds, better_of};
+ghost use Rattle.reqtable_answer.specs.Asks.{may_be_taken};
+ghost use Rattle.reqtable_answer.specs.Answer.{by_version, chosen, first_greatest, outcome_of};
+ghost use Rattle.reqtable_answer.specs.Groups.{numbered_seen, passes_by, exceeds, better_of};
 ghost use Rattle.reqtable_answer.specs.Ranged.{TellsTaken};
 ghost use Rattle.reqtable_answer.specs.Rows.{IsTakenBelow};
 ghost use Rattle.reqtable_answer.specs.Says.{asks_seen};
@@ -36,7 +36,7 @@ pub fn outcome<F: Fn(&Version, bool) -> bool>(
 ) -> Result<Outcome, AllocError>
     requires { F.IsAlwaysCallable admission.now }
     ensures chosen { IfOk result (λ outcome. (admits : Admits) → AnswersBy (F.post admission.now) admits →
-        outcome ≡ outcome_among admits (asks_seen asks.now) (map numbered_seen candidates.now)) }
+        outcome ≡ outcome_of admits (asks_seen asks.now) (map numbered_seen candidates.now)) }
     ensures below { IfOk result (λ outcome. (count : ℕ) →
         All (λ c. c.place < count) candidates.now → IsTakenBelow count outcome) }
 {
@@ -59,7 +59,7 @@ fn greatest<'a, F: Fn(&Version, bool) -> bool>(
     requires { F.IsAlwaysCallable admission.now }
     ensures greatest { IfOk result (λ best. (admits : Admits) → AnswersBy (F.post admission.now) admits →
         option_map numbered_seen best ≡ first_greatest by_version
-        (filter (passes admits (asks_seen asks.now)) (map numbered_seen candidates.now))) }
+        (filter (may_be_taken admits (asks_seen asks.now)) (map numbered_seen candidates.now))) }
     ensures below { IfOk result (λ best. (count : ℕ) →
         All (λ c. c.place < count) candidates.now → IfSome best (λ found. found.place < count)) }
 {
@@ -80,7 +80,7 @@ fn greatest_by<'a, F: Fn(&Version, bool) -> bool>(
     requires told { TellsTaken asks.now range.now }
     ensures greatest { IfOk result (λ best. (admits : Admits) → AnswersBy (F.post admission.now) admits →
         option_map numbered_seen best ≡ first_greatest by_version
-        (filter (passes admits (asks_seen asks.now)) (map numbered_seen candidates.now))) }
+        (filter (may_be_taken admits (asks_seen asks.now)) (map numbered_seen candidates.now))) }
     ensures below { IfOk result (λ best. (count : ℕ) →
         All (λ c. c.place < count) candidates.now → IfSome best (λ found. found.place < count)) }
 {

@@ -2,8 +2,8 @@
 
 ghost use Rattle.std.specs.Prelude.{◌≡◌, ℕ, ◌&&◌, ◌||◌, List, [], ◌∷◌, ◌++◌, filter, IfOk, OnOk};
 ghost use Rattle.std.specs.List.{list_any, enumerate_from};
-ghost use Rattle.reqtable_answer.specs.Asks.{is_of};
-ghost use Rattle.reqtable_answer.specs.Groups.{asks_for, has_group, candidates_for, numbered_seen, is_candidate};
+ghost use Rattle.reqtable_answer.specs.Asks.{is_of, is_candidate};
+ghost use Rattle.reqtable_answer.specs.Groups.{asks_for, has_group, candidates_for, numbered_seen};
 ghost use Rattle.reqtable_answer.specs.Says.{ask_seen, asks_seen};
 
 use crate::choosing::Numbered;

@@ -9,10 +9,10 @@ use Rattle.std.specs.Map.Iter.{deref_pair}
 use Rattle.std.proofs.lemmas.List.{map-append}
 use Rattle.std.proofs.lemmas.List.Elements.{All-filter}
 use Rattle.std.proofs.lemmas.Map.Iter.{btree_map_turn, iter_end}
-use Rattle.reqtable_answer.specs.Asks.{is_of}
+use Rattle.reqtable_answer.specs.Asks.{is_of, is_candidate}
 use Rattle.reqtable_answer.specs.Answer.{IsRow}
 use Rattle.reqtable_answer.specs.declared.grouping.Group.{Group}
-use Rattle.reqtable_answer.specs.Groups.{group_of, is_candidate, numbered_seen}
+use Rattle.reqtable_answer.specs.Groups.{group_of, numbered_seen}
 use Rattle.reqtable_answer.specs.Rows.{row_seen, IsTakenBelow}
 use Rattle.reqtable_answer.specs.Says.{asks_seen}
 use Rattle.reqtable_answer.proofs.Packages.{by_name_total, names, names_rise, names_found}

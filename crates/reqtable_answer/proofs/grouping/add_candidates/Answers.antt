@@ -1,5 +1,6 @@
 use Rattle.std.proofs.Common.{◌∙◌, ◌++◌, ◌∷◌, ◌&&◌, [], cond, ap}
-use Rattle.reqtable_answer.specs.Groups.{has_group, candidates_for, is_candidate}
+use Rattle.reqtable_answer.specs.Asks.{is_candidate}
+use Rattle.reqtable_answer.specs.Groups.{has_group, candidates_for}
 use Rattle.reqtable_answer.proofs.ByPackage.{one_more}
 use Rattle.reqtable_answer.proofs.grouping.add_candidates.Goals as goal
 

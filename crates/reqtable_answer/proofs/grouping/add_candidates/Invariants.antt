@@ -1,6 +1,7 @@
 use Rattle.std.proofs.Common.{◌≡◌, ◌&&◌, ◌++◌, ℕ, List, filter, take}
 use Rattle.std.specs.List.{enumerate_from}
-use Rattle.reqtable_answer.specs.Groups.{has_group, asks_for, candidates_for, is_candidate}
+use Rattle.reqtable_answer.specs.Asks.{is_candidate}
+use Rattle.reqtable_answer.specs.Groups.{has_group, asks_for, candidates_for}
 use Rattle.reqtable_answer.proofs.grouping.add_candidates.Given as goal
 
 abbrev pub invariant-loop-place : goal.invariant-loop-place
