@@ -4,19 +4,10 @@ use Rattle.std.proofs.lemmas.List.{append-nil}
 use Rattle.std.specs.List.{flat_map}
 use Rattle.pep440_specifier.specs.Matching.{SpecifierRecord}
 use Rattle.pep440_specifier.specs.SpecifierPrint.{specifier_text}
-use Rattle.pep440_specifier_list.specs.ListText.{list_text, list_value_text}
-use Rattle.pep440_specifier_list.specs.Separated.{separated, behind_separator}
+use Rattle.pep440_specifier_list.specs.ListText.{behind_separator, separated, list_value_text}
 
 pub members_separated : (separator : List ℕ) (member : SpecifierRecord) (members : List SpecifierRecord) → separated separator (member ∷ members) ≡ specifier_text member ++ flat_map (behind_separator separator) members
 members_separated separator member members = refl
-
-list_behind : (member : SpecifierRecord) (members : List SpecifierRecord) → list_text (member ∷ members) ≡ specifier_text member ++ flat_map (behind_separator (codes ", ")) members
-list_behind member [] = sym (append-nil (specifier_text member))
-list_behind member (next ∷ members) = ap (λ rest. specifier_text member ++ (codes ", " ++ rest)) (list_behind next members)
-
-pub list_separated : (members : List SpecifierRecord) → separated (codes ", ") members ≡ list_text members
-list_separated [] = refl
-list_separated (member ∷ members) = sym (list_behind member members)
 
 value_behind : (member : SpecifierRecord) (members : List SpecifierRecord) → list_value_text (member ∷ members) ≡ specifier_text member ++ flat_map (behind_separator (codes ",")) members
 value_behind member [] = sym (append-nil (specifier_text member))

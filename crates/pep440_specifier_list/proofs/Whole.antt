@@ -1,14 +1,12 @@
 -- What a whole text says, from what its pieces say.
-use Rattle.std.proofs.Common.{◌≡◌, ℕ, ◌==◌, true, false, List, [], ◌∷◌, length, Option, Some, None, Result}
-use Rattle.std.proofs.Common.{Ok, Err, refl, sym, ap, subst, ◌∙◌, arith}
+use Rattle.std.proofs.Common.{◌≡◌, ℕ, ◌==◌, true, false, List, [], ◌∷◌, length, Option, Some, None}
+use Rattle.std.proofs.Common.{Ok, refl, sym, ap, subst, ◌∙◌, arith}
 use Rattle.std.proofs.lemmas.Bool.Decides.{nat_tests}
-use Rattle.std.specs.Option.{option_map}
 use Rattle.std.specs.Result.{result_ok}
 use Rattle.read_outcome.specs.Outcome.{Tells}
 use Rattle.pep440_specifier.specs.Matching.{SpecifierRecord}
-use Rattle.pep440_specifier.specs.SpecifierReading.{SpecifierFault}
 use Rattle.pep440_specifier_list.specs.Lists.{IsInOrder}
-use Rattle.pep440_specifier_list.specs.ListReading.{ListFault, fault_at, pieces_reading, pieces_of}
+use Rattle.pep440_specifier_list.specs.ListReading.{ListFault, pieces_reading, pieces_of}
 use Rattle.pep440_specifier_list.specs.ListReading.{line_reading, list_reading, specifiers_of}
 use Rattle.pep440_specifier_list.proofs.Pieces.{all_read, all_are_read}
 
@@ -59,11 +57,3 @@ pub fault_is_told : (text : List ℕ) (told : Option ListFault) → (length text
     → Tells told (pieces_reading text 0 (pieces_of text)) → Tells told (list_reading text)
 fault_is_told text None t h = tt
 fault_is_told text (Some fault) t h = read_by_pieces text t ∙ h
-
--- ---- errors
-
--- the fault of a piece, at its place
-pub told_none : (line : List ℕ) (start end : ℕ) (told : Option SpecifierFault)
-    → option_map (fault_at line start end) told ≡ None → told ≡ None
-told_none line start end None h = refl
-told_none line start end (Some fault) h = absurd (cc)

@@ -1,7 +1,6 @@
 pub mod Places
 pub mod Lists
 pub mod ListText
-pub mod Separated
 pub mod ListOrder
 pub mod ListHash
 pub mod ListOrderLaws

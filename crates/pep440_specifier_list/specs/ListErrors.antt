@@ -1,17 +1,16 @@
 -- The text of which an error speaks, and what it prints.
-use Rattle.std.specs.Prelude.{ℕ, ◌-◌, List, [], ◌∷◌, ◌++◌, take, drop, codes}
+use Rattle.std.specs.Prelude.{ℕ, ◌-◌, List, [], ◌++◌, take, drop, codes}
 use Rattle.std.specs.String.{string_bytes}
 use Rattle.underline.specs.Underline.{columns, underlined}
 use Rattle.pep440_specifier.specs.SpecifierErrorPrints.{specifier_error_text}
 use Rattle.pep440_specifier_list.specs.declared.refused_piece.RefusedPiece.{RefusedPiece}
 use Rattle.pep440_specifier_list.specs.declared.parse_error.VersionSpecifiersParseError.{VersionSpecifiersParseError}
-use Rattle.pep440_specifier_list.specs.declared.parse_error.VersionSpecifiersParseError.TheVariants.{Memory}
-use Rattle.pep440_specifier_list.specs.declared.parse_error.VersionSpecifiersParseError.TheVariants.{Specifier}
+use Rattle.pep440_specifier_list.specs.declared.parse_error.VersionSpecifiersParseError.TheVariants as errors
 
 -- the text that is no list; nothing for want of memory
 abbrev pub line_of : VersionSpecifiersParseError → List ℕ
-line_of Memory = []
-line_of (Specifier piece) = string_bytes piece.line
+line_of errors.Memory = []
+line_of (errors.Specifier piece) = string_bytes piece.line
 
 -- the columns of a piece of a line
 abbrev pub piece_columns : List ℕ → ℕ → ℕ → ℕ
@@ -25,7 +24,7 @@ piece_picture piece =
 
 -- the print of why a text is no list: that of its first piece that is no specifier, and that piece underlined
 abbrev pub error_text : VersionSpecifiersParseError → List ℕ
-error_text Memory = codes "out of memory"
-error_text (Specifier piece) =
+error_text errors.Memory = codes "out of memory"
+error_text (errors.Specifier piece) =
     codes "Failed to parse version: "
     ++ (specifier_error_text piece.error ++ (codes ":\n" ++ piece_picture piece))

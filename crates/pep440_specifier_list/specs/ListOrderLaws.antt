@@ -1,5 +1,5 @@
 -- The laws of the order, equality and hash of lists.
-use Rattle.std.specs.Prelude.{◌≡◌, ℕ, true, List, [], ◌∷◌, ◌++◌, refl}
+use Rattle.std.specs.Prelude.{◌≡◌, true, List, [], ◌∷◌, ◌++◌, refl}
 use Rattle.std.proofs.Common.{ap}
 use Rattle.std.specs.Hash as fed
 use Rattle.std.specs.List.{flat_map}

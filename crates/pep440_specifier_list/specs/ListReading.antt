@@ -10,8 +10,7 @@ use Rattle.pep440_specifier.specs.Matching.{SpecifierRecord}
 use Rattle.pep440_specifier.specs.SpecifierReading.{SpecifierFault, specifier_reading, specifier_of}
 use Rattle.pep440_specifier.specs.SpecifierReading.{told_specifier}
 use Rattle.pep440_specifier_list.specs.declared.parse_error.VersionSpecifiersParseError.{VersionSpecifiersParseError}
-use Rattle.pep440_specifier_list.specs.declared.parse_error.VersionSpecifiersParseError.TheVariants.{Memory}
-use Rattle.pep440_specifier_list.specs.declared.parse_error.VersionSpecifiersParseError.TheVariants.{Specifier}
+use Rattle.pep440_specifier_list.specs.declared.parse_error.VersionSpecifiersParseError.TheVariants as errors
 use Rattle.pep440_specifier_list.specs.Lists.{IsInOrder}
 
 -- ---- reading
@@ -76,13 +75,13 @@ IsReadFromText specifier = (text : List ℕ) × (specifier_of text ≡ Some spec
 
 -- the fault that an error tells; want of memory tells none
 abbrev pub told_list : VersionSpecifiersParseError → Option ListFault
-told_list Memory = None
-told_list (Specifier piece) =
+told_list errors.Memory = None
+told_list (errors.Specifier piece) =
     option_map (fault_at (string_bytes piece.line) piece.start piece.end) (told_specifier piece.error)
 
 -- an error that tells no fault is want of memory itself, which is never inside another error
 abbrev pub TellsOrMemory : VersionSpecifiersParseError → Type 0
-TellsOrMemory error = told_list error ≡ None → error ≡ Memory
+TellsOrMemory error = told_list error ≡ None → error ≡ errors.Memory
 
 -- an answer is what the text says, its members in order
 abbrev pub ReadsList : Result (List SpecifierRecord) VersionSpecifiersParseError → List ℕ → Type 0

@@ -1,7 +1,7 @@
 -- The text of a list: specifiers with commas between them (PEP 440, "Version specifiers").
 -- And what a list prints.
 use Rattle.std.specs.Prelude.{◌≡◌, ℕ, ◌<◌, ◌⊎◌, List, [], ◌∷◌, ◌++◌, length, map, codes}
-use Rattle.std.specs.List.{AllZip, join_with_byte}
+use Rattle.std.specs.List.{AllZip, flat_map, join_with_byte}
 use Rattle.pep440_specifier.specs.Matching.{SpecifierRecord}
 use Rattle.pep440_specifier.specs.SpecifierPrint.{specifier_text}
 use Rattle.pep440_specifier.specs.SpecifierText.{IsSpecifierText}
@@ -20,11 +20,18 @@ IsSpecifierListText text members =
     ((text ≡ []) × (members ≡ []))
     ⊎ ((given : List SpecifierRecord) × AreSpecifierTexts text given × IsInOrder given members)
 
+abbrev pub behind_separator : List ℕ → SpecifierRecord → List ℕ
+behind_separator separator member = separator ++ specifier_text member
+
+-- the members' texts, and the separator before each but the first
+abbrev pub separated : List ℕ → List SpecifierRecord → List ℕ
+separated separator [] = []
+separated separator (member ∷ members) =
+    specifier_text member ++ flat_map (behind_separator separator) members
+
 -- the members with comma and blank between them
 abbrev pub list_text : List SpecifierRecord → List ℕ
-list_text [] = []
-list_text (member ∷ []) = specifier_text member
-list_text (member ∷ next ∷ members) = specifier_text member ++ (codes ", " ++ list_text (next ∷ members))
+list_text = separated (codes ", ")
 
 -- the members with bare commas between them, as a list stands in JSON
 abbrev pub list_value_text : List SpecifierRecord → List ℕ

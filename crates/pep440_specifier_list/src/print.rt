@@ -3,8 +3,8 @@
 ghost use Rattle.std.specs.Prelude.{◌≡◌, Some, ◌++◌};
 ghost use Rattle.std.specs.List.{flat_map};
 ghost use Rattle.pep440_specifier.specs.SpecifierPrint.{specifier_text};
-ghost use Rattle.pep440_specifier_list.specs.ListText.{list_text, list_value_text};
-ghost use Rattle.pep440_specifier_list.specs.Separated.{separated, behind_separator};
+ghost use Rattle.pep440_specifier_list.specs.ListText.{behind_separator, separated, list_text};
+ghost use Rattle.pep440_specifier_list.specs.ListText.{list_value_text};
 
 use crate::VersionSpecifiers;
 use pep440_specifier::VersionSpecifier;
@@ -65,7 +65,6 @@ impl fmt::Display for Separated<'_> {
 impl fmt::Display for VersionSpecifiers {
     ghost output = { λ list. Some (list_text list) };
 
-    #[tactic(auto, using(crate::proofs::Printing::list_separated))]
     fn fmt<W: fmt::Write>(&self, f: &mut fmt::Formatter<W>) -> fmt::Result {
         write!(
             f,

@@ -1,6 +1,8 @@
 //! The piece of a text for which the text is no list.
 
+ghost use Rattle.std.specs.Prelude.{◌≢◌, None};
 ghost use Rattle.std.specs.String.{string_bytes};
+ghost use Rattle.pep440_specifier.specs.SpecifierReading.{told_specifier};
 ghost use Rattle.pep440_specifier_list.specs.Places.{IsPlaced};
 
 use pep440_specifier::VersionSpecifierParseError;
@@ -15,18 +17,21 @@ pub struct RefusedPiece {
     pub(crate) start: usize,
     pub(crate) end: usize,
     pub(crate) ghost placed: { IsPlaced (string_bytes line) start end },
+    pub(crate) ghost plain: { told_specifier error ≢ None },
 }
 
 impl RefusedPiece {
-    ghost use Rattle.std.specs.Prelude.{◌≡◌, ◌-◌, take, drop};
+    ghost use Rattle.std.specs.Prelude.{◌≡◌, ◌≢◌, ◌-◌, None, take, drop};
     ghost use Rattle.std.specs.String.{string_bytes};
     ghost use Rattle.underline.specs.Underline.{columns};
+    ghost use Rattle.pep440_specifier.specs.SpecifierReading.{told_specifier};
     ghost use Rattle.pep440_specifier_list.specs.Places.{IsPlaced};
     ghost use Rattle.pep440_specifier_list.specs.ListErrors.{piece_columns};
 
     /// What is wrong with the piece; never want of memory.
     pub fn error(&self) -> &VersionSpecifierParseError
-        ensures { result.now ≡ self.now.error }
+        ensures error { result.now ≡ self.now.error }
+        ensures plain { told_specifier self.now.error ≢ None }
     {
         &self.error
     }

@@ -2,7 +2,7 @@ use Rattle.std.proofs.Common.{◌++◌, take}
 use Rattle.std.specs.Fmt.{HasWritten, IsPlainFormatter}
 use Rattle.std.specs.List.{flat_map}
 use Rattle.pep440_specifier.specs.SpecifierPrint.{specifier_text}
-use Rattle.pep440_specifier_list.specs.Separated.{behind_separator}
+use Rattle.pep440_specifier_list.specs.ListText.{behind_separator}
 use Rattle.pep440_specifier_list.proofs.print.MembersDisplay.fmt.Given as goal
 
 abbrev pub invariant-loop-member : goal.invariant-loop-member
