@@ -12,17 +12,7 @@ use Rattle.pep508_marker.specs.declared.keys.MarkerValueVersion.{MarkerValueVers
 use Rattle.pep508_marker.specs.declared.keys.MarkerValueVersion.TheVariants.{ImplementationVersion}
 use Rattle.pep508_marker.specs.declared.keys.MarkerValueVersion.TheVariants.{PythonFullVersion, PythonVersion}
 use Rattle.pep508_marker.specs.declared.keys.MarkerValueString.{MarkerValueString}
-use Rattle.pep508_marker.specs.declared.keys.MarkerValueString.TheVariants.{ImplementationName, OsName}
-use Rattle.pep508_marker.specs.declared.keys.MarkerValueString.TheVariants.{OsNameDeprecated, PlatformMachine}
-use Rattle.pep508_marker.specs.declared.keys.MarkerValueString.TheVariants.{PlatformMachineDeprecated}
-use Rattle.pep508_marker.specs.declared.keys.MarkerValueString.TheVariants.{PlatformPythonImplementation}
-use Rattle.pep508_marker.specs.declared.keys.MarkerValueString.TheVariants.{PlatformPythonImplementationDeprecated}
-use Rattle.pep508_marker.specs.declared.keys.MarkerValueString.TheVariants.{PythonImplementationDeprecated}
-use Rattle.pep508_marker.specs.declared.keys.MarkerValueString.TheVariants.{PlatformRelease, PlatformSystem}
-use Rattle.pep508_marker.specs.declared.keys.MarkerValueString.TheVariants.{PlatformVersion}
-use Rattle.pep508_marker.specs.declared.keys.MarkerValueString.TheVariants.{PlatformVersionDeprecated}
-use Rattle.pep508_marker.specs.declared.keys.MarkerValueString.TheVariants.{SysPlatform}
-use Rattle.pep508_marker.specs.declared.keys.MarkerValueString.TheVariants.{SysPlatformDeprecated}
+use Rattle.pep508_marker.specs.declared.keys.MarkerValueString.TheVariants as texts
 use Rattle.pep508_environment.specs.Environment.{EnvironmentRecord}
 
 -- the version that a key reads
@@ -33,20 +23,20 @@ version_in environment PythonVersion = environment.python_version
 
 -- the text that a key reads; an old name of PEP 345 reads what the modern one reads
 abbrev pub text_in : EnvironmentRecord → MarkerValueString → List ℕ
-text_in environment ImplementationName = environment.implementation_name
-text_in environment OsName = environment.os_name
-text_in environment OsNameDeprecated = environment.os_name
-text_in environment PlatformMachine = environment.platform_machine
-text_in environment PlatformMachineDeprecated = environment.platform_machine
-text_in environment PlatformPythonImplementation = environment.platform_python_implementation
-text_in environment PlatformPythonImplementationDeprecated = environment.platform_python_implementation
-text_in environment PythonImplementationDeprecated = environment.platform_python_implementation
-text_in environment PlatformRelease = environment.platform_release
-text_in environment PlatformSystem = environment.platform_system
-text_in environment PlatformVersion = environment.platform_version
-text_in environment PlatformVersionDeprecated = environment.platform_version
-text_in environment SysPlatform = environment.sys_platform
-text_in environment SysPlatformDeprecated = environment.sys_platform
+text_in environment texts.ImplementationName = environment.implementation_name
+text_in environment texts.OsName = environment.os_name
+text_in environment texts.OsNameDeprecated = environment.os_name
+text_in environment texts.PlatformMachine = environment.platform_machine
+text_in environment texts.PlatformMachineDeprecated = environment.platform_machine
+text_in environment texts.PlatformPythonImplementation = environment.platform_python_implementation
+text_in environment texts.PlatformPythonImplementationDeprecated = environment.platform_python_implementation
+text_in environment texts.PythonImplementationDeprecated = environment.platform_python_implementation
+text_in environment texts.PlatformRelease = environment.platform_release
+text_in environment texts.PlatformSystem = environment.platform_system
+text_in environment texts.PlatformVersion = environment.platform_version
+text_in environment texts.PlatformVersionDeprecated = environment.platform_version
+text_in environment texts.SysPlatform = environment.sys_platform
+text_in environment texts.SysPlatformDeprecated = environment.sys_platform
 
 -- an environment as a JSON value: an object with the eleven texts
 abbrev pub environment_value : EnvironmentRecord → Data

@@ -88,7 +88,8 @@ fn named_version(
 
 impl MarkerEnvironment {
     /// The environment of these texts, refused for the first of `implementation_version`,
-    /// `python_full_version` and `python_version` that is no version. Takes memory for copies of the texts.
+    /// `python_full_version` and `python_version` that is no version. Takes memory for copies of the texts,
+    /// and none where no number begins `implementation_version`.
     #[tactic(auto, unfolding(crate::specs::Building::environment_built))]
     pub fn try_from(
         alloc: Global,
