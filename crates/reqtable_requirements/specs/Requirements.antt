@@ -17,7 +17,8 @@ use Rattle.reqtable_text.specs.TextLines.{text_lines, lines_of_text}
 use Rattle.reqtable_requirements.specs.declared.requirements.Line.{Line}
 use Rattle.reqtable_requirements.specs.declared.requirements.RequirementsError.{RequirementsError}
 use Rattle.reqtable_requirements.specs.declared.requirements.RequirementsError.TheVariants as errors
-use Rattle.reqtable_requirements.specs.LineReading.{LineRecord, LinesFault, NotText, NoRequirement, NumberAtEnd, url_of, line_of}
+use Rattle.reqtable_requirements.specs.LineReading.{LineRecord, LinesFault, NotText, NoRequirement}
+use Rattle.reqtable_requirements.specs.LineReading.{NumberAtEnd, url_of, line_of}
 
 -- the lines of a requirements text, or where its bytes stop being UTF-8, or else its first line that is none
 abbrev pub requirements_of : Variables → List ℕ → Result (List LineRecord) LinesFault

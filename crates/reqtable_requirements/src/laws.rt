@@ -1,7 +1,7 @@
 //! Laws over the definitions that the contracts cite. The functions do nothing: each one's contract is
 //! its law.
 
-ghost use Rattle.std.specs.Prelude.{◌≡◌, ◌↔◌, ℕ, List, map, Ok, Err};
+ghost use Rattle.std.specs.Prelude.{◌≡◌, ◌↔◌, ℕ, List, map, Ok};
 ghost use Rattle.std.specs.List.Sorted.{IsPermutation};
 ghost use Rattle.pep508_diagram.specs.Question.{Valuation};
 ghost use Rattle.pep508_url.specs.Vars.{Variables};

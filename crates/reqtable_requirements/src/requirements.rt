@@ -4,7 +4,8 @@ ghost use Rattle.std.specs.Prelude.{◌≡◌, Some};
 ghost use Rattle.pep508_tree.specs.Meaning.{Extends};
 ghost use Rattle.reqtable_text.specs.TextLines.{text_lines, each_line};
 ghost use Rattle.reqtable_requirements.specs.LineReading.{line_of};
-ghost use Rattle.reqtable_requirements.specs.Requirements.{ReadsLine, ReadsLines, ReadsRequirements, refusal_of};
+ghost use Rattle.reqtable_requirements.specs.Requirements.{ReadsLine, ReadsLines};
+ghost use Rattle.reqtable_requirements.specs.Requirements.{ReadsRequirements, refusal_of};
 
 use pep508_error::{Pep508Error, Pep508ErrorSource};
 use pep508_requirement::Requirement;
