@@ -1,5 +1,5 @@
 -- Simple members agree with their ranges at each candidate, seen without its local part.
-use Rattle.std.proofs.Common.{◌≡◌, ◌&&◌, not, false, List, [], ◌∷◌, is_some, inr, refl, ap}
+use Rattle.std.proofs.Common.{◌≡◌, ◌&&◌, not, List, [], ◌∷◌, is_some, inr, refl, ap}
 use Rattle.std.specs.List.{AllByRecursion}
 use Rattle.std.specs.Ordering.{is_eq, is_lt, is_le, is_gt, is_ge}
 use Rattle.pep440_version.specs.Record.{Segment, VersionRecord, without_local}
