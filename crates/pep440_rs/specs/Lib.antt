@@ -27,7 +27,6 @@ pub use Rattle.pep440_specifier.specs.SpecifierOrderLaws
 pub use Rattle.pep440_specifier.specs.SpecifierErrorPrints
 pub use Rattle.pep440_specifier_list.specs.Lists
 pub use Rattle.pep440_specifier_list.specs.ListText
-pub use Rattle.pep440_specifier_list.specs.Separated
 pub use Rattle.pep440_specifier_list.specs.ListOrder
 pub use Rattle.pep440_specifier_list.specs.ListHash
 pub use Rattle.pep440_specifier_list.specs.ListOrderLaws
