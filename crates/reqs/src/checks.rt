@@ -30,8 +30,8 @@ use std::io::{Read, Write};
 /// a URL. Rows stand in the order of the names' bytes.
 ///
 /// All inputs are read whole, in this order; then the extras are read as names, and then each
-/// input as what it is. The answer is made whole before the first write, by one evaluation of each
-/// line's marker and what `Requirements::judge` costs.
+/// input as what it is. The answer is made whole before the first write, by one call of
+/// `Requirements::judge`.
 pub fn check<L: Read, E: Read, C: Read, W: Write>(
     alloc: Global,
     requirements: &mut L,

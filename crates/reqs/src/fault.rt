@@ -280,12 +280,8 @@ impl RunFault {
                 error,
             } => { at_requirement(alloc, input.path(paths), *number, error) }
             RunFault::NumberAtEnd { input, number } => {
-                at_line(
-                    alloc,
-                    input.path(paths),
-                    *number,
-                    "a version number can't be raised",
-                )
+                let fault = "a version number can't be raised";
+                at_line(alloc, input.path(paths), *number, fault)
             }
             RunFault::Json { .. }
             | RunFault::Float { .. }
