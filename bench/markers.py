@@ -7,14 +7,15 @@ PROGRAM is crates/pep508_marker_vectors/out/pep508_marker_vectors where none is 
 (`./build pep508_marker_vectors` makes it). A native program is called as `PATH marker --json`, with a marker
 as a JSON text a line on standard input. Chains are `os_name == 'x0' or os_name == 'x1' ..` and the same of extras, and
 `extra == 'x0' and extra == 'x1' ..`; the many are drawn from the real markers among the questions of
-crates/pep508_marker_vectors. What is printed are those and clauses of ten comparisons, which differ in the first,
-in the last or in all; reading these alone is timed beside. There the native program is called by `dnf` and `tree`.
+crates/pep508_marker_vectors. What is printed are those, clauses of ten comparisons, which differ in the first,
+in the last or in all, and 1,024 clauses of the same eleven extras; reading these alone is timed beside. There the native program is called by `dnf` and `tree`.
 Processor seconds and peak memory are those of the whole process, the least of several runs. The exit status is 1
 where an answer is wrong, or where chains of 10,000 take more than 7 times as long as those of 2,000 (of extras 9 times:
 n of them make n log n nodes, each of which is looked for among all).
 """
 
 import argparse
+import itertools
 import json
 import os
 import random
@@ -27,7 +28,7 @@ CRATE = os.path.join(HERE, "..", "crates", "pep508_marker_vectors")
 PROGRAM = os.path.join(CRATE, "out", "pep508_marker_vectors")
 LEAST, MOST = 2000, 10000
 LIMITS = {"os_name": 7, "extra": 9}
-CLAUSES = 1000
+CLAUSES, FLAGS = 1000, 11
 KEYS = ["implementation_name", "os_name", "platform_machine", "platform.machine", "platform_python_implementation",
         "python_implementation", "platform_release", "platform_system", "platform_version", "sys_platform"]
 
@@ -69,6 +70,14 @@ def clauses(number, at):
     chosen = [f"{key} == 'x{it}'" for it in range(number)]
     random.Random(7).shuffle(chosen)
     return " and ".join(shared).format(" or ".join(chosen))
+
+
+def flag_clauses(flags):
+    """The clauses of flags of which an odd number is set, each with all of them: no term or clause is needless."""
+    signs = [it for it in itertools.product((True, False), repeat=flags) if sum(it) % 2]
+    terms = [[f"extra {'==' if is_set else '!='} 'x{at}'" for at, is_set in enumerate(it)] for it in signs]
+    random.Random(7).shuffle(terms)
+    return " or ".join(map(" and ".join, terms))
 
 
 def run(words, folder, given):
@@ -118,6 +127,8 @@ def workloads(lines):
     for which, at in (("first", 0), ("last", -1), ("all", None)):
         for question, command in (("marker", "tree"), ("text", "dnf")):
             yield f"{CLAUSES} clauses, {which} terms differ: {question}", question, command, [clauses(CLAUSES, at)]
+    for question, command in (("marker", "tree"), ("text", "dnf")):
+        yield f"clauses of {FLAGS} flags: {question}", question, command, [flag_clauses(FLAGS)]
     yield f"real markers {lines}: text", "text", "dnf", real_markers(lines)
 
 
