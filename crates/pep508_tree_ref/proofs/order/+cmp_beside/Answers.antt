@@ -30,15 +30,16 @@ returns-then-is_ne-2-clause-order t c =
     (sym c.is_ne-in-loop-index.ensures ∙ c.if-is_ne-2.true)
 
 pub loop-index-preserved : goal.loop-index-preserved
-loop-index-preserved t c =
-    (next_tie c.args.interner.now.nodes c.are_sound.ensures c.args.tree c.requires.tree
-    c.args.other_interner.now.nodes c.are_sound-2.ensures c.args.other c.requires.other c.loop-index.index
-    c.loop-index.invariant.0 c.in-Some.child c.in-Some-root_child.other_child c.in-Some.ensures.child
-    c.in-Some-root_child.ensures.child c.cmp_ends_at-order.result (sym c.is_ne.ensures ∙ c.if-is_ne.false)
-    c.cmp_ends_at-order.ensures
-    c.cmp_beside-order.result c.cmp_beside-order.ensures.order
-    (sym c.is_ne-in-loop-index.ensures ∙ c.if-is_ne-2.false),
-    c.cmp_beside-order.ensures.known)
+loop-index-preserved t c = (
+  next_tie c.args.interner.now.nodes c.are_sound.ensures c.args.tree c.requires.tree
+      c.args.other_interner.now.nodes c.are_sound-2.ensures c.args.other c.requires.other c.loop-index.index
+      c.loop-index.invariant.0 c.in-Some.child c.in-Some-root_child.other_child c.in-Some.ensures.child
+      c.in-Some-root_child.ensures.child c.cmp_ends_at-order.result (sym c.is_ne.ensures ∙ c.if-is_ne.false)
+      c.cmp_ends_at-order.ensures
+      c.cmp_beside-order.result c.cmp_beside-order.ensures.order
+      (sym c.is_ne-in-loop-index.ensures ∙ c.if-is_ne-2.false),
+  c.cmp_beside-order.ensures.known,
+)
 
 pub returns-then-count-other_count-clause-order : goal.returns-then-count-other_count-clause-order
 returns-then-count-other_count-clause-order t c =
