@@ -21,7 +21,10 @@ TOP = os.path.dirname(os.path.dirname(os.path.abspath(__file__)))
 TICKS = os.sysconf("SC_CLK_TCK")
 PAUSE = 0.2
 KINDS = ["proofs", "proofs of tests", "wrong edits one by one", "wrong edits together", "builds",
-         "runs of tests and programs", "command line", "refused memory", "the rest"]
+         "runs of tests and programs", "command line", "installing", "refused memory", "faults", "the rest"]
+# A script whose processes are all of one kind.
+SCRIPTS = {"cli.sh": ("command line", ""), "install.sh": ("installing", ""), "refused.sh": ("refused memory", ""),
+           "faults.py": ("faults", "")}
 
 
 class Unit:
@@ -72,9 +75,8 @@ def kind_of(process):
     """The kind of work and the crate of a process that does one, else None."""
     words = words_of(process)
     program = os.path.basename(words[0]) if words else ""
-    if program in ("bash", "sh") and len(words) > 1:
-        script = os.path.basename(words[1])
-        return {"cli.sh": ("command line", ""), "refused.sh": ("refused memory", "")}.get(script)
+    if (program in ("bash", "sh") or program.startswith("python")) and len(words) > 1:
+        return SCRIPTS.get(os.path.basename(words[1]))
     if program == "rattle-link":
         return "builds", os.path.basename(os.path.dirname(folder_of(process))) and os.path.basename(folder_of(process))
     if program == "rattle-test" or folder_of(process).startswith("/tmp/rt-run-"):
@@ -82,10 +84,10 @@ def kind_of(process):
     if program != "rattle" or "--crate-name" not in words:
         return None
     crate = words[words.index("--crate-name") + 1]
-    if os.path.basename(folder_of(process)).startswith("rt-edit-"):
-        return "wrong edits one by one", crate
     if any(it.startswith("--only") for it in words):
         return "wrong edits together", crate
+    if os.path.basename(folder_of(process)).startswith("rt-edit-"):
+        return "wrong edits one by one", crate
     if "--crate-checked" in words:
         return "builds", crate
     return "proofs of tests" if "--test" in words else "proofs", crate

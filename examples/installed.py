@@ -1,13 +1,15 @@
 #!/usr/bin/env python3
-"""Writes what `reqs check` asks of a Python interpreter, for the one that runs this.
+"""Writes what `reqs check` asks of a Python interpreter, for the one that runs
+this.
 
-    installed.py [FOLDER]
-
-FOLDER, here where none is named, gets `environment.json`, the values that markers are held against, and
-`candidates.txt`, the name and version of each distribution that is installed, as `pip list` shows them. What PEP 440
-or PEP 508 can't read is left out, with a word on standard error.
+FOLDER, here where none is named, gets `environment.json`, the values that
+markers are held against, and `candidates.txt`, the name and version of each
+distribution that is installed, as `pip list` shows them. What PEP 440 or PEP
+508 can't read is left out, with a word on standard error. The status is 0, or
+2 where a word is no option and where a file can't be written.
 """
 
+import argparse
 import importlib.metadata
 import json
 import os
@@ -19,10 +21,10 @@ NAME = re.compile(r"[A-Z0-9](?:[A-Z0-9._-]*[A-Z0-9])?", re.I | re.A)
 
 # PEP 440, Appendix B.
 VERSION = re.compile(
-    r"""v?(?:[0-9]+!)?[0-9]+(?:\.[0-9]+)*
-    (?:[-_.]?(?:alpha|a|beta|b|preview|pre|c|rc)[-_.]?[0-9]*)?
-    (?:-[0-9]+|[-_.]?(?:post|rev|r)[-_.]?[0-9]*)?
-    (?:[-_.]?dev[-_.]?[0-9]*)?
+    r"""v?(?:(?P<epoch>[0-9]+)!)?(?P<release>[0-9]+(?:\.[0-9]+)*)
+    (?P<pre>[-_.]?(?P<kind>alpha|a|beta|b|preview|pre|c|rc)[-_.]?[0-9]*)?
+    (?P<post>-[0-9]+|[-_.]?(?:post|rev|r)[-_.]?[0-9]*)?
+    (?P<dev>[-_.]?dev[-_.]?[0-9]*)?
     (?P<local>\+[a-z0-9]+(?:[-_.][a-z0-9]+)*)?""",
     re.I | re.A | re.X,
 )
@@ -34,7 +36,8 @@ def is_version(text):
     if not found:
         return False
     public = text[: found.start("local")] if found["local"] else text
-    return all(int(number) < 2**64 for number in re.findall("[0-9]+", public))
+    numbers = (digits.lstrip("0") or "0" for digits in re.findall("[0-9]+", public))
+    return all(len(number) <= 20 and int(number) < 2**64 for number in numbers)
 
 
 def environment():
@@ -82,15 +85,27 @@ def candidates():
     return [lines[key] for key in sorted(lines)]
 
 
+def write(folder, name, text):
+    path = os.path.join(folder, name)
+    try:
+        with open(path, "w", encoding="utf-8") as file:
+            file.write(text)
+    except OSError as error:
+        print(f"installed.py: {path}: {error.strerror}", file=sys.stderr)
+        sys.exit(2)
+
+
 def main():
-    if len(sys.argv) > 2:
-        sys.exit(__doc__)
-    folder = sys.argv[1] if len(sys.argv) == 2 else "."
-    with open(os.path.join(folder, "environment.json"), "w", encoding="utf-8") as file:
-        json.dump(environment(), file, indent=2)
-        file.write("\n")
-    with open(os.path.join(folder, "candidates.txt"), "w", encoding="utf-8") as file:
-        file.writelines(candidates())
+    words = argparse.ArgumentParser(
+        prog="installed.py", description=__doc__, formatter_class=argparse.RawDescriptionHelpFormatter
+    )
+    words.add_argument("folder", nargs="?", default=".", metavar="FOLDER", help="where both files go")
+    folder = words.parse_args().folder
+    if not os.path.isdir(folder):
+        words.error(f"no folder: {folder!r}")
+    write(folder, "environment.json", json.dumps(environment(), indent=2) + "\n")
+    write(folder, "candidates.txt", "".join(candidates()))
 
 
-main()
+if __name__ == "__main__":
+    main()

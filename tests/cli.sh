@@ -3,8 +3,8 @@
 #
 #     cli.sh [PROGRAM]
 #
-# PROGRAM is the launcher ../reqs where none is named, which builds the program where needed. A line
-# is printed for each test that fails; the last line is `cli: N passed, M failed`.
+# PROGRAM is the launcher ../reqs where none is named, and then the program is built first, so that no old one is
+# tested. A line is printed for each test that fails; the last line is `cli: N passed, M failed`.
 set -u
 export LC_ALL=C.UTF-8
 
@@ -19,7 +19,11 @@ finish() {
     exit
 }
 
-# Built once, outside the tests.
+if [ $# -eq 0 ] && ! "$top/build" reqs_cli >/dev/null </dev/null; then
+    echo "FAILED: the program was not built"
+    failed=1
+    finish
+fi
 if ! "$program" --help >/dev/null </dev/null; then
     echo "FAILED: the program can't be run: $program"
     failed=1
@@ -134,6 +138,12 @@ wants "a variable that makes no URL" 2 "" SOMETHING
 printf 'foo @ ./foo.whl\n' >path
 run check path E C
 wants "a path beside the list" 0 "foo direct$n" ""
+printf 'foo 1.0\nfoo 2.0rc1\n' >final
+run check any E final
+wants "a pre-release is an ordinary candidate" 0 "foo 2.0rc1$n" ""
+printf "foo ; 'a' == 'b'\nbar ; os_name == sys_platform\nbaz ; python_version > 'x'\n" >meaningless
+run check meaningless E final
+wants "comparisons that mean nothing" 0 "bar none${n}baz none${n}foo 2.0rc1$n" ""
 run check R E C dev Other_Extra
 wants "two extras" 0 "foo-bar 1.19$n" ""
 # (where the system gives a program 64 MiB of stack, as nearly all do that are asked)
@@ -144,8 +154,9 @@ if [ "$(ulimit -H -s)" = unlimited ] || [ "$(ulimit -H -s)" -ge 65536 ]; then
 fi
 
 # Examples.
-for example in "$top"/examples/*/; do
-    name=$(basename "$example")
+for example in "$top"/examples/*/expected.txt; do
+    example=${example%/*}
+    name=${example##*/}
     run check "$example/requirements.txt" "$example/environment.json" "$example/candidates.txt"
     cp out example.out
     wants "examples/$name: an answer" 0 SOMETHING ""
@@ -158,12 +169,14 @@ for example in "$top"/examples/*/; do
     fi
 done
 
-# What is installed for the machine's own python3, and what is asked of it.
+# The scripts of examples/: what is installed for the machine's own python3, and what is asked of it.
+script() {
+    python3 "$top/examples/$1" "${@:2}" >out 2>err
+    status=$?
+}
 if command -v python3 >/dev/null; then
     mkdir installed
-    python3 "$top/examples/installed.py" installed >out 2>left </dev/null
-    status=$?
-    cp left err
+    script installed.py installed
     wants "examples/installed.py" 0 "" ANYTHING
     # Each installed release satisfies that it is there; a package that isn't installed has no candidate.
     grep -E '^[^ ]+ [0-9]+(\.[0-9]+)*$' installed/candidates.txt >plain
@@ -177,9 +190,74 @@ if command -v python3 >/dev/null; then
         failed=$((failed + 1))
         echo "FAILED: what is installed: $(wc -l <rows) rows of $(wc -l <asked), and $(grep -c ' none$' rows) none"
     fi
+    for name in installed plain_list candidates; do
+        script $name.py --help
+        wants "examples/$name.py --help" 0 SOMETHING ""
+        script $name.py --frobnicate
+        wants "examples/$name.py: an unknown option" 2 "" SOMETHING
+        if grep -q Traceback err; then
+            failed=$((failed + 1))
+            echo "FAILED: examples/$name.py: a traceback for an unknown option"
+        else
+            passed=$((passed + 1))
+        fi
+    done
+    usage="usage: installed.py [-h] [FOLDER]${n}installed.py: error:"
+    script installed.py absent
+    wants "installed.py: no folder" 2 "" "$usage no folder: 'absent'$n"
+    script installed.py installed installed
+    wants "installed.py: two folders" 2 "" "$usage unrecognized arguments: installed$n"
+    mkdir -p taken/environment.json
+    script installed.py taken
+    wants "installed.py: a file that can't be written" 2 "" "installed.py: taken/environment.json: Is a directory$n"
+
+    cp -r "$top/tests/lists" .
+    script plain_list.py lists/pip.txt
+    wants "plain_list.py" 0 "$(cat lists/plain.txt)$n" "$(cat lists/left_out.txt)$n"
+    script plain_list.py - <<<"foo >=1 \\$n, <2 --hash=sha256:ab"
+    wants "plain_list.py: standard input" 0 "foo >=1 , <2$n" "plain_list.py: -: line 1: left out: --hash$n"
+    cp lists/plain.txt plain
+    run check plain E C
+    wants "a plain list of a list of pip" 0 "$(cat lists/rows.txt)$n" ""
+    script plain_list.py absent
+    wants "plain_list.py: a file that isn't there" 2 "" "plain_list.py: absent: No such file or directory$n"
+    script plain_list.py installed
+    wants "plain_list.py: a folder" 2 "" "plain_list.py: installed: Is a directory$n"
+    printf 'foo\n-r absent\n' >names
+    script plain_list.py names
+    wants "plain_list.py: -r of a file that isn't there" 2 "" "plain_list.py: names: line 2: absent: No such file or directory$n"
+    printf 'foo\n-r "absent\n' >names
+    script plain_list.py names
+    wants "plain_list.py: an open quotation" 2 "" "plain_list.py: names: line 2: No closing quotation$n"
+    printf 'foo\xff\n' >names
+    script plain_list.py names
+    wants "plain_list.py: a list that isn't UTF-8" 2 "" "plain_list.py: names: not UTF-8 at byte 3$n"
+    : >out
+    python3 "$top/examples/plain_list.py" asked >/dev/full 2>err
+    status=$?
+    wants "plain_list.py: a full standard output" 2 "" "plain_list.py: standard output: No space left on device$n"
+
+    script candidates.py <"$top/tests/pages/files.json"
+    wants "candidates.py: versions by files" 0 "$(cat "$top/tests/pages/files.txt")$n" "$(cat "$top/tests/pages/files_left_out.txt")$n"
+    script candidates.py <"$top/tests/pages/versions.json"
+    wants "candidates.py: versions as listed" 0 "$(cat "$top/tests/pages/versions.txt")$n" "$(cat "$top/tests/pages/versions_left_out.txt")$n"
+    cp out listed
+    echo 'Holy_Grail>=1' >names
+    run check names E listed
+    wants "candidates of an index's page" 0 "holy-grail 1.1.post1$n" ""
+    for page in '<html>' '[]' '{"files": []}' '{"name": "a-", "files": []}' '{"name": "a"}' '{"name": "a", "files": [1]}' \
+        '{"name": "a", "files": [{"filename": 1}]}' '{"name": "a", "files": [], "versions": [1]}' \
+        '{"meta": {"api-version": "2.0"}, "name": "a", "files": []}'; do
+        script candidates.py <<<"$page"
+        wants "candidates.py: $page" 2 "" SOMETHING
+        grep -q '^candidates.py: ' err && ! grep -q Traceback err
+        status=$?
+        : >err
+        wants "candidates.py: what is told of $page" 0 "" ""
+    done
 else
     failed=$((failed + 1))
-    echo "FAILED: python3 is not on the PATH, and examples/installed.py needs it"
+    echo "FAILED: python3 is not on the PATH, and the scripts of examples/ need it"
 fi
 
 # Inputs that are refused.
@@ -193,6 +271,12 @@ wants "a version number that can't be raised" 2 "" "reqs: end: line 2: a version
 printf 'foo @ ../../../../../../../../../../../../../../../foo.whl\n' >above
 run check above E C
 wants "a path above the root" 2 "" SOMETHING
+for line in '-r R' '-c R' '-e .' '--index-url https://e.example/' 'foo --hash=sha256:aa' 'foo>=1 --hash=sha256:aa' 'foo \' \
+    'foo>=1 \' 'https://e.example/foo.whl' './foo.whl' $'\xef\xbb\xbffoo'; do
+    printf '%s\n' "$line" >pips
+    run check pips E C
+    wants "what is pip's: $line" 2 "" SOMETHING
+done
 printf 'foo-bar 1.15\n\nfoo-bar\n' >shape
 run check R E shape
 wants "a candidate without a version" 2 "" "reqs: shape: line 3: shape$n"
@@ -320,7 +404,7 @@ wants "help that can't be written" 3 "" ANYTHING
 
 # Words.
 run --help
-wants "--help" 0 SOMETHING ""
+wants "--help" 0 "$(cat "$top/tests/help.txt")$n" ""
 run check --help
 wants "check --help" 0 SOMETHING ""
 run help

@@ -11,10 +11,11 @@ for itself. Where an input is refused and its text can't be made, the text of wa
 the refusal. The last run gives the answer with ample memory.
 
 The commands are `reqs check` on each example and on lists that are refused, its help, and the questions of
-crates/pep440_vectors and crates/pep508_vectors and every eighth of crates/pep508_marker_vectors, one a run. To questions
-of KEPT the program goes on: it makes a call that was refused memory again, and answers by it and by the trees that it
-made before. There some run has to give the whole answer after a refusal. The last line is `refused: N passed, M failed`,
-a command or a kind of question each.
+crates/pep440_vectors and crates/pep508_vectors and every eighth of crates/pep508_marker_vectors, one a run; each stands
+with the answer that it has with ample memory. To questions of KEPT the program goes on: it makes a call that was refused
+memory again, and answers by it and by the trees that it made before. There some run has to give the whole answer after a
+refusal. tests/least.txt says how many commands and questions there are at least. The last line is `refused: N passed, M
+failed`, a command or a kind of question each.
 """
 
 import json
@@ -44,6 +45,21 @@ def program(name):
 
 # How each program ends where memory is refused.
 WANT = {REQS: (3, b"reqs: out of memory\n"), **{program(it): (1, b"Error: Kind(OutOfMemory)\n") for it in VECTORS}}
+
+
+# What is said of some of the commands below.
+UNREAD = b"""reqs: unread: line 3, byte 3, length 1
+Package name must end with an alphanumeric character, not '-'
+foo- @ x
+   ^
+"""
+NO_TEXT = "reqs: argument \ufffd\ufffd is not UTF-8\n".encode()
+WRONG_WORD = b"""error: unrecognized subcommand 'judge'
+
+Usage: reqs <COMMAND>
+
+For more information, try '--help'.
+"""
 
 
 class Tally:
@@ -76,17 +92,17 @@ def ran(library, words, folder, first, last):
             os.close(writes)
 
 
-def try_command(library, kind, words, folder, wanted=None):
+def try_command(library, kind, words, folder, wanted):
     """Tries a command with each of its requests refused. What is wanted is what it does with ample memory."""
     tally = Tally(kind)
     label = ascii(" ".join([kind, *words[1:]]))[1:-1]
     ample, _ = ran(library, words, folder, 0, 0)
-    if wanted is not None and ample != wanted:
+    if ample != wanted:
         tally.faults.append(f"{label}: with ample memory: {ample}, not {wanted}")
         return tally
     status, text = WANT[words[0]]
     lacking, refused = [(status, b"", text)], 0
-    if ample[0] == INPUT_REFUSED:
+    if wanted[0] == INPUT_REFUSED:
         lacking.append((INPUT_REFUSED, b"", text))
     for number in range(1, MOST_REQUESTS):
         is_met = False
@@ -96,12 +112,12 @@ def try_command(library, kind, words, folder, wanted=None):
                 break
             tally.runs += 1
             refused += ended in lacking
-            tally.harmless += ended == ample
-            if ended not in (*lacking, ample):
+            tally.harmless += ended == wanted
+            if ended not in (*lacking, wanted):
                 which = f"request {number} refused" + (", and all after it" if last == ALL else "")
                 tally.faults.append(f"{label}: {which}: {ended}")
         if not is_met:
-            if ended != ample:
+            if ended != wanted:
                 tally.faults.append(f"{label}: with no request refused: {ended}")
             break
         tally.requests = number
@@ -120,7 +136,7 @@ def read(path):
 
 
 def commands(room):
-    """The commands of `reqs`: a name, its words, the folder and what is wanted where it is known."""
+    """The commands of `reqs`: a name, its words, the folder, and the status and the outputs that are wanted."""
     examples = os.path.join(TOP, "examples")
     files = ["requirements.txt", "environment.json", "candidates.txt"]
     for name in sorted(os.listdir(examples)):
@@ -135,17 +151,18 @@ def commands(room):
     for name, text in (("unread", b"foo>=1.0\n\nfoo- @ x\n"), ("name", b"foo 1.0\nfoo- 1.0\n"), ("version", b"foo 1.0\nfoo 1.0+\n")):
         with open(os.path.join(room, name), "wb") as file:
             file.write(text)
-    yield "a line that is no requirement:", ["check", "unread", *files[1:]], room, None
-    yield "a candidate's name:", ["check", *files[:2], "name"], room, None
-    yield "a candidate's version:", ["check", *files[:2], "version"], room, None
-    yield "no environment:", ["check", files[0], "absent", files[2]], room, None
-    yield "extras:", ["check", *files, "Dev_Extra", "tests"], room, None
-    yield "a wrong extra:", ["check", *files, "dev-"], room, None
-    yield "standard input:", ["check", *files[:2], "-"], room, None
-    yield "a path that is no text:", ["check", *files[:2], os.fsdecode(b"\xff\xfe")], room, None
-    yield "help:", ["--help"], room, None
-    yield "version:", ["--version"], room, None
-    yield "a wrong word:", ["judge"], room, None
+    yield "a line that is no requirement:", ["check", "unread", *files[1:]], room, (2, b"", UNREAD)
+    yield "a candidate's name:", ["check", *files[:2], "name"], room, (2, b"", b"reqs: name: line 2: name\n")
+    yield "a candidate's version:", ["check", *files[:2], "version"], room, (2, b"", b"reqs: version: line 2: version\n")
+    yield "no environment:", ["check", files[0], "absent", files[2]], room, (3, b"", b"reqs: absent: read fault\n")
+    yield "extras:", ["check", *files, "Dev_Extra", "tests"], room, (0, b"foo-bar 1.19\n", b"")
+    yield "a wrong extra:", ["check", *files, "dev-"], room, (2, b"", b"reqs: extra dev- is no name\n")
+    # (nothing stands there, so no candidate)
+    yield "standard input:", ["check", *files[:2], "-"], room, (0, b"foo-bar none\n", b"")
+    yield "a path that is no text:", ["check", *files[:2], os.fsdecode(b"\xff\xfe")], room, (2, b"", NO_TEXT)
+    yield "help:", ["--help"], room, (0, read(os.path.join(TOP, "tests", "help.txt")), b"")
+    yield "version:", ["--version"], room, (0, b"reqs 0.1.0\n", b"")
+    yield "a wrong word:", ["judge"], room, (2, b"", WRONG_WORD)
 
 
 def tasks(library, room):
@@ -196,15 +213,15 @@ def main(words):
     with tempfile.TemporaryDirectory(prefix="refused-") as room, multiprocessing.Pool(lanes) as pool:
         for it in pool.imap(work, tasks(os.path.abspath(words[0]), room), chunksize=4):
             tallies.setdefault(it.kind, Tally(it.kind)).add(it)
-    failed = 0
     for it in tallies.values():
-        failed += bool(it.faults)
         for fault in it.faults[:5]:
             print(f"FAILED: {fault[:600]}")
         if len(it.faults) > 5:
             print(f"FAILED: {it.kind} {len(it.faults) - 5} more")
         print(f"{it.kind} {it.requests} requests, {it.runs} runs, {it.harmless} of them answered all the same")
-    print(f"refused: {len(tallies) - failed} passed, {failed} failed")
+    passed = sum(not it.faults for it in tallies.values())
+    failed = len(tallies) - passed
+    print(f"refused: {passed} passed, {failed} failed")
     return 1 if failed else 0
 
 

@@ -1,199 +1,249 @@
-//! Answers on what is done with lists of specifiers.
+//! Answers on lists of specifiers.
 
-ghost use Rattle.pep440_rs.specs.Bounds.{IsReleaseVersion, IsReleaseBound, lent_bound};
-
-use crate::answers::{REFUSED, specifiers, version};
-use crate::calls::{hash_of, sign};
-use crate::said::release;
-use crate::sets::specifier;
-use pep440_rs::{
-    CountedSpecifiers, FromValueError, Version, VersionSpecifiers, VersionSpecifiersParseError,
+use crate::answers::{hash_of, refused, sign, yes_or_no};
+use crate::{sets, values, versions};
+use pep440_specifier::{VersionSpecifier, VersionSpecifierParseError};
+use pep440_specifier_list::{
+    CountedSpecifiers, RefusedPiece, VersionSpecifiers, VersionSpecifiersParseError,
 };
-use serde_json::Value;
+use pep440_version::Version;
 use std::alloc::{AllocError, Global};
-use std::ops::Bound;
 
-/// The answer to a question of three texts; none for another kind.
+/// The answer to a question on lists, or to one of another kind.
 pub fn answer(
     alloc: Global,
     kind: &str,
     first: &str,
     second: &str,
     third: &str,
-) -> Result<Option<String>, AllocError> {
-    Ok(Some(match kind {
-        "counted" => counted(alloc, first, second)?,
-        "list of" => list_of(alloc, first, second, third)?,
-        "list of one" => list_of_one(alloc, first)?,
-        "list prints" => prints(alloc, first)?,
-        "list value" => value(alloc, first)?,
-        "lists" => compared(alloc, first, second)?,
-        "empty list" => empty(alloc, first)?,
-        "list picture" => picture(alloc, first)?,
-        "but from" | "but up to" => but(alloc, kind, first, second)?,
-        "around" => around(alloc, first, second, third)?,
-        "no intervals" => no_intervals(alloc)?,
-        _ => return Ok(None),
-    }))
+) -> Result<String, AllocError> {
+    match kind {
+        "list"
+        | "list prints"
+        | "list fault"
+        | "list picture"
+        | "list set"
+        | "release list set"
+        | "intervals" => of_one(alloc, kind, first),
+        "contains" | "range" | "counted" => with_version(alloc, kind, first, second),
+        "lists" => of_two(alloc, first, second),
+        "list of" => of_members(alloc, first, second, third),
+        "union" | "intersection" => sets::of_two(alloc, kind, first, second, third),
+        _ => values::answer(alloc, kind, first),
+    }
+}
+
+fn of_one(alloc: Global, kind: &str, text: &str) -> Result<String, AllocError> {
+    match VersionSpecifiers::from_str(alloc, text) {
+        Ok(list) => told(alloc, kind, &list),
+        Err(error) => unread(alloc, kind, &error),
+    }
+}
+
+/// What is answered where a text is no list.
+pub fn unread(
+    alloc: Global,
+    kind: &str,
+    error: &VersionSpecifiersParseError,
+) -> Result<String, AllocError> {
+    match error {
+        VersionSpecifiersParseError::Memory => Err(AllocError),
+        VersionSpecifiersParseError::Specifier(piece) if kind == "list fault" => {
+            refused_piece(alloc, piece)
+        }
+        error => match kind {
+            "list picture" => picture(alloc, error),
+            "list value" => format!(in alloc; "refused: {error}"),
+            _ => refused(alloc),
+        },
+    }
+}
+
+/// The first piece between commas that is none, its place in bytes, and what is wrong with it.
+fn refused_piece(alloc: Global, refused: &RefusedPiece) -> Result<String, AllocError> {
+    let (start, end) = (refused.start(), refused.end());
+    let (piece, line, fault) = (refused.piece(), refused.line(), refused.error());
+    format!(in alloc; "`{piece}` from {start} to {end} of `{line}`: {fault}")
+}
+
+/// The whole print of a refusal, behind the line that it keeps.
+fn picture(alloc: Global, error: &VersionSpecifiersParseError) -> Result<String, AllocError> {
+    let line = error.line();
+    format!(in alloc; "`{line}`: {error}")
+}
+
+fn told(alloc: Global, kind: &str, list: &VersionSpecifiers) -> Result<String, AllocError> {
+    match kind {
+        "list" => list.to_string(alloc),
+        "list prints" => copied(alloc, list),
+        "list fault" => format!(in alloc; "read {list}"),
+        "list picture" => String::from_str(alloc, "read"),
+        _ => sets::of_list(alloc, kind, list),
+    }
+}
+
+/// How many members a list's copy has, its prints, and whether it is equal.
+fn copied(alloc: Global, list: &VersionSpecifiers) -> Result<String, AllocError> {
+    let copy = list.try_clone(alloc)?;
+    let is_alike = copy == *list && hash_of(&copy) == hash_of(list);
+    prints(alloc, &copy, is_alike)
+}
+
+/// How many members a list has, and its prints: for programmers, with bare commas, and as a JSON value.
+fn prints(alloc: Global, list: &VersionSpecifiers, is_alike: bool) -> Result<String, AllocError> {
+    let value = list.to_value(alloc)?;
+    let (count, bare) = (list.as_slice().len(), list.bare_commas());
+    format!(in alloc; "{count} members, {list:?}, {bare}, {value}, alike {is_alike}")
+}
+
+fn with_version(
+    alloc: Global,
+    kind: &str,
+    list: &str,
+    candidate: &str,
+) -> Result<String, AllocError> {
+    match VersionSpecifiers::from_str(alloc, list) {
+        Ok(list) => with_text(alloc, kind, &list, candidate),
+        Err(error) => unread(alloc, kind, &error),
+    }
+}
+
+fn with_text(
+    alloc: Global,
+    kind: &str,
+    list: &VersionSpecifiers,
+    candidate: &str,
+) -> Result<String, AllocError> {
+    match Version::from_str(alloc, candidate) {
+        Ok(candidate) => takes(alloc, kind, list, &candidate),
+        Err(error) => versions::unread(alloc, kind, &error),
+    }
+}
+
+/// Whether a list, or its set, takes a version.
+fn takes(
+    alloc: Global,
+    kind: &str,
+    list: &VersionSpecifiers,
+    candidate: &Version,
+) -> Result<String, AllocError> {
+    match kind {
+        "contains" => yes_or_no(alloc, list.contains(alloc, candidate)),
+        "range" => sets::holds(alloc, list, candidate),
+        _ => counted(alloc, list.try_clone(alloc)?, candidate),
+    }
 }
 
 /// Whether a counted list takes a version, asked twice, and how many of its members were asked by then.
-fn counted(alloc: Global, list: &str, candidate: &str) -> Result<String, AllocError> {
-    let (Some(list), Some(candidate)) = (specifiers(alloc, list)?, version(alloc, candidate)?)
-    else {
-        return String::from_str(alloc, REFUSED);
-    };
+fn counted(
+    alloc: Global,
+    list: VersionSpecifiers,
+    candidate: &Version,
+) -> Result<String, AllocError> {
     let mut list = CountedSpecifiers::new(list);
     let before = list.tests();
-    let taken = list.contains_counted(alloc, &candidate)?;
+    let taken = list.contains_counted(alloc, candidate)?;
     let once = list.tests();
-    let again = list.contains_counted(alloc, &candidate)?;
+    let again = list.contains_counted(alloc, candidate)?;
     let twice = list.tests();
+    asked(alloc, before, (taken, once), (again, twice))
+}
+
+fn asked(
+    alloc: Global,
+    before: u64,
+    (taken, once): (bool, u64),
+    (again, twice): (bool, u64),
+) -> Result<String, AllocError> {
     format!(in alloc; "{before} asked, {taken} {once}, {again} {twice}")
 }
 
-/// A list of three specifiers, in the order given.
-fn list_of(alloc: Global, first: &str, second: &str, third: &str) -> Result<String, AllocError> {
-    let mut members = Vec::new(alloc);
-    for text in [first, second, third] {
-        match specifier(alloc, text)? {
-            Some(member) => members.push(member)?,
-            None => return String::from_str(alloc, REFUSED),
-        }
+fn of_two(alloc: Global, left: &str, right: &str) -> Result<String, AllocError> {
+    match VersionSpecifiers::from_str(alloc, left) {
+        Ok(left) => beside(alloc, &left, right),
+        Err(error) => unread(alloc, "lists", &error),
     }
-    VersionSpecifiers::from_specifiers(alloc, members)?.to_string(alloc)
 }
 
-/// A list of one specifier, and how many members it has, lent and taken.
-fn list_of_one(alloc: Global, text: &str) -> Result<String, AllocError> {
-    let Some(member) = specifier(alloc, text)? else {
-        return String::from_str(alloc, REFUSED);
-    };
-    let list = VersionSpecifiers::from_specifier(alloc, member)?;
-    let mut answer = list.to_string(alloc)?;
-    let lent = list.iter().count();
-    let taken = list.into_iter().len();
-    answer.push_str(format!(in alloc; ", {lent}, {taken}")?.as_str())?;
-    Ok(answer)
-}
-
-/// How many members a list's copy has, and its prints: for programmers, with bare commas, and as a JSON
-/// value.
-fn prints(alloc: Global, text: &str) -> Result<String, AllocError> {
-    let Some(list) = specifiers(alloc, text)? else {
-        return String::from_str(alloc, REFUSED);
-    };
-    let copy = list.try_clone(alloc)?;
-    let is_alike = copy == list && hash_of(&copy) == hash_of(&list);
-    let count = copy.as_slice().len();
-    let value = copy.to_value(alloc)?;
-    let bare = copy.bare_commas();
-    format!(in alloc; "{count} members, {copy:?}, {bare}, {value}, alike {is_alike}")
-}
-
-/// The list that a JSON value is.
-fn value(alloc: Global, text: &str) -> Result<String, AllocError> {
-    let value = match Value::from_str(alloc, text) {
-        Ok(value) => value,
-        Err(error) if error.is_memory() => return Err(AllocError),
-        Err(_) => return String::from_str(alloc, "no JSON"),
-    };
-    match VersionSpecifiers::from_value(alloc, &value) {
-        Ok(list) => list.to_string(alloc),
-        Err(FromValueError::Shape) => String::from_str(alloc, "shape"),
-        Err(FromValueError::Text(VersionSpecifiersParseError::Memory)) => Err(AllocError),
-        Err(FromValueError::Text(error)) => format!(in alloc; "refused: {error}"),
+fn beside(alloc: Global, left: &VersionSpecifiers, right: &str) -> Result<String, AllocError> {
+    match VersionSpecifiers::from_str(alloc, right) {
+        Ok(right) => compared(alloc, left, &right),
+        Err(error) => unread(alloc, "lists", &error),
     }
 }
 
 /// The order of two lists, both ways.
-fn compared(alloc: Global, left: &str, right: &str) -> Result<String, AllocError> {
-    let (Some(left), Some(right)) = (specifiers(alloc, left)?, specifiers(alloc, right)?) else {
-        return String::from_str(alloc, REFUSED);
-    };
-    let order = sign(left.cmp(&right));
-    let turned = right.partial_cmp(&left);
+fn compared(
+    alloc: Global,
+    left: &VersionSpecifiers,
+    right: &VersionSpecifiers,
+) -> Result<String, AllocError> {
+    let order = sign(left.cmp(right));
+    let turned = right.partial_cmp(left);
     format!(in alloc; "{order}, turned {turned:?}")
 }
 
-/// The empty list: whether it takes a version, and its print.
-fn empty(alloc: Global, text: &str) -> Result<String, AllocError> {
-    let Some(candidate) = version(alloc, text)? else {
-        return String::from_str(alloc, REFUSED);
-    };
-    let list = VersionSpecifiers::empty(alloc);
-    let is_empty = list.is_empty();
-    let taken = list.contains(alloc, &candidate)?;
-    format!(in alloc; "`{list}`, empty {is_empty}, takes {taken}")
-}
-
-/// The whole print of a refusal, behind the line that it keeps.
-fn picture(alloc: Global, text: &str) -> Result<String, AllocError> {
-    match VersionSpecifiers::from_str(alloc, text) {
-        Ok(_) => String::from_str(alloc, "read"),
-        Err(VersionSpecifiersParseError::Memory) => Err(AllocError),
-        Err(error) => {
-            let line = error.line();
-            format!(in alloc; "`{line}`: {error}")
+/// A list of three specifiers, in the order given.
+fn of_members(alloc: Global, first: &str, second: &str, third: &str) -> Result<String, AllocError> {
+    let mut members = Vec::new(alloc);
+    for text in [first, second, third] {
+        if !push_member(alloc, &mut members, text)? {
+            return refused(alloc);
         }
     }
+    printed(alloc, members)
 }
 
-/// All releases but those between two bounds.
-fn without(
+/// Takes a specifier among the members, and says whether the text is one.
+fn push_member(
     alloc: Global,
-    upper: Bound<&Version>,
-    lower: Bound<&Version>,
-) -> Result<String, AllocError>
-    requires upper { IsReleaseBound (lent_bound upper) }
-    requires lower { IsReleaseBound (lent_bound lower) }
-{
-    let bounds = [(Bound::Unbounded, upper), (lower, Bound::Unbounded)];
-    VersionSpecifiers::from_release_only_bounds(alloc, &bounds)?.to_string(alloc)
-}
-
-/// All releases but those from a version to below or up to another one.
-fn but(alloc: Global, kind: &str, upper: &str, lower: &str) -> Result<String, AllocError> {
-    let (Some(upper), Some(lower)) = (release(alloc, upper)?, release(alloc, lower)?) else {
-        return String::from_str(alloc, REFUSED);
-    };
-    if kind == "but from" {
-        without(alloc, Bound::Excluded(&upper), Bound::Included(&lower))
-    } else {
-        without(alloc, Bound::Excluded(&upper), Bound::Excluded(&lower))
+    members: &mut Vec<VersionSpecifier>,
+    text: &str,
+) -> Result<bool, AllocError> {
+    match VersionSpecifier::from_str(alloc, text) {
+        Ok(member) => {
+            members.push(member)?;
+            Ok(true)
+        }
+        Err(VersionSpecifierParseError::Memory) => Err(AllocError),
+        Err(_) => Ok(false),
     }
 }
 
-/// The list of a lower version up to below an upper one, but for one between.
-fn around(alloc: Global, lower: &str, middle: &str, upper: &str) -> Result<String, AllocError> {
-    let lower = release(alloc, lower)?;
-    let middle = release(alloc, middle)?;
-    let (Some(lower), Some(middle), Some(upper)) = (lower, middle, release(alloc, upper)?) else {
-        return String::from_str(alloc, REFUSED);
-    };
-    around_one(alloc, &lower, &middle, &upper)
+fn printed(alloc: Global, members: Vec<VersionSpecifier>) -> Result<String, AllocError> {
+    VersionSpecifiers::from_specifiers(alloc, members)?.to_string(alloc)
 }
 
-fn around_one<'a>(
+/// The list of one specifier, and how many members it has, lent and taken.
+pub fn of_member(alloc: Global, member: VersionSpecifier) -> Result<String, AllocError> {
+    let list = VersionSpecifiers::from_specifier(alloc, member)?;
+    let lent = list.iter().count();
+    let text = list.to_string(alloc)?;
+    let taken = list.into_iter().len();
+    of_member_shown(alloc, text.as_str(), lent, taken)
+}
+
+fn of_member_shown(
     alloc: Global,
-    lower: &'a Version,
-    middle: &'a Version,
-    upper: &'a Version,
-) -> Result<String, AllocError>
-    requires lower { IsReleaseVersion lower.now }
-    requires middle { IsReleaseVersion middle.now }
-    requires upper { IsReleaseVersion upper.now }
-{
-    let bounds = [
-        (Bound::Included(lower), Bound::Excluded(middle)),
-        (Bound::Excluded(middle), Bound::Excluded(upper)),
-    ];
-    VersionSpecifiers::from_release_only_bounds(alloc, &bounds)?.to_string(alloc)
+    text: &str,
+    lent: usize,
+    taken: usize,
+) -> Result<String, AllocError> {
+    format!(in alloc; "{text}, {lent}, {taken}")
 }
 
-/// The list of no intervals.
-fn no_intervals(alloc: Global) -> Result<String, AllocError> {
-    let list = VersionSpecifiers::from_release_only_bounds(alloc, &[])?;
+/// The empty list: whether it takes a version, and its print.
+pub fn empty(alloc: Global, candidate: &Version) -> Result<String, AllocError> {
+    let list = VersionSpecifiers::empty(alloc);
+    empty_shown(alloc, &list, candidate)
+}
+
+fn empty_shown(
+    alloc: Global,
+    list: &VersionSpecifiers,
+    candidate: &Version,
+) -> Result<String, AllocError> {
     let is_empty = list.is_empty();
-    format!(in alloc; "empty {is_empty}")
+    let taken = list.contains(alloc, candidate)?;
+    format!(in alloc; "`{list}`, empty {is_empty}, takes {taken}")
 }

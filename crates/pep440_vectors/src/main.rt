@@ -4,11 +4,14 @@
 #![tactic(auto)]
 
 mod answers;
-mod calls;
-mod faults;
+mod built;
 mod lists;
-mod said;
+mod patterns;
+mod releases;
 mod sets;
+mod specifiers;
+mod values;
+mod versions;
 
 use answers::answer;
 use std::{fs, io};

@@ -5,10 +5,10 @@ use Rattle.std.proofs.lemmas.Bool.{false≢true}
 use Rattle.std.specs.Option.{option_map, is_some}
 use Rattle.std.specs.List.{list_all}
 use Rattle.std.specs.declared.ops.Bound.TheVariants.{Included, Excluded}
-use Rattle.pep440_rs.specs.Record.{VersionRecord, release_record}
-use Rattle.pep440_rs.specs.Releases.{last_raised}
-use Rattle.pep440_rs.specs.Operators.{negated}
-use Rattle.pep440_rs.specs.Ranges.{PointTest, all_but, from_bound, to_bound, star_releases}
+use Rattle.pep440_text.specs.Record.{VersionRecord, release_record}
+use Rattle.pep440_text.specs.Releases.{last_raised}
+use Rattle.pep440_operator.specs.Operators.{negated}
+use Rattle.pep440_range.specs.Ranges.{PointTest, all_but, from_bound, to_bound, star_releases}
 use Rattle.pep440_operator.specs.declared.operator.Operator.{Operator}
 use Rattle.pep440_operator.specs.declared.operator.Operator.TheVariants as operators
 use Rattle.pep440_range.proofs.Complements.{rest_of_rest, from_is_rest, below_is_rest}

@@ -4,11 +4,11 @@ use Rattle.std.specs.declared.cmp.Ordering.TheVariants.{Less, Greater}
 use Rattle.std.specs.declared.ops.Bound.TheVariants.{Included, Excluded}
 use Rattle.std.specs.Ordering.{ordering_then, is_eq, is_lt, is_gt}
 use Rattle.version_ranges.specs.Point.{Point, BelowAll, At, JustAbove, point_cmp}
-use Rattle.pep440_rs.specs.Record.{VersionRecord, release_record}
-use Rattle.pep440_rs.specs.Order.{stripped, key_of, key_cmp, version_cmp}
-use Rattle.pep440_rs.specs.Changes.{or_zero}
-use Rattle.pep440_rs.specs.Operators.{is_star, is_tilde}
-use Rattle.pep440_rs.specs.Ranges.{all_but, at_version, from_bound, to_bound, release_range_by}
+use Rattle.pep440_text.specs.Record.{VersionRecord, release_record}
+use Rattle.pep440_version.specs.Order.{stripped, key_of, key_cmp, version_cmp}
+use Rattle.pep440_version.specs.Changes.{or_zero}
+use Rattle.pep440_operator.specs.Operators.{is_star, is_tilde}
+use Rattle.pep440_range.specs.Ranges.{all_but, at_version, from_bound, to_bound, release_range_by}
 use Rattle.pep440_operator.specs.declared.operator.Operator.{Operator}
 use Rattle.pep440_operator.specs.declared.operator.Operator.TheVariants as operators
 use Rattle.pep508_comparison.specs.Comparisons.{compared_numbers}

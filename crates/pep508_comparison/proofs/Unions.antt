@@ -10,9 +10,9 @@ use Rattle.std.specs.List.{list_all}
 use Rattle.std.specs.Option.{is_some, option_map}
 use Rattle.version_ranges.specs.Point.{Point}
 use Rattle.version_ranges.specs.Held.{holds_at}
-use Rattle.pep440_rs.specs.Record.{VersionRecord}
-use Rattle.pep440_rs.specs.Order.{version_cmp}
-use Rattle.pep440_rs.specs.Ranges.{PointTest, at_version, range_holds, Gives}
+use Rattle.pep440_text.specs.Record.{VersionRecord}
+use Rattle.pep440_version.specs.Order.{version_cmp}
+use Rattle.pep440_range.specs.Ranges.{PointTest, at_version, range_holds, Gives}
 use Rattle.pep440_range.specs.declared.range_error.RangeError.{RangeError}
 use Rattle.pep440_range.specs.declared.range_error.RangeError.TheVariants.{NumberAtEnd, Memory}
 use Rattle.pep508_comparison.specs.Comparisons.{nowhere, negated_points, listed, in_minor, is_minor}

@@ -1,7 +1,7 @@
 -- Numbers without the zeros at their end, down to one number.
 use Rattle.std.proofs.Common.{◌≡◌, ◌==◌, ℕ, false, List, [], ◌∷◌, ◌++◌, refl, ap, ◌∙◌}
-use Rattle.pep440_rs.specs.Order.{stripped}
-use Rattle.pep440_rs.specs.Changes.{or_zero}
+use Rattle.pep440_version.specs.Order.{stripped}
+use Rattle.pep440_version.specs.Changes.{or_zero}
 use Rattle.pep440_version.proofs.Stripped.{stripped-zero, stripped-last}
 
 or_zero-snoc : (xs : List ℕ) (n : ℕ) → or_zero (xs ++ n ∷ []) ≡ xs ++ n ∷ []

@@ -6,13 +6,13 @@ use Rattle.std.specs.Prelude.{Option, Some, None}
 use Rattle.std.specs.List.{list_all, list_any}
 use Rattle.std.specs.Option.{option_map, is_some}
 use Rattle.std.specs.declared.ops.Bound.TheVariants.{Included, Excluded}
-use Rattle.pep440_rs.specs.Record.{VersionRecord, release_record}
-use Rattle.pep440_rs.specs.Order.{stripped}
-use Rattle.pep440_rs.specs.Changes.{or_zero}
-use Rattle.pep440_rs.specs.Releases.{last_raised}
-use Rattle.pep440_rs.specs.Matching.{SpecifierRecord}
-use Rattle.pep440_rs.specs.Ranges.{PointTest, at_version, from_bound, to_bound, all_but, range_holds}
-use Rattle.pep440_rs.specs.Ranges.{release_range_by, star_releases}
+use Rattle.pep440_text.specs.Record.{VersionRecord, release_record}
+use Rattle.pep440_version.specs.Order.{stripped}
+use Rattle.pep440_version.specs.Changes.{or_zero}
+use Rattle.pep440_text.specs.Releases.{last_raised}
+use Rattle.pep440_specifier.specs.Matching.{SpecifierRecord}
+use Rattle.pep440_range.specs.Ranges.{PointTest, at_version, from_bound, to_bound, all_but, range_holds}
+use Rattle.pep440_range.specs.Ranges.{release_range_by, star_releases}
 use Rattle.pep440_operator.specs.declared.operator.Operator.{Operator}
 use Rattle.pep440_operator.specs.declared.operator.Operator.TheVariants.{Equal, EqualStar, ExactEqual}
 use Rattle.pep440_operator.specs.declared.operator.Operator.TheVariants.{NotEqual, NotEqualStar, TildeEqual}

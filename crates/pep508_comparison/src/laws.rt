@@ -4,10 +4,10 @@
 ghost use Rattle.std.specs.Prelude.{◌≡◌, true, false, List, Some};
 ghost use Rattle.std.specs.List.{list_all};
 ghost use Rattle.std.specs.Option.{option_map};
-ghost use Rattle.pep440_rs.specs.Record.{VersionRecord};
-ghost use Rattle.pep440_rs.specs.Order.{stripped};
-ghost use Rattle.pep440_rs.specs.Operators.{negated, is_star, is_tilde};
-ghost use Rattle.pep440_rs.specs.Ranges.{all_but, release_range_of};
+ghost use Rattle.pep440_text.specs.Record.{VersionRecord};
+ghost use Rattle.pep440_version.specs.Order.{stripped};
+ghost use Rattle.pep440_operator.specs.Operators.{negated, is_star, is_tilde};
+ghost use Rattle.pep440_range.specs.Ranges.{all_but, release_range_of};
 ghost use Rattle.pep440_operator.specs.declared.operator.Operator.{Operator};
 ghost use Rattle.pep508_comparison.specs.Comparisons.{is_minor, python_version_points, python_listed_points};
 

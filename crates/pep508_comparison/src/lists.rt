@@ -4,16 +4,17 @@ ghost use Rattle.std.specs.Prelude.{◌≡◌, IfOk};
 ghost use Rattle.std.specs.List.{list_all};
 ghost use Rattle.version_ranges.specs.Point.{Point};
 ghost use Rattle.version_ranges.specs.Held.{holds_at};
-ghost use Rattle.pep440_rs.specs.Record.{VersionRecord};
-ghost use Rattle.pep440_rs.specs.Order.{version_cmp};
-ghost use Rattle.pep440_rs.specs.Ranges.{Gives};
+ghost use Rattle.pep440_text.specs.Record.{VersionRecord};
+ghost use Rattle.pep440_version.specs.Order.{version_cmp};
+ghost use Rattle.pep440_range.specs.Ranges.{Gives};
 ghost use Rattle.pep508_comparison.specs.Comparisons.{is_minor, negated_points, listed, listed_minors};
 ghost use Rattle.pep508_comparison.specs.Comparisons.{python_listed_points};
 ghost use Rattle.pep508_comparison.specs.Unions.{GivesAny};
 
 use crate::minors::in_minor;
 use crate::sets;
-use pep440_rs::{RangeError, Version};
+use pep440_range::RangeError;
+use pep440_version::Version;
 use std::alloc::{AllocError, Global};
 use version_ranges::Ranges;
 

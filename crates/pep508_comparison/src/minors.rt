@@ -1,11 +1,12 @@
 //! Minor releases of an interpreter, as sets of full versions.
 
-ghost use Rattle.pep440_rs.specs.Ranges.{Gives};
+ghost use Rattle.pep440_range.specs.Ranges.{Gives};
 ghost use Rattle.pep508_comparison.specs.Comparisons.{in_minor, from_next_minor, before_next_minor};
 
 use crate::numbers::{minor_of, next_minor};
 use crate::sets;
-use pep440_rs::{RangeError, Version};
+use pep440_range::RangeError;
+use pep440_version::Version;
 use std::alloc::Global;
 use version_ranges::Ranges;
 

@@ -2,13 +2,14 @@
 
 ghost use Rattle.std.specs.Prelude.{◌≡◌, ◌<◌, length};
 ghost use Rattle.std.specs.List.{list_all};
-ghost use Rattle.pep440_rs.specs.Order.{stripped};
-ghost use Rattle.pep440_rs.specs.Changes.{or_zero};
-ghost use Rattle.pep440_rs.specs.Releases.{last_raised};
-ghost use Rattle.pep440_rs.specs.Numbers.{Raises};
+ghost use Rattle.pep440_version.specs.Order.{stripped};
+ghost use Rattle.pep440_version.specs.Changes.{or_zero};
+ghost use Rattle.pep440_text.specs.Releases.{last_raised};
+ghost use Rattle.pep440_range.specs.Numbers.{Raises};
 ghost use Rattle.pep508_comparison.specs.Comparisons.{minor_of, compared_numbers, is_zero};
 
-use pep440_rs::{Operator, RangeError};
+use pep440_operator::Operator;
+use pep440_range::RangeError;
 
 /// The numbers that count beside an operator.
 pub(crate) fn compared_numbers(operator: Operator, numbers: &[u64]) -> &[u64]

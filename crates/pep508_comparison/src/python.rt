@@ -1,14 +1,17 @@
 //! Comparisons of `python_version`.
 
 ghost use Rattle.std.specs.Prelude.{◌≡◌, ◌<◌, ◌≤◌, length};
-ghost use Rattle.pep440_rs.specs.Ranges.{Gives};
+ghost use Rattle.pep440_range.specs.Ranges.{Gives};
 ghost use Rattle.pep508_comparison.specs.Comparisons.{compared_numbers, python_points, python_points_past};
 ghost use Rattle.pep508_comparison.specs.Comparisons.{python_version_points};
 
 use crate::minors::{before_next_minor, from_next_minor, in_minor};
 use crate::numbers::{are_zeros, compared_numbers};
 use crate::sets;
-use pep440_rs::{Operator, RangeError, Version, VersionSpecifier, release_specifier_to_range};
+use pep440_operator::Operator;
+use pep440_range::{RangeError, release_specifier_to_range};
+use pep440_specifier::VersionSpecifier;
+use pep440_version::Version;
 use std::alloc::Global;
 use version_ranges::Ranges;
 

@@ -5,12 +5,13 @@ ghost use Rattle.std.specs.Option.{option_map};
 ghost use Rattle.std.specs.declared.ops.Bound.TheVariants.{Included, Excluded};
 ghost use Rattle.version_ranges.specs.Point.{Point};
 ghost use Rattle.version_ranges.specs.Held.{holds_at};
-ghost use Rattle.pep440_rs.specs.Record.{VersionRecord};
-ghost use Rattle.pep440_rs.specs.Order.{version_cmp};
-ghost use Rattle.pep440_rs.specs.Ranges.{PointTest, Gives, from_bound, to_bound, up_to};
+ghost use Rattle.pep440_text.specs.Record.{VersionRecord};
+ghost use Rattle.pep440_version.specs.Order.{version_cmp};
+ghost use Rattle.pep440_range.specs.Ranges.{PointTest, Gives, from_bound, to_bound, up_to};
 ghost use Rattle.pep508_comparison.specs.Comparisons.{nowhere, everywhere, negated_points};
 
-use pep440_rs::{RangeError, Version};
+use pep440_range::RangeError;
+use pep440_version::Version;
 use std::alloc::Global;
 use std::ops::Bound;
 use version_ranges::Ranges;

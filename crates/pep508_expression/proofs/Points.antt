@@ -1,8 +1,8 @@
 -- The points of a comparison that has some.
 use Rattle.std.proofs.Common.{◌≡◌, refl, Option, Some, None}
 use Rattle.version_ranges.specs.Point.{Point}
-use Rattle.pep440_rs.specs.Record.{VersionRecord}
-use Rattle.pep440_rs.specs.Ranges.{PointTest, range_holds}
+use Rattle.pep440_text.specs.Record.{VersionRecord}
+use Rattle.pep440_range.specs.Ranges.{PointTest, range_holds}
 use Rattle.pep508_expression.specs.Expressions.{or_nowhere}
 
 pub points_or_nowhere : (points : Option PointTest) (p : Point VersionRecord) →

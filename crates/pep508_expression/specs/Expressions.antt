@@ -6,9 +6,9 @@ use Rattle.std.specs.Ordering.{is_eq}
 use Rattle.std.specs.declared.ops.Bound.TheVariants.{Included, Excluded}
 use Rattle.version_ranges.specs.Bounds.{starts_by, goes_on_to}
 use Rattle.version_ranges.specs.Point.{At, point_cmp}
-use Rattle.pep440_rs.specs.Record.{VersionRecord}
-use Rattle.pep440_rs.specs.Matching.{SpecifierRecord}
-use Rattle.pep440_rs.specs.Ranges.{PointTest, release_range_of}
+use Rattle.pep440_text.specs.Record.{VersionRecord}
+use Rattle.pep440_specifier.specs.Matching.{SpecifierRecord}
+use Rattle.pep440_range.specs.Ranges.{PointTest, release_range_of}
 use Rattle.pep508_marker.specs.declared.keys.MarkerValueVersion.{MarkerValueVersion}
 use Rattle.pep508_marker.specs.declared.keys.MarkerValueVersion.TheVariants.{ImplementationVersion}
 use Rattle.pep508_marker.specs.declared.keys.MarkerValueVersion.TheVariants.{PythonFullVersion, PythonVersion}

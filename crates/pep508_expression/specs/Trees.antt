@@ -1,7 +1,7 @@
 -- What the tree of a comparison is, and when there is none.
 use Rattle.std.specs.Prelude.{◌≡◌, Bool, true, false, List, Result, Ok, Err}
-use Rattle.pep440_rs.specs.declared.RangeError.{RangeError}
-use Rattle.pep440_rs.specs.declared.RangeError.TheVariants.{NumberAtEnd, Memory}
+use Rattle.pep440_range.specs.declared.RangeError.{RangeError}
+use Rattle.pep440_range.specs.declared.RangeError.TheVariants.{NumberAtEnd, Memory}
 use Rattle.pep508_marker.specs.declared.operators.MarkerOperator.TheVariants.{TildeEqual}
 use Rattle.pep508_marker.specs.Expression.{ExpressionRecord, Version, VersionIn, String, Extra}
 use Rattle.pep508_diagram.specs.Question.{Valuation}

@@ -1,14 +1,14 @@
 //! Trees of comparisons.
 
 ghost use Rattle.std.specs.Prelude.{◌≡◌, List, Result};
-ghost use Rattle.pep440_rs.specs.declared.RangeError.{RangeError};
+ghost use Rattle.pep440_range.specs.declared.RangeError.{RangeError};
 ghost use Rattle.pep508_marker.specs.Expression.{ExpressionRecord, expression_of};
 ghost use Rattle.pep508_tree.specs.Meaning.{NodeRecord, Extends};
 ghost use Rattle.pep508_expression.specs.Trees.{IsComparison, GivesTree};
 
 use crate::texts::{extra_tree, text_tree};
 use crate::versions::{listed_tree, version_tree};
-use pep440_rs::RangeError;
+use pep440_range::RangeError;
 use pep508_marker::MarkerExpression;
 use pep508_tree::{Interner, MarkerTree};
 use std::alloc::Global;

@@ -1,13 +1,15 @@
 //! Trees of comparisons of versions.
 
 ghost use Rattle.std.specs.Prelude.{◌≡◌};
-ghost use Rattle.pep440_rs.specs.Ranges.{Gives};
+ghost use Rattle.pep440_range.specs.Ranges.{Gives};
 ghost use Rattle.pep508_marker.specs.Expression as compared;
 ghost use Rattle.pep508_tree.specs.Meaning.{Extends};
 ghost use Rattle.pep508_expression.specs.Expressions.{variable_of, compared_points, listed_points};
 ghost use Rattle.pep508_expression.specs.Trees.{GivesTree};
 
-use pep440_rs::{RangeError, Version, VersionSpecifier, release_specifier_to_range};
+use pep440_range::{RangeError, release_specifier_to_range};
+use pep440_specifier::VersionSpecifier;
+use pep440_version::Version;
 use pep508_comparison::{listed_range, python_listed_range, python_version_range};
 use pep508_diagram::VersionVariable;
 use pep508_marker::MarkerValueVersion;

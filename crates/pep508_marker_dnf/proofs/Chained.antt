@@ -4,7 +4,7 @@ use Rattle.std.proofs.lemmas.Bool.{cases_Bool}
 use Rattle.std.specs.Cmp.{unsigned_Decides}
 use Rattle.std.specs.declared.cmp.Ordering.TheVariants.{Less, Equal}
 use Rattle.version_ranges.specs.declared.boundary.Boundary.{Boundary}
-use Rattle.pep440_rs.specs.Record.{VersionRecord}
+use Rattle.pep440_text.specs.Record.{VersionRecord}
 use Rattle.pep508_marker.specs.declared.keys.MarkerValueString.{MarkerValueString}
 use Rattle.pep508_marker.specs.Keys.{text_key_rank}
 use Rattle.pep508_diagram.specs.declared.branch.Branch.{Branch}

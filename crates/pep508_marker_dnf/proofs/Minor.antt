@@ -6,7 +6,7 @@ use Rattle.pep440_text.specs.declared.Prerelease.{Prerelease}
 use Rattle.pep440_text.specs.Record.{Segment, VersionRecord, release_record}
 use Rattle.pep440_version.specs.Order.{key_of, stripped, class_of, pre_key, post_key, absent_first, absent_last, local_key, version_eq}
 use Rattle.pep440_version.specs.OrderLaws.{same_key}
-use Rattle.pep440_rs.specs.Bounds.{next_minor, equals_release}
+use Rattle.pep440_specifier.specs.Bounds.{next_minor, equals_release}
 use Rattle.pep508_marker_text.specs.Terms.{is_minor_of}
 
 plain_fields : (numbers release : List ℕ) (epoch class : ℕ) (pre : Option Prerelease) (post dev least most : Option ℕ)

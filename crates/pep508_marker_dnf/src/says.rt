@@ -2,7 +2,7 @@
 
 ghost use Rattle.std.specs.Prelude.{◌≡◌, [], ◌∷◌, cond, IfOk, option_map};
 ghost use Rattle.std.specs.Ordering.{eq_by_cmp};
-ghost use Rattle.pep440_rs.specs.Record.{release_record, without_local};
+ghost use Rattle.pep440_text.specs.Record.{release_record, without_local};
 ghost use Rattle.pep508_marker.specs.Expression.{expression_of, String, Extra};
 ghost use Rattle.pep508_marker.specs.Values.{extra_of};
 ghost use Rattle.pep508_marker.specs.declared.operators.ExtraOperator.TheVariants as extras;

@@ -1,8 +1,8 @@
 -- Which operators say the opposite of each other.
 use Rattle.std.specs.Prelude.{◌==◌, Bool, false}
 use Rattle.std.specs.Option.{option_map_or}
-use Rattle.pep440_rs.specs.Operators.{negated}
-use Rattle.pep440_rs.specs.SpecifierOrder.{operator_rank}
+use Rattle.pep440_operator.specs.Operators.{negated}
+use Rattle.pep440_specifier.specs.SpecifierOrder.{operator_rank}
 use Rattle.pep440_operator.specs.declared.operator.Operator.{Operator}
 use Rattle.pep508_marker.specs.declared.operators.ExtraOperator.{ExtraOperator}
 use Rattle.pep508_marker.specs.declared.operators.MarkerOperator.{MarkerOperator}

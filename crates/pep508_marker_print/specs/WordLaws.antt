@@ -4,9 +4,9 @@ use Rattle.std.proofs.Common.{ap, sym, ◌∙◌, true≢false}
 use Rattle.std.specs.Cmp.{unsigned_Decides}
 use Rattle.std.specs.Option.{option_map_or}
 use Rattle.pep440_operator.specs.declared.operator.Operator.{Operator}
-use Rattle.pep440_rs.specs.Operators.{negated}
-use Rattle.pep440_rs.specs.Order.{version_eq}
-use Rattle.pep440_rs.specs.SpecifierOrder.{operator_rank}
+use Rattle.pep440_operator.specs.Operators.{negated}
+use Rattle.pep440_version.specs.Order.{version_eq}
+use Rattle.pep440_specifier.specs.SpecifierOrder.{operator_rank}
 use Rattle.pep508_diagram.proofs.Places.{equal_from, texts_same}
 use Rattle.pep508_diagram.specs.Text.{text_cmp}
 use Rattle.pep508_marker.specs.Expression.{ExpressionRecord, Version, String, Extra, expression_of}

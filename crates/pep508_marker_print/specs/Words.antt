@@ -4,8 +4,8 @@ use Rattle.std.specs.Prelude.{ℕ, ◌+◌, ◌*◌, ◌/◌, ◌%◌, ◌^◌, 
 use Rattle.std.specs.Int.Bits.{bit_or}
 use Rattle.std.specs.Option.{option_map_or}
 use Rattle.pep440_operator.specs.declared.operator.Operator.{Operator}
-use Rattle.pep440_rs.specs.Operators.{negated}
-use Rattle.pep440_rs.specs.SpecifierOrder.{operator_rank}
+use Rattle.pep440_operator.specs.Operators.{negated}
+use Rattle.pep440_specifier.specs.SpecifierOrder.{operator_rank}
 use Rattle.pep508_marker.specs.Expression.{ExpressionRecord, Version, VersionIn, String, Extra}
 use Rattle.pep508_marker.specs.Keys.{version_key_rank, text_key_rank}
 use Rattle.pep508_marker.specs.Operators.{marker_negated, extra_negated}

@@ -1,7 +1,7 @@
 //! Terms of clauses, and which of them say the same or the opposite.
 
 ghost use Rattle.std.specs.Prelude.{◌≡◌};
-ghost use Rattle.pep440_rs.specs.SpecifierOrder.{operator_rank};
+ghost use Rattle.pep440_specifier.specs.SpecifierOrder.{operator_rank};
 ghost use Rattle.pep508_marker.specs.Keys.{version_key_rank, text_key_rank};
 ghost use Rattle.pep508_marker.specs.Values.{extra_of, extra_text};
 ghost use Rattle.pep508_marker_text.specs.SameTerms.{marker_operator_rank, extra_operator_rank};

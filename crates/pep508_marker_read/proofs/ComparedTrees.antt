@@ -2,8 +2,8 @@
 use Rattle.std.proofs.Common.{◌≡◌, ℕ, Bool, true, false, if◌then◌else◌, List, Some, None, Ok, Err, refl, ap, sym, subst, ◌∙◌}
 use Rattle.std.specs.Prelude.{Option}
 use Rattle.std.specs.Str.{skip_leading_whitespace}
-use Rattle.pep440_rs.specs.Record.{VersionRecord}
-use Rattle.pep440_rs.specs.Matching.{SpecifierRecord}
+use Rattle.pep440_text.specs.Record.{VersionRecord}
+use Rattle.pep440_specifier.specs.Matching.{SpecifierRecord}
 use Rattle.pep508_name.specs.Name.{name_of}
 use Rattle.pep508_marker.specs.declared.warnings.MarkerWarningKind.{MarkerWarningKind}
 use Rattle.pep508_marker.specs.declared.warnings.MarkerWarningKind.TheVariants.{Pep440Error, LexicographicComparison, MarkerMarkerComparison, ExtraInvalidComparison, StringStringComparison}

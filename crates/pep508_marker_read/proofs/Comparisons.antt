@@ -5,7 +5,7 @@ use Rattle.std.proofs.Common.{append_assoc}
 use Rattle.std.specs.Prelude.{Option}
 use Rattle.std.specs.Char.{is_whitespace}
 use Rattle.std.specs.Str.{skip_leading_whitespace}
-use Rattle.pep440_rs.specs.SpecifierText.{AreSpaces}
+use Rattle.pep440_specifier.specs.SpecifierText.{AreSpaces}
 use Rattle.pep508_marker.specs.declared.operators.MarkerOperator.{MarkerOperator}
 use Rattle.pep508_marker.specs.declared.warnings.MarkerWarningKind.{MarkerWarningKind}
 use Rattle.pep508_marker.specs.Values.{ValueRecord}

@@ -10,7 +10,7 @@ use Rattle.std.proofs.lemmas.List.Prefix.{front_rest}
 use Rattle.std.specs.Char.{is_whitespace}
 use Rattle.std.specs.List.{AllByRecursion, position_or_len, before_first, after_first}
 use Rattle.std.specs.Str.{skip_leading_whitespace}
-use Rattle.pep440_rs.specs.SpecifierText.{AreSpaces}
+use Rattle.pep440_specifier.specs.SpecifierText.{AreSpaces}
 use Rattle.pep508_marker_comparison.specs.SideReading.{begins_by, cut_before, Refused, ◌>>=◌}
 use Rattle.pep508_marker_read.specs.MarkerText.{IsBefore}
 

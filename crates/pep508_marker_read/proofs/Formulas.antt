@@ -6,7 +6,7 @@ use Rattle.std.proofs.lemmas.Str.{encode_ascii}
 use Rattle.std.proofs.Common.{lit<}
 use Rattle.std.specs.Char.{is_whitespace}
 use Rattle.std.specs.Str.{bytes_eq, skip_leading_whitespace}
-use Rattle.pep440_rs.specs.SpecifierText.{AreSpaces}
+use Rattle.pep440_specifier.specs.SpecifierText.{AreSpaces}
 use Rattle.pep508_marker_comparison.specs.SideReading.{Reading, Malformed, TooDeep, ◌>>=◌}
 use Rattle.pep508_marker_read.specs.MarkerReading.{Marker, comparison_at}
 use Rattle.pep508_marker_read.specs.MarkerReading.{Connective, And, Or, word_of, is_next, joined_at}

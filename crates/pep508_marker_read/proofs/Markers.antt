@@ -4,7 +4,7 @@ use Rattle.std.proofs.Common.{refl, ap, sym, subst, ◌∙◌, arith}
 use Rattle.std.proofs.lemmas.List.{append-nil}
 use Rattle.std.specs.Prelude.{Result}
 use Rattle.std.specs.Str.{skip_leading_whitespace}
-use Rattle.pep440_rs.specs.SpecifierText.{AreSpaces}
+use Rattle.pep440_specifier.specs.SpecifierText.{AreSpaces}
 use Rattle.pep508_marker_comparison.specs.SideReading.{Refused, Malformed, ◌>>=◌, if_end}
 use Rattle.pep508_marker_read.specs.MarkerReading.{Marker, formula_at, marker_at}
 use Rattle.pep508_marker_read.specs.MarkerText.{IsSpaced, IsFormulaText, IsMarkerText}

@@ -10,7 +10,7 @@ use Rattle.std.specs.Bool.{Decides}
 use Rattle.std.specs.Char.{is_whitespace, is_ascii_alphabetic}
 use Rattle.std.specs.List.{AllByRecursion, starts_with}
 use Rattle.std.specs.Str.{bytes_eq, chars, skip_leading_whitespace, trim_start}
-use Rattle.pep440_rs.specs.SpecifierText.{AreSpaces}
+use Rattle.pep440_specifier.specs.SpecifierText.{AreSpaces}
 use Rattle.pep508_marker.specs.declared.operators.MarkerOperator.{MarkerOperator}
 use Rattle.pep508_marker.specs.declared.operators.MarkerOperator.TheVariants.{NotIn}
 use Rattle.pep508_marker.specs.Operators.{marker_operator_of, is_not_in}

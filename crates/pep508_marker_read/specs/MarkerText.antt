@@ -4,7 +4,7 @@
 use Rattle.std.specs.Prelude.{◌≡◌, ◌⊎◌, ℕ, ◌<◌, ◌==◌, suc, zero, Bool, false, List, [], ◌∷◌, ◌++◌, length}
 use Rattle.std.specs.Prelude.{All, IsTrue, codes, Some, Ok, encode_utf8_all}
 use Rattle.std.specs.Char.{is_ascii_alphabetic, is_whitespace}
-use Rattle.pep440_rs.specs.SpecifierText.{AreSpaces}
+use Rattle.pep440_specifier.specs.SpecifierText.{AreSpaces}
 use Rattle.pep508_marker.specs.declared.operators.MarkerOperator.{MarkerOperator}
 use Rattle.pep508_marker.specs.declared.operators.MarkerOperator.TheVariants.{NotIn}
 use Rattle.pep508_marker.specs.Operators.{marker_operator_of}

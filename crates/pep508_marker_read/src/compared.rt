@@ -6,7 +6,7 @@ ghost use Rattle.pep508_marker_comparison.specs.Outcome.{behind, StaysIn};
 ghost use Rattle.pep508_marker_read.specs.MarkerReading.{comparison_at};
 ghost use Rattle.pep508_marker_read.specs.TreeReading.{ReadsPart};
 
-use pep440_rs::RangeError;
+use pep440_range::RangeError;
 use pep508_error::{Cursor, Refusal, RefusalKind};
 use pep508_expression::MarkerTreeExpression;
 use pep508_marker::Reporter;

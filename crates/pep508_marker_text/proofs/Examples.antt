@@ -3,9 +3,9 @@ use Rattle.std.proofs.Common.{◌≡◌, ℕ, true, false, List, [], ◌∷◌, 
 use Rattle.std.specs.Prelude.{codes, Some, None}
 use Rattle.std.specs.Fmt.{digits}
 use Rattle.version_ranges.specs.declared.boundary.Boundary.TheVariants.{At, JustAbove}
-use Rattle.pep440_rs.specs.Record.{release_record}
-use Rattle.pep440_rs.specs.Order.{key_of}
-use Rattle.pep440_rs.specs.Print.{version_text}
+use Rattle.pep440_text.specs.Record.{release_record}
+use Rattle.pep440_version.specs.Order.{key_of}
+use Rattle.pep440_text.specs.Print.{version_text}
 use Rattle.pep508_marker.specs.declared.keys.MarkerValueString.TheVariants.{OsName, SysPlatform}
 use Rattle.pep508_diagram.specs.declared.variable.VersionVariable.TheVariants.{PythonFullVersion}
 use Rattle.pep508_diagram.specs.declared.variable.Flag.TheVariants.{In, Contains, Extra}

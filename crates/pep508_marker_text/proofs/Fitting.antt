@@ -11,8 +11,8 @@ use Rattle.version_ranges.specs.declared.boundary.Boundary.TheVariants as bounda
 use Rattle.version_ranges.specs.Bounds.{intervals}
 use Rattle.version_ranges.specs.Point.{Point, BelowAll, At, JustAbove}
 use Rattle.version_ranges.proofs.Membership.{all_append}
-use Rattle.pep440_rs.specs.Record.{VersionRecord, release_record}
-use Rattle.pep440_rs.specs.Ranges.{release_range_by, all_but}
+use Rattle.pep440_text.specs.Record.{VersionRecord, release_record}
+use Rattle.pep440_range.specs.Ranges.{release_range_by, all_but}
 use Rattle.pep440_operator.specs.declared.operator.Operator.{Operator}
 use Rattle.pep440_operator.specs.declared.operator.Operator.TheVariants as versions
 use Rattle.pep508_marker.specs.declared.keys.MarkerValueString.{MarkerValueString}

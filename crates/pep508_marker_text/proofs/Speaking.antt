@@ -8,11 +8,11 @@ use Rattle.std.specs.declared.ops.Bound.TheVariants.{Included, Excluded}
 use Rattle.version_ranges.specs.Bounds.{is_within, goes_on_to}
 use Rattle.version_ranges.specs.OrderLaws.{points_total}
 use Rattle.version_ranges.specs.Point.{Point, At}
-use Rattle.pep440_rs.specs.Record.{VersionRecord, release_record}
-use Rattle.pep440_rs.specs.Order.{version_cmp, version_eq}
-use Rattle.pep440_rs.specs.OrderLaws.{version_cmp_total}
-use Rattle.pep440_rs.specs.Bounds.{next_minor, equals_release}
-use Rattle.pep440_rs.specs.Ranges.{PointTest, at_version, from_bound, to_bound, all_but, release_range_by, star_releases}
+use Rattle.pep440_text.specs.Record.{VersionRecord, release_record}
+use Rattle.pep440_version.specs.Order.{version_cmp, version_eq}
+use Rattle.pep440_version.specs.OrderLaws.{version_cmp_total}
+use Rattle.pep440_specifier.specs.Bounds.{next_minor, equals_release}
+use Rattle.pep440_range.specs.Ranges.{PointTest, at_version, from_bound, to_bound, all_but, release_range_by, star_releases}
 use Rattle.pep440_range.proofs.Intervals.{minor_range}
 use Rattle.pep440_operator.specs.declared.operator.Operator.{Operator}
 use Rattle.pep440_operator.specs.declared.operator.Operator.TheVariants as versions

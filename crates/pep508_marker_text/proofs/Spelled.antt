@@ -8,10 +8,10 @@ use Rattle.version_ranges.specs.Boundaries.{boundary_cmp}
 use Rattle.pep440_text.specs.declared.Prerelease.{Prerelease}
 use Rattle.pep440_text.specs.declared.PrereleaseKind.{PrereleaseKind}
 use Rattle.pep440_text.specs.declared.PrereleaseKind.TheVariants.{Alpha, Beta, Rc}
-use Rattle.pep440_rs.specs.Record.{Segment, Text, Number, VersionRecord}
-use Rattle.pep440_rs.specs.Changes.{or_zero}
-use Rattle.pep440_rs.specs.Order.{kind_rank, stripped, absent_first, absent_last, pre_key, post_key, segment_key, key_of, version_cmp}
-use Rattle.pep440_rs.specs.OrderLaws.{key_decides}
+use Rattle.pep440_text.specs.Record.{Segment, Text, Number, VersionRecord}
+use Rattle.pep440_version.specs.Changes.{or_zero}
+use Rattle.pep440_version.specs.Order.{kind_rank, stripped, absent_first, absent_last, pre_key, post_key, segment_key, key_of, version_cmp}
+use Rattle.pep440_version.specs.OrderLaws.{key_decides}
 use Rattle.pep508_diagram.specs.Diagram.{Diagram, Leaf, Test}
 use Rattle.pep508_diagram.specs.Question.{Question, VersionBelow, TextBelow, IsSet, Valuation, truth, AreOne, IsCanonical, place_of, version_rank, text_rank, question_cmp}
 use Rattle.pep508_diagram.specs.Shortened.{post_beside, shortest, IsShort, AsksOfShort, HasShortVersions}

@@ -8,11 +8,11 @@ use Rattle.version_ranges.specs.Point.{Point, At, JustAbove, point_cmp}
 use Rattle.version_ranges.specs.Turns.{reaches}
 use Rattle.version_ranges.proofs.Membership.{not_not}
 use Rattle.version_ranges.proofs.Reading.{goes_to}
-use Rattle.pep440_rs.specs.Record.{VersionRecord, release_record}
-use Rattle.pep440_rs.specs.Order.{version_eq}
-use Rattle.pep440_rs.specs.Operators.{negated}
-use Rattle.pep440_rs.specs.Ranges.{PointTest, all_but}
-use Rattle.pep440_rs.specs.SpecifierOrder.{operator_rank}
+use Rattle.pep440_text.specs.Record.{VersionRecord, release_record}
+use Rattle.pep440_version.specs.Order.{version_eq}
+use Rattle.pep440_operator.specs.Operators.{negated}
+use Rattle.pep440_range.specs.Ranges.{PointTest, all_but}
+use Rattle.pep440_specifier.specs.SpecifierOrder.{operator_rank}
 use Rattle.pep440_range.proofs.Complements.{release_rest}
 use Rattle.pep440_operator.specs.declared.operator.Operator.{Operator}
 use Rattle.pep440_operator.specs.declared.operator.Operator.TheVariants as versions

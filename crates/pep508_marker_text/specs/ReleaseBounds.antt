@@ -4,8 +4,8 @@ use Rattle.std.specs.Prelude.{◌<◌, ◌^◌}
 use Rattle.std.specs.List.{AllByRecursion}
 use Rattle.version_ranges.specs.declared.boundary.Boundary.{Boundary}
 use Rattle.version_ranges.specs.declared.boundary.Boundary.TheVariants.{At, JustAbove}
-use Rattle.pep440_rs.specs.Record.{VersionRecord}
-use Rattle.pep440_rs.specs.Bounds.{IsReleaseVersion}
+use Rattle.pep440_text.specs.Record.{VersionRecord}
+use Rattle.pep440_specifier.specs.Bounds.{IsReleaseVersion}
 use Rattle.pep508_diagram.specs.Diagram.{Diagram, Leaf, Test}
 use Rattle.pep508_diagram.specs.Question.{Question, VersionBelow, TextBelow, IsSet}
 

@@ -3,10 +3,10 @@
 use Rattle.std.specs.Prelude.{ℕ, ◌==◌, ◌&&◌, Bool, false, List}
 use Rattle.std.specs.Option.{option_map_or}
 use Rattle.std.specs.Ordering.{eq_by_cmp}
-use Rattle.pep440_rs.specs.Record.{VersionRecord}
-use Rattle.pep440_rs.specs.Order.{version_eq}
-use Rattle.pep440_rs.specs.Operators.{negated}
-use Rattle.pep440_rs.specs.SpecifierOrder.{operator_rank}
+use Rattle.pep440_text.specs.Record.{VersionRecord}
+use Rattle.pep440_version.specs.Order.{version_eq}
+use Rattle.pep440_operator.specs.Operators.{negated}
+use Rattle.pep440_specifier.specs.SpecifierOrder.{operator_rank}
 use Rattle.pep440_operator.specs.declared.operator.Operator.{Operator}
 use Rattle.pep508_marker.specs.declared.operators.ExtraOperator.{ExtraOperator}
 use Rattle.pep508_marker.specs.declared.operators.ExtraOperator.TheVariants as extras

@@ -1,9 +1,9 @@
 -- The comparisons in which a key's values are said (PEP 508, "Environment Markers"; PEP 440, "Version
 -- specifiers").
 use Rattle.std.specs.Prelude.{ℕ, ◌&&◌, Bool, cond, List, [], ◌∷◌, Option, Some, None, option_map}
-use Rattle.pep440_rs.specs.Record.{VersionRecord, release_record, without_local}
-use Rattle.pep440_rs.specs.Order.{version_cmp, version_eq}
-use Rattle.pep440_rs.specs.Bounds.{next_minor, equals_release}
+use Rattle.pep440_text.specs.Record.{VersionRecord, release_record, without_local}
+use Rattle.pep440_version.specs.Order.{version_cmp, version_eq}
+use Rattle.pep440_specifier.specs.Bounds.{next_minor, equals_release}
 use Rattle.pep440_operator.specs.declared.operator.Operator.{Operator}
 use Rattle.pep440_operator.specs.declared.operator.Operator.TheVariants as versions
 use Rattle.pep508_marker.specs.declared.keys.MarkerValueVersion.{MarkerValueVersion}

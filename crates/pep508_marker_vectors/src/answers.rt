@@ -1,147 +1,130 @@
 //! The answers.
 
 use crate::environment::environment;
+use crate::evaluations::{anywhere, evaluated};
 use crate::kept::{Call, keeps};
 use crate::pairs::pair;
-use crate::reading::{expression, marker, read, refused};
-use crate::shown::shown;
+use crate::question::{extras_from, text_at};
+use crate::reading::{expression, marker, unwarned, unwarned_expression};
 use crate::simplified::{present, within};
+use crate::stop::{Stop, said};
 use crate::texts::{clauses, text_after, text_in, top_extra};
-use crate::told::Told;
 use crate::views::view;
-use pep508_evaluation::MarkerTreeEvaluation;
-use pep508_name::{ExtraName, InvalidNameError};
+use crate::{comparisons, members, shown};
 use pep508_tree::Interner;
 use serde_json::Value;
 use std::alloc::{AllocError, Global};
 
 /// The answer to a question, `no question` for another form.
 pub fn answer(alloc: Global, environments: &str, question: &str) -> Result<String, AllocError> {
-    let question = match Value::from_str(alloc, question) {
-        Ok(question) => question,
-        Err(error) if error.is_memory() => return Err(AllocError),
-        Err(_) => return String::from_str(alloc, "no question"),
+    let answer = match Value::from_str(alloc, question) {
+        Ok(question) => on_markers(alloc, environments, &question),
+        Err(error) if error.is_memory() => Err(Stop::Memory),
+        Err(_) => said(alloc, "no question"),
     };
-    let asked = text_at(&question, 0);
-    let text = text_at(&question, 1);
+    match answer {
+        Ok(text) => Ok(text),
+        Err(Stop::Said(text)) => Ok(text),
+        Err(Stop::Memory) => Err(AllocError),
+    }
+}
+
+fn on_markers(alloc: Global, environments: &str, question: &Value) -> Result<String, Stop> {
+    let mut interner = Interner::new(alloc);
+    match text_at(question, 0) {
+        "evaluate" | "collected" | "called" | "logged" => {
+            evaluated(alloc, &mut interner, environments, question)
+        }
+        "extras" => on_extras(alloc, &mut interner, question),
+        "present" => on_present(alloc, &mut interner, question),
+        "keeps" => on_kept(alloc, &mut interner, environments, question),
+        "from value" => {
+            let other = text_at(question, 2);
+            shown::from_value(alloc, &mut interner, question.get(1), other)
+        }
+        "key of" => {
+            let key = text_at(question, 2);
+            members::key(alloc, environments, text_at(question, 1), key)
+        }
+        "member" => {
+            let name = text_at(question, 2);
+            members::member(alloc, environments, text_at(question, 1), name)
+        }
+        "with" => members::with(alloc, environments, question),
+        "built" => members::built(alloc, question),
+        _ => on_two(alloc, &mut interner, question),
+    }
+}
+
+/// The answer to a question on two texts.
+fn on_two(alloc: Global, interner: &mut Interner, question: &Value) -> Result<String, Stop> {
+    let (asked, text, other) = (
+        text_at(question, 0),
+        text_at(question, 1),
+        text_at(question, 2),
+    );
     match asked {
-        "same" | "disjoint" | "negation" => pair(alloc, asked, text, text_at(&question, 2)),
-        "text after" => text_after(alloc, text, text_at(&question, 2)),
+        "same" | "disjoint" | "negation" => pair(alloc, interner, asked, text, other),
+        "unwarned" => unwarned(alloc, interner, text, other),
+        "text after" => text_after(alloc, interner, text, other),
+        "order" => shown::order(alloc, interner, text, other),
+        "side" => comparisons::side(alloc, text, other),
+        "bounds" => comparisons::bounds(alloc, text, other),
+        "comparison" => {
+            comparisons::comparison(alloc, interner, text, other, text_at(question, 3))
+        }
         "simplified" | "complexified" => {
-            let bounds = (text_at(&question, 3), text_at(&question, 4));
-            within(alloc, asked, text, text_at(&question, 2), bounds)
+            let bounds = (text_at(question, 3), text_at(question, 4));
+            within(alloc, interner, asked, text, other, bounds)
         }
-        "present" => {
-            let extras = extras_from(alloc, &question, 3)?;
-            present(alloc, text, text_at(&question, 2), &extras)
-        }
-        "print" | "value" | "contents" | "order" => {
-            shown(alloc, asked, text, text_at(&question, 2))
-        }
-        "evaluate" => {
-            let extras = extras_from(alloc, &question, 3)?;
-            evaluate(alloc, environments, text, text_at(&question, 2), &extras)
-        }
-        "extras" => {
-            let extras = extras_from(alloc, &question, 2)?;
-            evaluate_extras(alloc, text, &extras)
-        }
-        "keeps" => kept(alloc, environments, &question),
-        _ => of_one(alloc, asked, text),
+        _ => on_one(alloc, interner, asked, text),
     }
 }
 
-/// The answer to a question on one marker.
-fn of_one(alloc: Global, asked: &str, text: &str) -> Result<String, AllocError> {
+/// The answer to a question on one text.
+fn on_one(alloc: Global, interner: &mut Interner, asked: &str, text: &str) -> Result<String, Stop> {
     match asked {
-        "marker" => marker(alloc, text),
+        "marker" => marker(alloc, interner, text),
         "expression" => expression(alloc, text),
-        "view" => view(alloc, text),
-        "text" => text_in(alloc, &mut Interner::new(alloc), text),
-        "top extra" => top_extra(alloc, text),
-        "clauses" => clauses(alloc, text),
-        _ => String::from_str(alloc, "no question"),
+        "unwarned expression" => unwarned_expression(alloc, text),
+        "view" => view(alloc, interner, text),
+        "text" => text_in(alloc, interner, text),
+        "top extra" => top_extra(alloc, interner, text),
+        "clauses" => clauses(alloc, interner, text),
+        "print" => shown::print(alloc, interner, text),
+        "print in part" => shown::print_in_part(alloc, interner, text),
+        "value" => shown::value(alloc, interner, text),
+        "contents" => shown::contents(alloc, interner, text),
+        "operator" => comparisons::operator(alloc, text),
+        "key" => comparisons::key(alloc, text),
+        "version" => members::version(alloc, text),
+        "environment value" => members::environment_value(alloc, text),
+        _ => said(alloc, "no question"),
     }
 }
 
-/// What becomes of two markers where a call is refused memory.
-fn kept(alloc: Global, environments: &str, question: &Value) -> Result<String, AllocError> {
+fn on_extras(alloc: Global, interner: &mut Interner, question: &Value) -> Result<String, Stop> {
+    let extras = extras_from(alloc, question, 2)?;
+    anywhere(alloc, interner, text_at(question, 1), &extras)
+}
+
+fn on_present(alloc: Global, interner: &mut Interner, question: &Value) -> Result<String, Stop> {
+    let extras = extras_from(alloc, question, 3)?;
+    let (text, other) = (text_at(question, 1), text_at(question, 2));
+    present(alloc, interner, text, other, &extras)
+}
+
+fn on_kept(
+    alloc: Global,
+    interner: &mut Interner,
+    environments: &str,
+    question: &Value,
+) -> Result<String, Stop> {
     let call = Call {
         left: text_at(question, 1),
         right: text_at(question, 2),
         made: text_at(question, 3),
     };
-    match environment(alloc, environments, text_at(question, 4))? {
-        Some(environment) => keeps(alloc, &environment, &call),
-        None => String::from_str(alloc, "no environment"),
-    }
-}
-
-/// The text at a place of a list, empty where there is none.
-fn text_at(question: &Value, place: usize) -> &str {
-    question.get(place).and_then(Value::as_str).unwrap_or("")
-}
-
-/// The extra of a name, none of a text that is no name.
-fn extra_of(alloc: Global, text: &str) -> Result<Option<ExtraName>, AllocError> {
-    match ExtraName::from_str(alloc, text) {
-        Ok(extra) => Ok(Some(extra)),
-        Err(InvalidNameError::Memory) => Err(AllocError),
-        Err(InvalidNameError::InvalidName(_)) => Ok(None),
-    }
-}
-
-/// The extras whose names stand from a place on.
-fn extras_from(
-    alloc: Global,
-    question: &Value,
-    first: usize,
-) -> Result<Vec<ExtraName>, AllocError> {
-    let mut extras = Vec::new(alloc);
-    let Some(texts) = question.as_array() else {
-        return Ok(extras);
-    };
-    for text in texts.iter().skip(first) {
-        if let Some(extra) = extra_of(alloc, text.as_str().unwrap_or(""))? {
-            extras.push(extra)?;
-        }
-    }
-    Ok(extras)
-}
-
-/// Whether a marker holds in an environment, with the warnings of its evaluation.
-fn evaluate(
-    alloc: Global,
-    environments: &str,
-    text: &str,
-    name: &str,
-    extras: &[ExtraName],
-) -> Result<String, AllocError> {
-    let Some(environment) = environment(alloc, environments, name)? else {
-        return String::from_str(alloc, "no environment");
-    };
-    let mut interner = Interner::new(alloc);
-    let tree = match read(alloc, &mut interner, text) {
-        Ok(tree) => tree,
-        Err(error) => return refused(alloc, &error),
-    };
-    let mut told = Told::behind(alloc, String::new(alloc));
-    let holds = tree.evaluate_reporter(alloc, &interner, &environment, extras, &mut told)?;
-    if holds != tree.evaluate(&interner, &environment, extras) {
-        return String::from_str(alloc, "two answers");
-    }
-    let warnings = told.into_text();
-    format!(in alloc; "{holds}{warnings}")
-}
-
-/// Whether some environment with just these extras makes a marker hold.
-fn evaluate_extras(alloc: Global, text: &str, extras: &[ExtraName]) -> Result<String, AllocError> {
-    let mut interner = Interner::new(alloc);
-    match read(alloc, &mut interner, text) {
-        Ok(tree) => {
-            let holds = tree.evaluate_extras(&interner, extras);
-            format!(in alloc; "{holds}")
-        }
-        Err(error) => refused(alloc, &error),
-    }
+    let environment = environment(alloc, environments, text_at(question, 4))?;
+    keeps(alloc, interner, &environment, &call)
 }

@@ -3,15 +3,14 @@
 ghost use Rattle.std.specs.Prelude.{IfOk};
 ghost use Rattle.pep508_tree.specs.Meaning.{IsTree, Extends};
 
-use crate::reading::{read, refused};
+use crate::reading::read;
+use crate::stop::{Stop, answered};
 use crate::texts::text_of;
 use pep508_environment::MarkerEnvironment;
-use pep508_error::Pep508Error;
 use pep508_evaluation::MarkerTreeEvaluation;
 use pep508_tree::{Interner, MarkerTree};
 use pep508_tree_laws::earlier_trees_keep;
-use pep508_url::VerbatimUrl;
-use std::alloc::{AllocError, Global};
+use std::alloc::Global;
 
 /// Two markers, and what is made of them: `and`, `or`, or a marker that is read beside them.
 #[derive(Drop)]
@@ -25,55 +24,45 @@ pub struct Call<'a> {
 /// refused memory it is made again; `lost` is the answer if the markers then hold otherwise.
 pub fn keeps(
     alloc: Global,
+    interner: &mut Interner,
     environment: &MarkerEnvironment,
     call: &Call,
-) -> Result<String, AllocError> {
-    let mut interner = Interner::new(alloc);
-    match both(alloc, &mut interner, call) {
-        Ok((left, right)) => again(alloc, &mut interner, environment, call.made, left, right),
-        Err(error) => refused(alloc, &error),
-    }
-}
-
-fn both(
-    alloc: Global,
-    interner: &mut Interner,
-    call: &Call,
-) -> Result<(MarkerTree, MarkerTree), Pep508Error<VerbatimUrl>>
-    ensures left { IfOk result (λ trees. IsTree interner.new.nodes trees.0) }
-    ensures right { IfOk result (λ trees. IsTree interner.new.nodes trees.1) }
-{
+) -> Result<String, Stop> {
     let left = read(alloc, interner, call.left)?;
     let right = read(alloc, interner, call.right)?;
     earlier_trees_keep();
-    Ok((left, right))
+    let before = holding(interner, environment, left, right);
+    let tree = made_again(alloc, interner, environment, call.made, left, right)?;
+    let after = holding(interner, environment, left, right);
+    let text = text_of(alloc, interner, tree)?;
+    answered(format!(in alloc; "{before}, {after}: {text}"))
 }
 
-fn again(
+/// The tree that a call makes, at the second attempt where the first is refused.
+fn made_again(
     alloc: Global,
     interner: &mut Interner,
     environment: &MarkerEnvironment,
     call: &str,
     left: MarkerTree,
     right: MarkerTree,
-) -> Result<String, AllocError>
+) -> Result<MarkerTree, Stop>
     requires left { IsTree interner.old.nodes left }
     requires right { IsTree interner.old.nodes right }
+    ensures made { IfOk result (IsTree interner.new.nodes) }
+    ensures keeps { Extends interner.old.nodes interner.new.nodes }
 {
     earlier_trees_keep();
     let before = holding(interner, environment, left, right);
-    let tree = match made(alloc, interner, call, left, right) {
-        Ok(tree) => tree,
+    match made(alloc, interner, call, left, right) {
+        Ok(tree) => Ok(tree),
         Err(_) => {
             if holding(interner, environment, left, right) != before {
-                return String::from_str(alloc, "lost");
+                return Err(Stop::saying(alloc, "lost"));
             }
-            made(alloc, interner, call, left, right)?
+            made(alloc, interner, call, left, right)
         }
-    };
-    let after = holding(interner, environment, left, right);
-    let text = text_of(alloc, interner, tree)?;
-    format!(in alloc; "{before}, {after}: {text}")
+    }
 }
 
 /// Which of two trees hold.
@@ -102,18 +91,19 @@ fn made(
     call: &str,
     left: MarkerTree,
     right: MarkerTree,
-) -> Result<MarkerTree, AllocError>
+) -> Result<MarkerTree, Stop>
     requires left { IsTree interner.old.nodes left }
     requires right { IsTree interner.old.nodes right }
     ensures made { IfOk result (IsTree interner.new.nodes) }
     ensures keeps { Extends interner.old.nodes interner.new.nodes }
 {
-    match call {
+    let tree = match call {
         "and" => left.and(alloc, interner, right),
         "or" => left.or(alloc, interner, right),
-        text => match read(alloc, interner, text) {
-            Ok(tree) => Ok(tree),
-            Err(_) => Err(AllocError),
-        },
+        text => return read(alloc, interner, text),
+    };
+    match tree {
+        Ok(tree) => Ok(tree),
+        Err(_) => Err(Stop::Memory),
     }
 }

@@ -4,12 +4,18 @@
 #![tactic(auto)]
 
 mod answers;
+mod comparisons;
 mod environment;
+mod evaluations;
 mod kept;
+mod members;
+mod noted;
 mod pairs;
+mod question;
 mod reading;
 mod shown;
 mod simplified;
+mod stop;
 mod texts;
 mod told;
 mod views;

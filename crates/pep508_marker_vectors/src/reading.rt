@@ -3,61 +3,47 @@
 ghost use Rattle.std.specs.Prelude.{IfOk};
 ghost use Rattle.pep508_tree.specs.Meaning.{IsTree, Extends};
 
+use crate::stop::{Stop, answered, said, truth};
 use crate::told::Told;
 use pep508_error::{Cursor, Pep508Error, Pep508ErrorSource};
 use pep508_marker::Silent;
-use pep508_marker_comparison::parse_expression_reporter;
+use pep508_marker_comparison::{parse_expression, parse_expression_reporter};
 use pep508_marker_read::{MarkerTreeReading, read_marker};
 use pep508_tree::{Interner, MarkerTree};
 use pep508_url::VerbatimUrl;
-use std::alloc::{AllocError, Global};
+use std::alloc::Global;
 
 /// Reads a marker.
-pub fn read(
-    alloc: Global,
-    interner: &mut Interner,
-    text: &str,
-) -> Result<MarkerTree, Pep508Error<VerbatimUrl>>
+pub fn read(alloc: Global, interner: &mut Interner, text: &str) -> Result<MarkerTree, Stop>
     ensures made { IfOk result (IsTree interner.new.nodes) }
     ensures keeps { Extends interner.old.nodes interner.new.nodes }
 {
     match read_marker(alloc, interner, Cursor::new(text), &mut Silent) {
         Ok(tree) => Ok(tree),
-        Err(refusal) => Err(Pep508Error::of(alloc, refusal)),
+        Err(refusal) => {
+            let error: Pep508Error<VerbatimUrl> = Pep508Error::of(alloc, refusal);
+            Err(refused(alloc, &error))
+        }
     }
 }
 
 /// The place, the length and the message of a refusal.
-pub fn refused(alloc: Global, error: &Pep508Error<VerbatimUrl>) -> Result<String, AllocError> {
+pub fn refused(alloc: Global, error: &Pep508Error<VerbatimUrl>) -> Stop {
     let message = error.message();
     if let Pep508ErrorSource::Memory = message {
-        return Err(AllocError);
+        return Stop::Memory;
     }
     let (start, len) = (error.start(), error.len());
-    format!(in alloc; "refused at {start}, {len}: {message}")
+    Stop::of(format!(in alloc; "refused at {start}, {len}: {message}"))
 }
 
-/// Whether a marker always or never holds, with the warnings of its reading; or its refusal.
-pub fn marker(alloc: Global, text: &str) -> Result<String, AllocError> {
-    let mut interner = Interner::new(alloc);
-    let mut told = Told::behind(alloc, String::new(alloc));
-    match read_reporting(alloc, &mut interner, text, &mut told) {
-        Ok(tree) => {
-            let name = name_of(tree);
-            let warnings = told.into_text();
-            format!(in alloc; "{name}{warnings}")
-        }
-        Err(error) => refused(alloc, &error),
+/// Whether a marker always or never holds, with the warnings of its reading.
+pub fn marker(alloc: Global, interner: &mut Interner, text: &str) -> Result<String, Stop> {
+    let mut told = Told::new(alloc);
+    match MarkerTree::parse_reporter(alloc, interner, text, &mut told) {
+        Ok(tree) => told.behind(name_of(tree)),
+        Err(error) => Err(refused(alloc, &error)),
     }
-}
-
-fn read_reporting(
-    alloc: Global,
-    interner: &mut Interner,
-    text: &str,
-    told: &mut Told,
-) -> Result<MarkerTree, Pep508Error<VerbatimUrl>> {
-    MarkerTree::parse_reporter(alloc, interner, text, told)
 }
 
 /// A constant's name.
@@ -71,17 +57,49 @@ pub fn name_of(tree: MarkerTree) -> &'static str {
     }
 }
 
-/// The print of a comparison, with the warnings of its reading; or its refusal.
-pub fn expression(alloc: Global, text: &str) -> Result<String, AllocError> {
-    let mut told = Told::behind(alloc, String::new(alloc));
+/// Whether a marker is one tree with another where warnings of its reading are dropped.
+pub fn unwarned(
+    alloc: Global,
+    interner: &mut Interner,
+    text: &str,
+    other: &str,
+) -> Result<String, Stop> {
+    let other = read(alloc, interner, other)?;
+    let by_str: Result<MarkerTree, Pep508Error<VerbatimUrl>> = MarkerTree::parse_str(
+        alloc, interner, text,
+    );
+    let is_same = match by_str {
+        Ok(tree) => tree == other,
+        Err(error) => return Err(refused(alloc, &error)),
+    };
+    match MarkerTree::from_str(alloc, interner, text) {
+        Ok(tree) => truth(alloc, is_same && tree == other),
+        Err(error) => Err(refused(alloc, &error)),
+    }
+}
+
+/// The print of a comparison, with the warnings of its reading.
+pub fn expression(alloc: Global, text: &str) -> Result<String, Stop> {
+    let mut told = Told::new(alloc);
     let read: Result<_, Pep508Error<VerbatimUrl>> = parse_expression_reporter(
         alloc, text, &mut told,
     );
-    let said = match read {
-        Ok(Some(expression)) => expression.to_string(alloc)?,
-        Ok(None) => String::from_str(alloc, "left out")?,
-        Err(error) => return refused(alloc, &error),
-    };
-    let warnings = told.into_text();
-    format!(in alloc; "{said}{warnings}")
+    match read {
+        Ok(Some(expression)) => {
+            let print = expression.to_string(alloc)?;
+            told.behind(&print)
+        }
+        Ok(None) => told.behind("left out"),
+        Err(error) => Err(refused(alloc, &error)),
+    }
+}
+
+/// The print of a comparison where warnings of its reading are dropped.
+pub fn unwarned_expression(alloc: Global, text: &str) -> Result<String, Stop> {
+    let read: Result<_, Pep508Error<VerbatimUrl>> = parse_expression(alloc, text);
+    match read {
+        Ok(Some(expression)) => answered(expression.to_string(alloc)),
+        Ok(None) => said(alloc, "left out"),
+        Err(error) => Err(refused(alloc, &error)),
+    }
 }

@@ -2,25 +2,27 @@
 
 ghost use Rattle.pep508_tree.specs.Meaning.{IsTree, Extends};
 
-use crate::reading::{read, refused};
-use pep440_rs::{Version, VersionParseError};
+use crate::reading::read;
+use crate::stop::{Stop, said, truth};
+use pep440_version::{Version, VersionParseError};
 use pep508_name::ExtraName;
 use pep508_simplification::MarkerTreeSimplification;
 use pep508_tree::{Interner, MarkerTree};
+use pep508_tree_laws::earlier_trees_keep;
 use std::alloc::{AllocError, Global};
 use std::ops::Bound;
 
-/// The version of a text, and 0 of a text that is none.
-fn version(alloc: Global, text: &str) -> Result<Version, AllocError> {
+/// The version of a text, which has to be one.
+fn version(alloc: Global, text: &str) -> Result<Version, Stop> {
     match Version::from_str(alloc, text) {
         Ok(version) => Ok(version),
-        Err(VersionParseError::Memory) => Err(AllocError),
-        Err(_) => Version::new(alloc, &[0]),
+        Err(VersionParseError::Memory) => Err(Stop::Memory),
+        Err(_) => Err(Stop::saying(alloc, "no version")),
     }
 }
 
 /// A bound, which a bracket includes in the range and a parenthesis leaves out.
-fn bound(alloc: Global, text: &str) -> Result<Bound<Version>, AllocError> {
+fn bound(alloc: Global, text: &str) -> Result<Bound<Version>, Stop> {
     if let Some(text) = text.strip_prefix('[') {
         return Ok(Bound::Included(version(alloc, text)?));
     }
@@ -36,13 +38,12 @@ fn made(
     interner: &mut Interner,
     asked: &str,
     tree: MarkerTree,
-    bounds: (&str, &str),
+    lower: &Bound<Version>,
+    upper: &Bound<Version>,
 ) -> Result<MarkerTree, AllocError>
     requires { IsTree interner.old.nodes tree }
     ensures keeps { Extends interner.old.nodes interner.new.nodes }
 {
-    let lower = bound(alloc, bounds.0)?;
-    let upper = bound(alloc, bounds.1)?;
     if asked == "simplified" {
         tree.simplify_python_versions(alloc, interner, lower.as_ref(), upper.as_ref())
     } else {
@@ -54,42 +55,39 @@ fn made(
 /// another.
 pub fn within(
     alloc: Global,
+    interner: &mut Interner,
     asked: &str,
     text: &str,
     other: &str,
     bounds: (&str, &str),
-) -> Result<String, AllocError> {
-    let mut interner = Interner::new(alloc);
-    let tree = match read(alloc, &mut interner, text) {
-        Ok(tree) => tree,
-        Err(error) => return refused(alloc, &error),
-    };
-    let tree = made(alloc, &mut interner, asked, tree, bounds)?;
-    let other = match read(alloc, &mut interner, other) {
-        Ok(tree) => tree,
-        Err(error) => return refused(alloc, &error),
-    };
-    let same = tree == other;
-    format!(in alloc; "{same}")
+) -> Result<String, Stop> {
+    let lower = bound(alloc, bounds.0)?;
+    let upper = bound(alloc, bounds.1)?;
+    let tree = read(alloc, interner, text)?;
+    let tree = made(alloc, interner, asked, tree, &lower, &upper)?;
+    let other = read(alloc, interner, other)?;
+    truth(alloc, tree == other)
 }
 
-/// Whether a marker is one tree with another once extras are taken as present.
+/// Whether a marker is one tree with another once extras are taken as present, listed or by a predicate.
 pub fn present(
     alloc: Global,
+    interner: &mut Interner,
     text: &str,
     other: &str,
     extras: &[ExtraName],
-) -> Result<String, AllocError> {
-    let mut interner = Interner::new(alloc);
-    let tree = match read(alloc, &mut interner, text) {
-        Ok(tree) => tree,
-        Err(error) => return refused(alloc, &error),
-    };
-    let tree = tree.simplify_extras(alloc, &mut interner, extras)?;
-    let other = match read(alloc, &mut interner, other) {
-        Ok(tree) => tree,
-        Err(error) => return refused(alloc, &error),
-    };
-    let same = tree == other;
-    format!(in alloc; "{same}")
+) -> Result<String, Stop> {
+    let read_tree = read(alloc, interner, text)?;
+    let tree = read_tree.simplify_extras(alloc, interner, extras)?;
+    earlier_trees_keep();
+    let by_predicate = read_tree.simplify_extras_with(
+        alloc,
+        interner,
+        |name| extras.contains(name),
+    )?;
+    if tree != by_predicate {
+        return said(alloc, "two answers");
+    }
+    let other = read(alloc, interner, other)?;
+    truth(alloc, tree == other)
 }

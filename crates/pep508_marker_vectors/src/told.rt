@@ -1,5 +1,6 @@
 //! Warnings as they are told in an answer.
 
+use crate::stop::{Stop, answered};
 use pep508_marker::{MarkerWarningKind, Reporter};
 use std::alloc::{AllocError, Global};
 
@@ -11,13 +12,18 @@ pub struct Told {
 }
 
 impl Told {
-    /// Writes behind this text.
-    pub fn behind(alloc: Global, text: String) -> Told {
-        Told { alloc, text }
+    /// No warning yet.
+    pub fn new(alloc: Global) -> Told {
+        Told {
+            alloc,
+            text: String::new(alloc),
+        }
     }
 
-    pub fn into_text(self) -> String {
-        self.text
+    /// A text with the warnings behind it.
+    pub fn behind(&self, front: &str) -> Result<String, Stop> {
+        let warnings = self.text.as_str();
+        answered(format!(in self.alloc; "{front}{warnings}"))
     }
 }
 
@@ -25,7 +31,17 @@ impl Reporter for Told {
     ghost takes = { λ old _ new. Unit {0} };
 
     fn report(&mut self, kind: MarkerWarningKind, text: String) -> Result<(), AllocError> {
-        let told = format!(in self.alloc; " | {kind:?}: {text}")?;
-        self.text.push_str(told.as_str())
+        push_warning(self.alloc, &mut self.text, kind, text.as_str())
     }
+}
+
+/// Writes a warning behind a text.
+pub fn push_warning(
+    alloc: Global,
+    text: &mut String,
+    kind: MarkerWarningKind,
+    warning: &str,
+) -> Result<(), AllocError> {
+    let told = format!(in alloc; " | {kind:?}: {warning}")?;
+    text.push_str(told.as_str())
 }

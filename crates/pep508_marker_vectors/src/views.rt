@@ -2,79 +2,54 @@
 
 ghost use Rattle.pep508_tree.specs.Meaning.{IsTree};
 
-use crate::reading::{read, refused};
-use pep440_rs::Version;
+use crate::reading::read;
+use crate::stop::{Stop, answered, said};
+use pep440_version::Version;
 use pep508_tree::{Interner, MarkerTree};
 use pep508_view::{
     ContainsMarkerTree, Edge, ExtraMarkerTree, InMarkerTree, MarkerExtra, MarkerTreeKind,
     MarkerTreeView, StringMarkerTree, VersionMarkerTree,
 };
 use std::alloc::{AllocError, Global};
+use std::fmt;
 use std::ops::Bound;
 
 /// The root of a marker's tree.
-pub fn view(alloc: Global, text: &str) -> Result<String, AllocError> {
-    let mut interner = Interner::new(alloc);
-    match read(alloc, &mut interner, text) {
-        Ok(tree) => root(alloc, &interner, tree),
-        Err(error) => refused(alloc, &error),
-    }
-}
-
-fn root(alloc: Global, interner: &Interner, tree: MarkerTree) -> Result<String, AllocError>
-    requires { IsTree interner.now.nodes tree }
-{
-    let mut text = String::new(alloc);
-    push_root(alloc, &mut text, interner, tree)?;
-    Ok(text)
-}
-
-fn push_root(
-    alloc: Global,
-    text: &mut String,
-    interner: &Interner,
-    tree: MarkerTree,
-) -> Result<(), AllocError>
-    requires { IsTree interner.now.nodes tree }
-{
+pub fn view(alloc: Global, interner: &mut Interner, text: &str) -> Result<String, Stop> {
+    let tree = read(alloc, interner, text)?;
     match tree.kind(interner) {
-        MarkerTreeKind::True => text.push_str("true"),
-        MarkerTreeKind::False => text.push_str("false"),
-        MarkerTreeKind::Version(node) => push_versions(alloc, text, &node),
-        MarkerTreeKind::String(node) => push_texts(alloc, text, &node),
-        MarkerTreeKind::In(node) => push_in(alloc, text, &node),
-        MarkerTreeKind::Contains(node) => push_contains(alloc, text, &node),
-        MarkerTreeKind::Extra(node) => push_extra(alloc, text, &node),
+        MarkerTreeKind::True => said(alloc, "true"),
+        MarkerTreeKind::False => said(alloc, "false"),
+        MarkerTreeKind::Version(node) => answered(versions(alloc, &node)),
+        MarkerTreeKind::String(node) => answered(texts(alloc, &node)),
+        MarkerTreeKind::In(node) => answered(within(alloc, &node)),
+        MarkerTreeKind::Contains(node) => answered(containing(alloc, &node)),
+        MarkerTreeKind::Extra(node) => answered(extra(alloc, &node)),
     }
 }
 
-fn push_in(alloc: Global, text: &mut String, node: &InMarkerTree) -> Result<(), AllocError> {
+fn within(alloc: Global, node: &InMarkerTree) -> Result<String, AllocError> {
     let (key, value) = (node.key(), node.value());
     let (set, unset) = (subtree(node.edge(true)), subtree(node.edge(false)));
-    let said = format!(in alloc; "{key:?} in '{value}'{{true {set}, false {unset}}}")?;
-    text.push_str(&said)
+    format!(in alloc; "{key:?} in '{value}'{{true {set}, false {unset}}}")
 }
 
-fn push_contains(
-    alloc: Global,
-    text: &mut String,
-    node: &ContainsMarkerTree,
-) -> Result<(), AllocError> {
+fn containing(alloc: Global, node: &ContainsMarkerTree) -> Result<String, AllocError> {
     let (key, value) = (node.key(), node.value());
     let (set, unset) = (subtree(node.edge(true)), subtree(node.edge(false)));
-    let said = format!(in alloc; "{key:?} contains '{value}'{{true {set}, false {unset}}}")?;
-    text.push_str(&said)
+    format!(in alloc; "{key:?} contains '{value}'{{true {set}, false {unset}}}")
 }
 
-fn push_extra(alloc: Global, text: &mut String, node: &ExtraMarkerTree) -> Result<(), AllocError> {
+fn extra(alloc: Global, node: &ExtraMarkerTree) -> Result<String, AllocError> {
     let (set, unset) = (subtree(node.edge(true)), subtree(node.edge(false)));
-    let name = match node.name() {
-        MarkerExtra::Extra(name) => format!(in alloc; "extra '{name}'"),
-        MarkerExtra::Arbitrary(name) => format!(in alloc; "extra arbitrary '{name}'"),
-    };
-    text.push_str(&name?)?;
-    let choices = format!(in alloc; "{{true {set}, false {unset}}}")?;
-    text.push_str(&choices)
+    match node.name() {
+        MarkerExtra::Extra(name) => {
+            format!(in alloc; "extra '{name}'{{true {set}, false {unset}}}")
+        }
+        MarkerExtra::Arbitrary(name) => {
+            format!(in alloc; "extra arbitrary '{name}'{{true {set}, false {unset}}}")
+        }
+    }
 }
 
 fn subtree(tree: MarkerTree) -> &'static str {
@@ -87,21 +62,16 @@ fn subtree(tree: MarkerTree) -> &'static str {
     }
 }
 
-fn push_versions(
-    alloc: Global,
-    text: &mut String,
-    node: &VersionMarkerTree,
-) -> Result<(), AllocError> {
-    let key = node.key();
-    let head = format!(in alloc; "{key}")?;
-    text.push_str(&head)?;
+fn versions(alloc: Global, node: &VersionMarkerTree) -> Result<String, AllocError> {
+    let mut text = node.key().to_string(alloc)?;
     let mut is_first = true;
     for edge in node.edges() {
         text.push_str(if is_first { "{" } else { ", " })?;
-        push_version_edge(alloc, text, edge)?;
+        push_version_edge(alloc, &mut text, edge)?;
         is_first = false;
     }
-    text.push('}')
+    text.push('}')?;
+    Ok(text)
 }
 
 fn push_version_edge(
@@ -109,50 +79,77 @@ fn push_version_edge(
     text: &mut String,
     edge: Edge<&Version>,
 ) -> Result<(), AllocError> {
-    let lower = match edge.lower {
-        Bound::Unbounded => String::from_str(alloc, "("),
-        Bound::Included(version) => format!(in alloc; "[{version}"),
-        Bound::Excluded(version) => format!(in alloc; "({version}"),
-    };
-    text.push_str(&lower?)?;
-    let upper = match edge.upper {
-        Bound::Unbounded => String::from_str(alloc, "..)"),
-        Bound::Included(version) => format!(in alloc; "..{version}]"),
-        Bound::Excluded(version) => format!(in alloc; "..{version})"),
-    };
-    push_end(text, &upper?, edge.tree)
+    let (lower, upper) = (Lower(edge.lower), Upper(edge.upper));
+    let tree = subtree(edge.tree);
+    let edge = format!(in alloc; "{lower}..{upper} {tree}")?;
+    text.push_str(&edge)
 }
 
-fn push_texts(alloc: Global, text: &mut String, node: &StringMarkerTree) -> Result<(), AllocError> {
+fn texts(alloc: Global, node: &StringMarkerTree) -> Result<String, AllocError> {
     let key = node.key();
-    let head = format!(in alloc; "{key:?}")?;
-    text.push_str(&head)?;
+    let mut text = format!(in alloc; "{key:?}")?;
     let mut is_first = true;
     for edge in node.children() {
         text.push_str(if is_first { "{" } else { ", " })?;
-        push_text_edge(alloc, text, edge)?;
+        push_text_edge(alloc, &mut text, edge)?;
         is_first = false;
     }
-    text.push('}')
+    text.push('}')?;
+    Ok(text)
 }
 
 fn push_text_edge(alloc: Global, text: &mut String, edge: Edge<&str>) -> Result<(), AllocError> {
-    let lower = match edge.lower {
-        Bound::Unbounded => String::from_str(alloc, "("),
-        Bound::Included(bound) => format!(in alloc; "['{bound}'"),
-        Bound::Excluded(bound) => format!(in alloc; "('{bound}'"),
-    };
-    text.push_str(&lower?)?;
-    let upper = match edge.upper {
-        Bound::Unbounded => String::from_str(alloc, "..)"),
-        Bound::Included(bound) => format!(in alloc; "..'{bound}']"),
-        Bound::Excluded(bound) => format!(in alloc; "..'{bound}')"),
-    };
-    push_end(text, &upper?, edge.tree)
+    let (lower, upper) = (
+        Lower(with_quotes(edge.lower)),
+        Upper(with_quotes(edge.upper)),
+    );
+    let tree = subtree(edge.tree);
+    let edge = format!(in alloc; "{lower}..{upper} {tree}")?;
+    text.push_str(&edge)
 }
 
-fn push_end(text: &mut String, upper: &String, tree: MarkerTree) -> Result<(), AllocError> {
-    text.push_str(upper)?;
-    text.push(' ')?;
-    text.push_str(subtree(tree))
+fn with_quotes(bound: Bound<&str>) -> Bound<Quoted<'_>> {
+    match bound {
+        Bound::Included(text) => Bound::Included(Quoted(text)),
+        Bound::Excluded(text) => Bound::Excluded(Quoted(text)),
+        Bound::Unbounded => Bound::Unbounded,
+    }
+}
+
+/// A text in quotes.
+#[derive(Clone, Copy)]
+struct Quoted<'a>(&'a str);
+
+impl fmt::Display for Quoted<'_> {
+    fn fmt<W: fmt::Write>(&self, f: &mut fmt::Formatter<W>) -> fmt::Result {
+        write!(f, "'{}'", self.0)
+    }
+}
+
+/// A lower bound with its bracket.
+#[derive(Clone, Copy)]
+struct Lower<T>(Bound<T>);
+
+impl<T: fmt::Display> fmt::Display for Lower<T> {
+    fn fmt<W: fmt::Write>(&self, f: &mut fmt::Formatter<W>) -> fmt::Result {
+        match &self.0 {
+            Bound::Unbounded => write!(f, "("),
+            Bound::Included(bound) => write!(f, "[{bound}"),
+            Bound::Excluded(bound) => write!(f, "({bound}"),
+        }
+    }
+}
+
+/// An upper bound with its bracket.
+#[derive(Clone, Copy)]
+struct Upper<T>(Bound<T>);
+
+impl<T: fmt::Display> fmt::Display for Upper<T> {
+    fn fmt<W: fmt::Write>(&self, f: &mut fmt::Formatter<W>) -> fmt::Result {
+        match &self.0 {
+            Bound::Unbounded => write!(f, ")"),
+            Bound::Included(bound) => write!(f, "{bound}]"),
+            Bound::Excluded(bound) => write!(f, "{bound})"),
+        }
+    }
 }

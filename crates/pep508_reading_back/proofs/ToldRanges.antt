@@ -16,7 +16,7 @@ use Rattle.pep440_operator.specs.declared.operator.Operator.TheVariants.{NotEqua
 use Rattle.pep440_operator.specs.declared.operator.Operator.TheVariants.{LessThan, LessThanEqual}
 use Rattle.pep440_operator.specs.declared.operator.Operator.TheVariants.{GreaterThan, GreaterThanEqual}
 use Rattle.pep440_specifier.specs.Matching.{SpecifierRecord, without_last}
-use Rattle.pep440_rs.specs.Ranges.{PointTest, all_but, at_version, up_to, from_bound, to_bound, release_range_by, star_releases}
+use Rattle.pep440_range.specs.Ranges.{PointTest, all_but, at_version, up_to, from_bound, to_bound, release_range_by, star_releases}
 use Rattle.pep508_marker.specs.declared.keys.MarkerValueVersion.{MarkerValueVersion}
 use Rattle.pep508_marker.specs.declared.keys.MarkerValueVersion.TheVariants.{ImplementationVersion}
 use Rattle.pep508_marker.specs.declared.keys.MarkerValueVersion.TheVariants.{PythonFullVersion, PythonVersion}

@@ -1,6 +1,6 @@
 -- What a requirement asks for beside its name and extras.
 use Rattle.std.specs.Prelude.{ℕ, List, Option, Some}
-use Rattle.pep440_rs.specs.ListText.{list_text}
+use Rattle.pep440_specifier_list.specs.ListText.{list_text}
 use Rattle.pep508_requirement.specs.declared.version_or_url.VersionOrUrl.{VersionOrUrl}
 use Rattle.pep508_requirement.specs.declared.version_or_url.VersionOrUrl.TheVariants as asked
 use Rattle.pep508_requirement.specs.declared.version_or_url.VersionOrUrlRef.{VersionOrUrlRef}

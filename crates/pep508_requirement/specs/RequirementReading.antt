@@ -2,7 +2,7 @@
 -- may be returned for the text of a URL: it is the type of URLs that knows.
 use Rattle.std.specs.Prelude.{◌≡◌, ◌⊎◌, ℕ, Bool, false, List, Option, Some, None, Result, Ok, Err, IfSome}
 use Rattle.std.specs.Str.{skip_leading_whitespace}
-use Rattle.pep440_rs.specs.Lists.{IsInOrder}
+use Rattle.pep440_specifier_list.specs.Lists.{IsInOrder}
 use Rattle.pep508_url.specs.Vars.{Variables}
 use Rattle.pep508_tree.specs.Meaning.{NodeRecord}
 use Rattle.pep508_error.specs.declared.refusal.RefusalKind.{RefusalKind}

@@ -1,6 +1,6 @@
 -- The text of a requirement with its marker (PEP 508, "Grammar").
 use Rattle.std.specs.Prelude.{◌≡◌, ◌⊎◌, ℕ, List, ◌∷◌, ◌++◌}
-use Rattle.pep440_rs.specs.SpecifierText.{AreSpaces}
+use Rattle.pep440_specifier.specs.SpecifierText.{AreSpaces}
 use Rattle.pep508_error.specs.declared.error.Pep508ErrorSource.{Pep508ErrorSource}
 use Rattle.pep508_error.specs.declared.error.Pep508ErrorSource.TheVariants.{Memory, String, UrlError}
 use Rattle.pep508_error.specs.declared.error.Pep508ErrorSource.TheVariants.{UnsupportedRequirement}

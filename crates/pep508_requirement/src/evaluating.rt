@@ -6,7 +6,7 @@ ghost use Rattle.pep508_evaluation.specs.Valuations.{valuation_of, CanHold, Answ
 ghost use Rattle.pep508_evaluation.specs.Warned.{warned};
 
 use crate::{Requirement, UnnamedRequirement};
-use pep440_rs::Version;
+use pep440_version::Version;
 use pep508_environment::MarkerEnvironment;
 use pep508_evaluation::MarkerTreeEvaluation;
 use pep508_marker::MarkerWarningKind;

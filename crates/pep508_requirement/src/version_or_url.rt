@@ -1,6 +1,6 @@
 //! What a requirement asks for beside its name and extras.
 
-use pep440_rs::VersionSpecifiers;
+use pep440_specifier_list::VersionSpecifiers;
 use pep508_url::{Pep508Url, VerbatimUrl};
 use std::alloc::{AllocError, Global};
 use std::fmt;

@@ -11,9 +11,9 @@ use Rattle.version_ranges.specs.Turns.{reaches}
 use Rattle.version_ranges.specs.declared.boundary.Boundary.{Boundary}
 use Rattle.version_ranges.specs.declared.boundary.Boundary.TheVariants as boundary
 use Rattle.pep440_version.specs.OrderLaws.{version_cmp_total}
-use Rattle.pep440_rs.specs.Record.{VersionRecord, release_record}
-use Rattle.pep440_rs.specs.Order.{version_cmp}
-use Rattle.pep440_rs.specs.Ranges.{PointTest}
+use Rattle.pep440_text.specs.Record.{VersionRecord, release_record}
+use Rattle.pep440_version.specs.Order.{version_cmp}
+use Rattle.pep440_range.specs.Ranges.{PointTest}
 use Rattle.pep508_diagram.specs.declared.branch.Branch.{Branch}
 use Rattle.pep508_diagram.specs.declared.variable.VersionVariable.TheVariants.{ImplementationVersion, PythonFullVersion}
 use Rattle.pep508_diagram.specs.Branches.{RisingBranches, branch_at, last_child, AllBranches, NeighboursDiffer}

@@ -7,8 +7,8 @@ use Rattle.version_ranges.specs.Boundaries.{point_of}
 use Rattle.version_ranges.specs.Bounds.{goes_on_to}
 use Rattle.version_ranges.specs.Order.{start_point}
 use Rattle.version_ranges.specs.Turns.{reaches}
-use Rattle.pep440_rs.specs.Record.{VersionRecord}
-use Rattle.pep440_rs.specs.Order.{version_cmp}
+use Rattle.pep440_text.specs.Record.{VersionRecord}
+use Rattle.pep440_version.specs.Order.{version_cmp}
 use Rattle.pep508_diagram.specs.declared.branch.Branch.{Branch}
 use Rattle.pep508_diagram.specs.declared.variable.VersionVariable.TheVariants.{PythonFullVersion}
 use Rattle.pep508_diagram.specs.Branches.{branch_at}

@@ -12,9 +12,9 @@ use Rattle.std.proofs.lemmas.List.{take_more, take_all}
 use Rattle.version_ranges.specs.Point.{Point}
 use Rattle.version_ranges.specs.Bounds.{goes_on_to}
 use Rattle.version_ranges.specs.Order.{start_point}
-use Rattle.pep440_rs.specs.Record.{VersionRecord}
-use Rattle.pep440_rs.specs.Order.{version_cmp}
-use Rattle.pep440_rs.specs.Ranges.{PointTest}
+use Rattle.pep440_text.specs.Record.{VersionRecord}
+use Rattle.pep440_version.specs.Order.{version_cmp}
+use Rattle.pep440_range.specs.Ranges.{PointTest}
 use Rattle.pep508_marker.specs.Keys.{text_key_rank}
 use Rattle.pep508_diagram.specs.declared.branch.Branch.{Branch}
 use Rattle.pep508_diagram.specs.declared.variable.VersionVariable.TheVariants.{ImplementationVersion, PythonFullVersion}

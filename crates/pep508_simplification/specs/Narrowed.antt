@@ -5,9 +5,9 @@ use Rattle.std.specs.declared.cmp.Ordering.{Ordering}
 use Rattle.std.specs.declared.ops.Bound.{Bound}
 use Rattle.std.specs.Ordering.{nat_cmp, bool_cmp, ordering_then}
 use Rattle.version_ranges.specs.Order.{start_point}
-use Rattle.pep440_rs.specs.Record.{VersionRecord}
-use Rattle.pep440_rs.specs.Order.{version_cmp}
-use Rattle.pep440_rs.specs.Ranges.{PointTest}
+use Rattle.pep440_text.specs.Record.{VersionRecord}
+use Rattle.pep440_version.specs.Order.{version_cmp}
+use Rattle.pep440_range.specs.Ranges.{PointTest}
 use Rattle.pep508_diagram.specs.declared.branch.Branch.{Branch}
 use Rattle.pep508_diagram.specs.declared.variable.VersionVariable.TheVariants.{ImplementationVersion}
 use Rattle.pep508_diagram.specs.declared.variable.VersionVariable.TheVariants.{PythonFullVersion}

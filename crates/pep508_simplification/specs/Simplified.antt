@@ -6,9 +6,9 @@ use Rattle.std.specs.List.{list_any}
 use Rattle.version_ranges.specs.Bounds.{is_within}
 use Rattle.version_ranges.specs.Point.{Point, point_cmp}
 use Rattle.version_ranges.specs.Turns.{reaches}
-use Rattle.pep440_rs.specs.Record.{VersionRecord}
-use Rattle.pep440_rs.specs.Order.{version_cmp}
-use Rattle.pep440_rs.specs.Ranges.{PointTest}
+use Rattle.pep440_text.specs.Record.{VersionRecord}
+use Rattle.pep440_version.specs.Order.{version_cmp}
+use Rattle.pep440_range.specs.Ranges.{PointTest}
 use Rattle.pep508_name.specs.Name.{name_eq}
 use Rattle.pep508_diagram.specs.declared.variable.VersionVariable.TheVariants.{ImplementationVersion}
 use Rattle.pep508_diagram.specs.declared.variable.VersionVariable.TheVariants.{PythonFullVersion}

@@ -1,7 +1,7 @@
 //! Bounds of versions, as values.
 
 ghost use Rattle.std.specs.Prelude.{◌≡◌, IfOk};
-ghost use Rattle.pep440_rs.specs.Bounds.{lent_bound};
+ghost use Rattle.pep440_specifier.specs.Bounds.{lent_bound};
 
 use pep440_version::Version;
 use std::alloc::{AllocError, Global};

@@ -2,7 +2,7 @@
 
 ghost use Rattle.std.specs.Prelude.{◌≡◌, IfOk};
 ghost use Rattle.std.specs.List.{AllByRecursion};
-ghost use Rattle.pep440_rs.specs.Bounds.{lent_bound};
+ghost use Rattle.pep440_specifier.specs.Bounds.{lent_bound};
 ghost use Rattle.pep508_tree.specs.Conjunctions.{Meet};
 ghost use Rattle.pep508_tree.specs.Meaning.{IsTree, Extends, holds};
 ghost use Rattle.pep508_tree.specs.Nodes.{Above};

@@ -1,7 +1,7 @@
 //! Simplifications, as calls on trees.
 
 ghost use Rattle.std.specs.Prelude.{◌≡◌, ◌&&◌, ℕ, Bool, List, IfOk};
-ghost use Rattle.pep440_rs.specs.Bounds.{lent_bound};
+ghost use Rattle.pep440_specifier.specs.Bounds.{lent_bound};
 ghost use Rattle.pep508_diagram.specs.Question.{Valuation};
 ghost use Rattle.pep508_diagram.specs.declared.variable.VersionVariable.TheVariants.{PythonFullVersion};
 ghost use Rattle.pep508_tree.specs.Meaning.{IsTree, Extends, holds};

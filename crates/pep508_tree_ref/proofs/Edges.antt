@@ -7,8 +7,8 @@ use Rattle.std.specs.Cmp.Lexicographic.{slice_cmp}
 use Rattle.std.proofs.lemmas.Option.{slice_get-map, slice_get-get_or, slice_get_past}
 use Rattle.version_ranges.specs.declared.boundary.Boundary.{Boundary}
 use Rattle.version_ranges.specs.Boundaries.{boundary_cmp}
-use Rattle.pep440_rs.specs.Record.{VersionRecord}
-use Rattle.pep440_rs.specs.Order.{version_cmp}
+use Rattle.pep440_text.specs.Record.{VersionRecord}
+use Rattle.pep440_version.specs.Order.{version_cmp}
 use Rattle.pep508_marker.specs.declared.keys.MarkerValueString.{MarkerValueString}
 use Rattle.pep508_diagram.specs.declared.branch.Branch.{Branch}
 use Rattle.pep508_diagram.specs.declared.variable.VersionVariable.{VersionVariable}

@@ -2,7 +2,7 @@
 
 use crate::requirement::{picture, requirement, unnamed};
 use crate::warnings::warnings;
-use crate::{calls, names, prints};
+use crate::{calls, meant, names, prints};
 use pep508_name::{InvalidNameError, PackageName, RequirementOrigin};
 use pep508_url::{
     Pep508Url, Scheme, Vars, VerbatimUrl, VerbatimUrlError, expand_env_vars, split_extras,
@@ -47,9 +47,14 @@ pub fn answer(alloc: Global, vars: &Vars, question: &str) -> Result<String, Allo
         "packages" => names::packages(alloc, text, text_at(&question, 2)),
         "extra-names" => names::extras(alloc, text, text_at(&question, 2)),
         "origins" => names::origins(alloc, text, text_at(&question, 2)),
+        "meant" | "unnamed-meant" | "with-extra" => {
+            meant::answer(alloc, vars, kind, text, text_at(&question, 2))
+        }
+        "of-url" => meant::of_url(alloc, text),
+        "unnamed-path" | "unnamed-url" => meant::unnamed_url(alloc, kind, text),
         "print" => prints::print(alloc, vars, text, DIRECTORY),
         "unnamed-print" => prints::unnamed(alloc, vars, text, DIRECTORY),
-        "copy" | "nowhere" | "value" | "plain" | "extras" | "unnamed-copy" => {
+        "copy" | "nowhere" | "value" | "whole" | "plain" | "extras" | "unnamed-copy" => {
             calls::answer(alloc, vars, kind, text, DIRECTORY)
         }
         _ => names::answer(alloc, kind, text),

@@ -25,6 +25,7 @@ pub fn answer(
     match kind {
         "copy" => copy(alloc, vars, text, directory),
         "nowhere" => nowhere(alloc, vars, text),
+        "whole" => whole(alloc, vars, text),
         "value" => value(alloc, vars, text),
         "plain" => plain(alloc, vars, text, directory),
         "extras" => extras(alloc, text),
@@ -33,7 +34,8 @@ pub fn answer(
     }
 }
 
-fn refused(alloc: Global, error: &Pep508Error<VerbatimUrl>) -> Result<String, AllocError> {
+/// The message of a refusal.
+pub fn refused(alloc: Global, error: &Pep508Error<VerbatimUrl>) -> Result<String, AllocError> {
     match error.message() {
         Pep508ErrorSource::Memory => Err(AllocError),
         message => format!(in alloc; "refused: {message}"),
@@ -74,6 +76,24 @@ fn nowhere(alloc: Global, vars: &Vars, text: &str) -> Result<String, AllocError>
     match Requirement::from_str(alloc, &mut interner, vars, text) {
         Ok(read) => read.name.to_string(alloc),
         Err(error) => refused(alloc, &error),
+    }
+}
+
+/// The whole text that a refusal tells of.
+fn whole(alloc: Global, vars: &Vars, text: &str) -> Result<String, AllocError> {
+    let mut interner = Interner::new(alloc);
+    let read: Result<Requirement<VerbatimUrl>, _> = Requirement::from_str(
+        alloc,
+        &mut interner,
+        vars,
+        text,
+    );
+    match read {
+        Ok(_) => String::from_str(alloc, "read"),
+        Err(error) => match error.message() {
+            Pep508ErrorSource::Memory => Err(AllocError),
+            _ => String::from_str(alloc, error.input()),
+        },
     }
 }
 

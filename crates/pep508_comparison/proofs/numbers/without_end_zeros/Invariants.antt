@@ -1,5 +1,5 @@
 use Rattle.std.proofs.Common.{◌≡◌, ◌<◌, length}
-use Rattle.pep440_rs.specs.Order.{stripped}
+use Rattle.pep440_version.specs.Order.{stripped}
 use Rattle.pep508_comparison.proofs.numbers.without_end_zeros.Given as goal
 
 abbrev pub invariant-loop-last : goal.invariant-loop-last

@@ -1,5 +1,5 @@
 use Rattle.std.proofs.Common.{subst}
-use Rattle.pep440_rs.specs.Ranges.{Gives}
+use Rattle.pep440_range.specs.Ranges.{Gives}
 use Rattle.pep508_comparison.proofs.Unions.{rest_given}
 use Rattle.pep508_comparison.proofs.sets.negated.Goals as goal
 

@@ -1,5 +1,5 @@
 use Rattle.std.proofs.Common.{◌∙◌}
-use Rattle.pep440_rs.specs.Bounds.{lent_bound}
+use Rattle.pep440_specifier.specs.Bounds.{lent_bound}
 use Rattle.pep508_tree.specs.Meaning.{IsTree}
 use Rattle.pep508_tree.specs.Nodes.{Above}
 use Rattle.pep508_tree.proofs.Conjoining.{each_of_list}

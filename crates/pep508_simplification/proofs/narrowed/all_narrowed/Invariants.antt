@@ -1,5 +1,5 @@
 use Rattle.std.proofs.Common.{◌≡◌}
-use Rattle.pep440_rs.specs.Bounds.{lent_bound}
+use Rattle.pep440_specifier.specs.Bounds.{lent_bound}
 use Rattle.pep508_simplification.specs.Simplified.{between}
 use Rattle.pep508_simplification.proofs.Simplifying.{AreSimpler}
 use Rattle.pep508_simplification.proofs.narrowed.all_narrowed.Given as goal

@@ -1,5 +1,5 @@
 use Rattle.std.proofs.Common.{◌∙◌, ap, sym, Some}
-use Rattle.pep440_rs.specs.Bounds.{lent_bound}
+use Rattle.pep440_specifier.specs.Bounds.{lent_bound}
 use Rattle.pep508_tree.specs.Meaning.{Versions}
 use Rattle.pep508_tree.specs.Nodes.{signed}
 use Rattle.pep508_tree.specs.Roots.{root_of}

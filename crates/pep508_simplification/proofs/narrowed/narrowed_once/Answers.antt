@@ -1,4 +1,4 @@
-use Rattle.pep440_rs.specs.Bounds.{lent_bound}
+use Rattle.pep440_specifier.specs.Bounds.{lent_bound}
 use Rattle.pep508_simplification.specs.Simplified.{between}
 use Rattle.pep508_simplification.proofs.Simplifying.{recalled_at, recalled_more}
 use Rattle.pep508_simplification.proofs.narrowed.narrowed_once.Goals as goal

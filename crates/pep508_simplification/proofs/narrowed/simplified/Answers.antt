@@ -1,7 +1,7 @@
 use Rattle.std.proofs.Common.{◌∙◌, ap, sym, subst}
 use Rattle.std.proofs.lemmas.Result.{IfOk-weaker}
 use Rattle.std.specs.List.{AllByRecursion}
-use Rattle.pep440_rs.specs.Bounds.{lent_bound}
+use Rattle.pep440_specifier.specs.Bounds.{lent_bound}
 use Rattle.pep508_tree.specs.Meaning.{IsTree}
 use Rattle.pep508_tree.specs.Nodes.{Above}
 use Rattle.pep508_tree.proofs.Conjoining.{meet_by}

@@ -1,7 +1,7 @@
 use Rattle.std.proofs.Common.{◌≡◌, length}
 use Rattle.version_ranges.specs.Order.{start_point}
-use Rattle.pep440_rs.specs.Bounds.{lent_bound}
-use Rattle.pep440_rs.specs.Order.{version_cmp}
+use Rattle.pep440_specifier.specs.Bounds.{lent_bound}
+use Rattle.pep440_version.specs.Order.{version_cmp}
 use Rattle.pep508_diagram.specs.Branches.{branch_at}
 use Rattle.pep508_simplification.specs.Within.{behind}
 use Rattle.pep508_simplification.proofs.within.behind.Given as goal

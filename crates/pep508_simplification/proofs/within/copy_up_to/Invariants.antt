@@ -1,6 +1,6 @@
 use Rattle.std.proofs.Common.{◌≡◌, ◌++◌, map, drop}
-use Rattle.pep440_rs.specs.Bounds.{lent_bound}
-use Rattle.pep440_rs.specs.Order.{version_cmp}
+use Rattle.pep440_specifier.specs.Bounds.{lent_bound}
+use Rattle.pep440_version.specs.Order.{version_cmp}
 use Rattle.pep508_simplification.specs.Parts.{signs}
 use Rattle.pep508_simplification.specs.Within.{up_to}
 use Rattle.pep508_simplification.proofs.within.copy_up_to.Given as goal

@@ -1,5 +1,5 @@
 use Rattle.std.proofs.Common.{◌≡◌, map, drop}
-use Rattle.reqs_cli.specs.Root.{root_in}
+use Rattle.reqs_cli.specs.Variables.{root_in}
 use Rattle.reqs_cli.proofs.variables.project_root.Given as goal
 
 abbrev pub invariant-loop-name : goal.invariant-loop-name

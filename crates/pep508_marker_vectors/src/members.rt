@@ -1,0 +1,177 @@
+//! What is asked of environments.
+
+use crate::comparisons::stopped;
+use crate::environment::{environment, environment_of};
+use crate::question::text_at;
+use crate::stop::{Stop, answered, said};
+use pep440_version::VersionParseError;
+use pep508_environment::{
+    EnvironmentBuildError, MarkerEnvironment, MarkerEnvironmentBuilder, StringVersion,
+};
+use pep508_marker::MarkerValue;
+use read_outcome::FromValueError;
+use serde_json::Value;
+use std::alloc::{AllocError, Global};
+
+/// What an environment has for a key of a marker.
+pub fn key(alloc: Global, environments: &str, name: &str, key: &str) -> Result<String, Stop> {
+    let environment = environment(alloc, environments, name)?;
+    key_in(alloc, &environment, key)
+}
+
+fn key_in(alloc: Global, environment: &MarkerEnvironment, key: &str) -> Result<String, Stop> {
+    match MarkerValue::from_str(alloc, key) {
+        Ok(value) => read_by(alloc, environment, &value),
+        Err(error) => Err(stopped(error)),
+    }
+}
+
+fn read_by(
+    alloc: Global,
+    environment: &MarkerEnvironment,
+    key: &MarkerValue,
+) -> Result<String, Stop> {
+    match key {
+        MarkerValue::MarkerEnvVersion(key) => {
+            answered(environment.get_version(*key).to_string(alloc))
+        }
+        MarkerValue::MarkerEnvString(key) => said(alloc, environment.get_string(*key)),
+        _ => said(alloc, "no key"),
+    }
+}
+
+/// The text that an environment has under a name.
+pub fn member(alloc: Global, environments: &str, name: &str, member: &str) -> Result<String, Stop> {
+    let environment = environment(alloc, environments, name)?;
+    said(alloc, text_under(&environment, member))
+}
+
+fn text_under<'a>(environment: &'a MarkerEnvironment, member: &str) -> &'a str {
+    match member {
+        "implementation_name" => environment.implementation_name(),
+        "implementation_version" => environment.implementation_version().string.as_str(),
+        "os_name" => environment.os_name(),
+        "platform_machine" => environment.platform_machine(),
+        "platform_python_implementation" => environment.platform_python_implementation(),
+        "platform_release" => environment.platform_release(),
+        "platform_system" => environment.platform_system(),
+        "platform_version" => environment.platform_version(),
+        "python_full_version" => environment.python_full_version().string.as_str(),
+        "python_version" => environment.python_version().string.as_str(),
+        "sys_platform" => environment.sys_platform(),
+        _ => "no member",
+    }
+}
+
+/// The value of an environment with another text as one member.
+pub fn with(alloc: Global, environments: &str, question: &Value) -> Result<String, Stop> {
+    let environment = environment(alloc, environments, text_at(question, 1))?;
+    let (name, text) = (text_at(question, 2), text_at(question, 3));
+    if name.ends_with("version") && name != "platform_version" {
+        let value = string_version(alloc, text)?;
+        printed(alloc, &with_version(environment, name, value))
+    } else {
+        let value = String::from_str(alloc, text)?;
+        printed(alloc, &with_text(environment, name, value))
+    }
+}
+
+fn with_version(
+    environment: MarkerEnvironment,
+    name: &str,
+    value: StringVersion,
+) -> MarkerEnvironment {
+    match name {
+        "implementation_version" => environment.with_implementation_version(value),
+        "python_full_version" => environment.with_python_full_version(value),
+        _ => environment.with_python_version(value),
+    }
+}
+
+fn with_text(environment: MarkerEnvironment, name: &str, value: String) -> MarkerEnvironment {
+    match name {
+        "implementation_name" => environment.with_implementation_name(value),
+        "os_name" => environment.with_os_name(value),
+        "platform_machine" => environment.with_platform_machine(value),
+        "platform_python_implementation" => environment.with_platform_python_implementation(value),
+        "platform_release" => environment.with_platform_release(value),
+        "platform_system" => environment.with_platform_system(value),
+        "platform_version" => environment.with_platform_version(value),
+        _ => environment.with_sys_platform(value),
+    }
+}
+
+fn printed(alloc: Global, environment: &MarkerEnvironment) -> Result<String, Stop> {
+    let value = environment.to_value(alloc)?;
+    answered(value.to_string(alloc))
+}
+
+/// The value of the environment that is built of the texts of a question, in the order of members.
+pub fn built(alloc: Global, question: &Value) -> Result<String, Stop> {
+    let builder = MarkerEnvironmentBuilder {
+        implementation_name: text_at(question, 1),
+        implementation_version: text_at(question, 2),
+        os_name: text_at(question, 3),
+        platform_machine: text_at(question, 4),
+        platform_python_implementation: text_at(question, 5),
+        platform_release: text_at(question, 6),
+        platform_system: text_at(question, 7),
+        platform_version: text_at(question, 8),
+        python_full_version: text_at(question, 9),
+        python_version: text_at(question, 10),
+        sys_platform: text_at(question, 11),
+    };
+    match MarkerEnvironment::try_from(alloc, builder) {
+        Ok(environment) => printed(alloc, &environment),
+        Err(EnvironmentBuildError::Memory) => Err(Stop::Memory),
+        Err(EnvironmentBuildError::Version(key, error)) => {
+            let name = key.name();
+            answered(format!(in alloc; "{name}: {error}"))
+        }
+    }
+}
+
+/// The member that is wrong in a JSON value, or the value again.
+pub fn environment_value(alloc: Global, text: &str) -> Result<String, Stop> {
+    let environment = environment_of(alloc, text)?;
+    printed(alloc, &environment)
+}
+
+fn string_version(alloc: Global, text: &str) -> Result<StringVersion, Stop> {
+    match StringVersion::from_str(alloc, text) {
+        Ok(version) => Ok(version),
+        Err(VersionParseError::Memory) => Err(Stop::Memory),
+        Err(error) => Err(Stop::of(error.to_string(alloc))),
+    }
+}
+
+/// The print and the version of a text, the print of that version, and whether a copy and what is read of its
+/// value are equal.
+pub fn version(alloc: Global, text: &str) -> Result<String, Stop> {
+    let read = string_version(alloc, text)?;
+    shown(alloc, &read)
+}
+
+fn shown(alloc: Global, read: &StringVersion) -> Result<String, Stop> {
+    let is_copied = is_copied(alloc, read)?;
+    let is_read = is_read_back(alloc, read)?;
+    let plain = plain(alloc, read)?;
+    answered(format!(in alloc; "{read} is {plain}, copied {is_copied}, read back {is_read}"))
+}
+
+fn is_copied(alloc: Global, version: &StringVersion) -> Result<bool, AllocError> {
+    Ok(version.try_clone(alloc)? == *version)
+}
+
+fn plain(alloc: Global, version: &StringVersion) -> Result<StringVersion, AllocError> {
+    StringVersion::from_version(alloc, version.version.try_clone(alloc)?)
+}
+
+fn is_read_back(alloc: Global, version: &StringVersion) -> Result<bool, AllocError> {
+    let value = version.to_value(alloc)?;
+    match StringVersion::from_value(alloc, &value) {
+        Ok(read) => Ok(read == *version),
+        Err(FromValueError::Text(VersionParseError::Memory)) => Err(AllocError),
+        Err(_) => Ok(false),
+    }
+}

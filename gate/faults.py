@@ -1,0 +1,135 @@
+#!/usr/bin/env python3
+"""Plants faults one by one in copies of the tree, and sees that the gate fails at each, with a store that holds
+all that is proved.
+
+    faults.py
+
+A gate that takes from a store is worth as much as its sums: a crate whose text changed must never be taken. So a
+body, a contract, a definition, a proof, a line of crates.txt, a test and an answer are made wrong here, and so are the
+edits and an entry of the store. A copy has the crates of the fault and those below, so their sums are those of the
+tree. The last line is `N passed, M failed`, a fault each, and each copy without its fault.
+"""
+
+import os
+import re
+import shutil
+import subprocess
+import sys
+import tempfile
+
+from crates import TOP, Crates
+from store import Store, default_folder
+
+CLOSING = re.compile(r"^\d+ passed, (\d+) failed$", re.M)
+
+
+class Fault:
+    """A fault: a name, the crate whose closure the copy has (None: all crates), the words of the part that has to
+    fail, a file, a text that stands in it once, and what stands there then. No text stands for the whole file."""
+
+    def __init__(self, name, crate, words, path, old, new):
+        self.name, self.crate, self.words, self.path, self.old, self.new = name, crate, words, path, old, new
+
+    def plant(self, room):
+        path = os.path.join(room, self.path)
+        with open(path, encoding="utf-8") as file:
+            text = file.read()
+        if self.old and text.count(self.old) != 1:
+            raise ValueError(f"{self.path} has {text.count(self.old)} times, and not once: {self.old}")
+        with open(path, "w", encoding="utf-8") as file:
+            file.write(text.replace(self.old, self.new) if self.old else self.new)
+
+
+PROVE, WRONG = ["gate/prove.py"], ["gate/wrong.py"]
+LOW = "crates/underline"
+FAULTS = [
+    Fault("a body", "underline", PROVE, f"{LOW}/src/lib.rt", "c.width().unwrap_or(0)", "c.width().unwrap_or(1)"),
+    Fault("a body, two crates below the one that is left out", "pep508_error", PROVE,
+          f"{LOW}/src/lib.rt", "let mut total = 0;", "let mut total = 1;"),
+    Fault("a contract", "underline", PROVE,
+          f"{LOW}/src/lib.rt", "result ≡ columns text.now", "result ≡ 1 + columns text.now"),
+    Fault("a definition", "underline", PROVE,
+          f"{LOW}/specs/Underline.antt", "(char_width false c) 0", "(char_width true c) 0"),
+    Fault("a proof", "pep440_operator", PROVE,
+          "crates/pep440_operator/proofs/Operators.antt", "", "-- nothing is proved here\n"),
+    Fault("a line of crates.txt", "underline", PROVE, "crates.txt", "underline: unicode_width", "underline:"),
+    Fault("a test", "pep508_url_tests", PROVE,
+          "crates/pep508_url_tests/src/urls.rt", 'vars.project_root(), "/w"', 'vars.project_root(), "/v"'),
+    Fault("an answer to a question", "pep440_vectors", PROVE, "crates/pep440_vectors/stdout", "", "none\n"),
+    Fault("an edit that is right", None, [*WRONG, "--gate", "underline"],
+          "tests/wrong/underline/marks_are_the_blanks.edit", "",
+          "file: src/lib.rt\nold: c.width().unwrap_or(0)\nnew: match c.width() { Some(it) => it, None => 0 }\n"),
+    Fault("no edits", None, [*WRONG, "--texts"], "tests/wrong/gate.txt", "", ""),
+]
+
+
+def copy_of(crate, room):
+    """Copies the tree without what lies in out/: of its crates all, or those of a closure."""
+    crates = Crates()
+    kept = {it.name for it in [*crates.below(crate), crates[crate]]} if crate else {*crates}
+    words = ["git", "ls-files", "-z", "--cached", "--others", "--exclude-standard"]
+    listed = subprocess.run(words, cwd=TOP, capture_output=True, check=True).stdout.decode()
+    for path in filter(None, listed.split("\0")):
+        folders = path.split("/")
+        if os.path.isfile(os.path.join(TOP, path)) and (folders[0] != "crates" or folders[1] in kept):
+            os.makedirs(os.path.join(room, os.path.dirname(path)), exist_ok=True)
+            shutil.copy2(os.path.join(TOP, path), os.path.join(room, path))
+    with open(os.path.join(room, "crates.txt"), "w", encoding="utf-8") as file:
+        file.writelines(crates.lines[it] for it in crates if it in kept)
+
+
+def ran(words, room, store):
+    """The status of a part of the gate in a copy, and what it said."""
+    how = {"stdin": subprocess.DEVNULL, "stdout": subprocess.PIPE, "stderr": subprocess.STDOUT, "errors": "replace"}
+    done = subprocess.run([sys.executable, *words], cwd=room, env={**os.environ, "FOWLYORE_CACHE": store}, **how)
+    return done.returncode, done.stdout
+
+
+def judged(fault, is_planted):
+    """Why the gate isn't as it has to be with this fault planted, or without it, or None."""
+    with tempfile.TemporaryDirectory(prefix="reqs-faults-") as room:
+        copy_of(fault.crate, room)
+        if is_planted:
+            fault.plant(room)
+        status, said = ran(fault.words, room, default_folder())
+    failed = [int(it) for it in CLOSING.findall(said)]
+    if is_planted and (status == 0 or not failed or failed[-1] == 0):
+        return f"the gate did not fail: status {status}: {said[-300:]}"
+    if not is_planted and (status or fault.words == PROVE and "gate: 0 proved, " not in said):
+        return f"without the fault the gate did not pass from the store: status {status}: {said[-300:]}"
+    return None
+
+
+def cut_short():
+    """Why an entry of the store that is cut short is taken, or None: the crate has to be proved in its place."""
+    with tempfile.TemporaryDirectory(prefix="reqs-faults-") as room, tempfile.TemporaryDirectory() as folder:
+        copy_of("read_outcome", room)
+        entry = f"{Crates().sum('read_outcome')}.library"
+        store = Store(folder)
+        with open(Store().path("packed", f"{entry}.tar.gz"), "rb") as whole:
+            with open(store.path("packed", f"{entry}.tar.gz"), "wb") as part:
+                part.write(whole.read()[:-1000])
+        if store.take(entry, room):
+            return "it was taken"
+        _, said = ran(PROVE, room, folder)
+    return None if "gate: 1 proved, 0 taken" in said else "the crate was not proved anew"
+
+
+def main():
+    passed = failed = 0
+    told, tried = [], set()
+    for fault in FAULTS:
+        shown = (fault.crate, *fault.words)
+        for is_planted in (False, True) if shown not in tried else (True,):
+            told.append((fault.name if is_planted else f"the copy for {fault.name}", judged(fault, is_planted)))
+        tried.add(shown)
+    told.append(("an entry that is cut short", cut_short()))
+    for name, why in told:
+        print(f"FAILED: {name}: {why}" if why else f"{name}: as it has to be", flush=True)
+        passed, failed = passed + (why is None), failed + (why is not None)
+    print(f"{passed} passed, {failed} failed")
+    return 1 if failed else 0
+
+
+if __name__ == "__main__":
+    sys.exit(main())

@@ -1,0 +1,217 @@
+#!/usr/bin/env python3
+"""Proves what the store doesn't hold, and takes the rest from there.
+
+    prove.py [--from-nothing]        all crates and tests, and runs them: what `rt ci` does
+    prove.py --program NAME          a program and the crates below it: crates/NAME/out/NAME is there then
+    prove.py --libraries CRATE..     the libraries of these crates and of those below, as `rt check` takes them
+
+What is proved is judged by `rt`'s own code, and kept in the store under the sum of all that it rests on. With
+--from-nothing nothing is taken. The first closes with `N passed, M failed`; how much was taken stands on standard error.
+"""
+
+import os
+import shutil
+import subprocess
+import sys
+import threading
+
+import toolchain
+from crates import TOP, Crates
+from lanes import Lanes, Task
+from store import Store
+
+LIBRARY, PROGRAM, TESTS = "library", "program", "tests"
+# A file in out/, or in out/rlib/, that says by its sum what lies there.
+MARK = "sum"
+# What a proof takes by one job, as measured: a crate is loaded, and then so much for a line.
+SECONDS, SECONDS_A_LINE = 7, 0.13
+# Some checks take a fifth more memory than is reckoned.
+MEMORY = 0.85
+
+
+class Prover:
+    """Proves crates by `rt` where the store doesn't have them."""
+
+    def __init__(self, rt, store):
+        self.rt, self.store, self.crates = rt, store, Crates()
+        self.proves = rt.Crate.ci
+        self.taken, self.proved = [], []
+        self.turns = {it: threading.Lock() for it in self.crates}
+
+    def kind(self, name, tests=False):
+        return TESTS if tests else PROGRAM if self.crates[name].is_program() else LIBRARY
+
+    def entry(self, name, tests=False):
+        return f"{self.crates.sum(name)}.{self.kind(name, tests)}"
+
+    def take_or_prove(self, crate, flags, tests):
+        """Stands in place of `rt`'s way to prove a crate from nothing, and gives a status as that does."""
+        entry, out = self.entry(crate.name, tests), os.path.join(crate.folder, "out")
+        # (a library is unpacked once something is proved over it)
+        is_library = self.kind(crate.name, tests) == LIBRARY
+        if self.store.has(entry) if is_library else self.store.take(entry, out):
+            self.taken.append(entry)
+            return 0
+        lost = [it.name for it in crate.below() if not self.lay_out(it.name)]
+        if lost:
+            print(f"gate: {crate.name}: the library {lost[0]} can't be taken from the store", file=crate.out)
+            return 1
+        status = self.proves(crate, flags, tests)
+        if status == 0:
+            self.proved.append(entry)
+            self.keep(crate, entry, tests)
+        return status
+
+    def keep(self, crate, entry, tests):
+        """Keeps what was proved, unless a text changed meanwhile."""
+        if Crates().sum(crate.name) != self.crates.sum(crate.name):
+            return
+        out, kind = os.path.join(crate.folder, "out"), self.kind(crate.name, tests)
+        programs = [crate.name, f"{crate.name}.by-rattle"]
+        made = {TESTS: [f"{crate.name}_tests"], PROGRAM: programs, LIBRARY: ["rlib"]}[kind]
+        if os.path.isdir(os.path.join(out, "rlib")) and kind == LIBRARY:
+            # (by its stamp `rt check` knows a library for its own)
+            write(os.path.join(out, "rlib", "stamp"), crate.stamp())
+            write(os.path.join(out, "rlib", MARK), self.crates.sum(crate.name))
+        self.store.keep(entry, out, [it for it in made if os.path.exists(os.path.join(out, it))])
+
+    def lay_out(self, name):
+        """Has a library that was proved or kept in its crate's out/, and says whether it is there."""
+        out = os.path.join(self.crates[name].folder, "out")
+        with self.turns[name]:
+            if read(os.path.join(out, "rlib", MARK)) == self.crates.sum(name):
+                return True
+            os.makedirs(out, exist_ok=True)
+            return self.store.take(self.entry(name), out)
+
+    def in_lanes(self, tasks):
+        """Stands in place of `rt`'s way to run tasks side by side, and takes them in its form."""
+        made = {}
+        for key, (waits, lines, memory, call) in tasks.items():
+            name, tests = (key, False) if isinstance(key, str) else (key[0], key[1] == TESTS)
+            is_kept = self.store.has(self.entry(name, tests))
+            made[key] = Task(waits, 1 if is_kept or not lines else SECONDS + SECONDS_A_LINE * lines, memory, call)
+        return Lanes(made, self.rt.processors(), MEMORY * self.rt.free()).run()
+
+    def told(self):
+        return f"{len(self.proved)} proved, {len(self.taken)} taken from the store"
+
+
+def read(path):
+    try:
+        with open(path, encoding="utf-8") as file:
+            return file.read()
+    except (OSError, UnicodeDecodeError):
+        return None
+
+
+def write(path, text):
+    with open(path, "w", encoding="utf-8") as file:
+        file.write(text)
+
+
+def put_back(root, aside, was_killed=False):
+    """Gives the crates back what stood in out/ before, and leaves what this run has laid out there."""
+    for name in os.listdir(aside):
+        folder = os.path.join(root, "crates", name)
+        for part in os.listdir(os.path.join(aside, name)) if os.path.isdir(folder) else []:
+            if not os.path.exists(os.path.join(folder, "out", part)):
+                os.makedirs(os.path.join(folder, "out"), exist_ok=True)
+                shutil.move(os.path.join(aside, name, part), os.path.join(folder, "out", part))
+
+
+def all_crates(prover):
+    """Does what `rt ci` does, but for what the store has."""
+    prover.rt.Crate.ci = lambda crate, flags, tests: prover.take_or_prove(crate, flags, tests)
+    prover.rt.put_back, prover.rt.in_lanes = put_back, prover.in_lanes
+    os.chdir(TOP)
+    status = prover.rt.ci()
+    print(f"gate: {prover.told()}", file=sys.stderr, flush=True)
+    return status
+
+
+class Chain:
+    """Some crates and those below them, which are proved as many side by side as processors and memory allow."""
+
+    def __init__(self, prover, names):
+        rt = prover.rt
+        rt.rtlib.stop, rt.Crate.cuts_libraries, rt.rtlib.Crate = rt.stop, True, rt.Crate
+        rt.rtlib.guarded()
+        rt.Crate.allowed = rt.handles_of(TOP)
+        self.prover, self.names, self.ended = prover, names, 0
+        wanted = {low.name for it in names for low in [*prover.crates.below(it), prover.crates[it]]}
+        crates = [it for it in rt.rtlib.crates_below(TOP) if it.name in wanted]
+        self.crates = sorted(crates, key=lambda it: len(it.below()))
+
+    def prove(self, crate, given, jobs):
+        if not all(given[it.name] for it in crate.below()):
+            return False
+        out = os.path.join(crate.folder, "out")
+        os.makedirs(out, exist_ok=True)
+        log = os.path.join(out, "prove.log")
+        with open(log, "w", encoding="utf-8", errors="replace") as crate.out:
+            status = self.prover.take_or_prove(crate, ["--jobs", str(jobs)], False)
+        self.ended += 1
+        failed = f"NOT PROVED, as crates/{crate.name}/out/prove.log tells"
+        if status or self.prover.entry(crate.name) in self.prover.proved:
+            told = failed if status else "proved"
+            print(f"gate: crate {self.ended} of {len(self.crates)}: {crate.name}: {told}", file=sys.stderr, flush=True)
+        return status == 0
+
+    def run(self):
+        """Says whether all are proved."""
+        rt, tasks = self.prover.rt, {}
+        held = rt.rtlib.lock(self.crates)
+        for it in self.crates:
+            waits, lines = [low.name for low in it.below()], it.count(rb"\n")
+            tasks[it.name] = waits, lines, rt.need(it), lambda given, jobs, it=it: self.prove(it, given, jobs)
+        given = self.prover.in_lanes(tasks)
+        for it in held:
+            os.close(it)
+        return all(given.values())
+
+
+def program(prover, name):
+    """Has a program built where it isn't there, and returns a status."""
+    crate = prover.crates[name]
+    out, mark = os.path.join(crate.folder, "out"), prover.crates.sum(name)
+    built = os.path.join(out, name)
+    if os.access(built, os.X_OK) and read(os.path.join(out, MARK)) == mark:
+        return 0
+    if not Chain(prover, [name]).run() or not os.access(built, os.X_OK):
+        print(f"gate: {name} was not built", file=sys.stderr)
+        return 1
+    write(os.path.join(out, MARK), mark)
+    return 0
+
+
+def libraries(prover, names):
+    if not Chain(prover, names).run():
+        return 1
+    wanted = {low.name for it in names for low in [*prover.crates.below(it), prover.crates[it]]}
+    return 0 if all(prover.lay_out(it) for it in wanted if prover.kind(it) == LIBRARY) else 1
+
+
+def main(words):
+    mode = words[0] if words else ""
+    named = words[1:]
+    is_call = not named if mode in ("", "--from-nothing") else named and mode in ("--program", "--libraries")
+    if not is_call:
+        print(__doc__, file=sys.stderr)
+        return 2
+    try:
+        prover = Prover(toolchain.load(), Store(reads=mode != "--from-nothing"))
+    except toolchain.Unknown as error:
+        print(f"gate: gate/toolchain.py doesn't know this rt ({error}), so no store is used", file=sys.stderr)
+        return subprocess.run(["rt", "ci"], cwd=TOP).returncode if mode in ("", "--from-nothing") else 1
+    unknown = [it for it in named if it not in prover.crates]
+    if unknown:
+        print(f"gate: crates.txt names no crate {unknown[0]}", file=sys.stderr)
+        return 2
+    if mode == "--program":
+        return program(prover, named[0])
+    return libraries(prover, named) if mode == "--libraries" else all_crates(prover)
+
+
+if __name__ == "__main__":
+    sys.exit(main(sys.argv[1:]))

@@ -1,0 +1,56 @@
+"""The toolchain's command `rt` as a module, so that what is proved here is judged by its very code.
+
+`rt` finds the crates below one, and the sum of a crate's sources, anew on each path through crates.txt that leads to
+it: some minutes of a gate. Here each is found once a run.
+"""
+
+import importlib.machinery
+import importlib.util
+import os
+import sys
+
+from crates import kit_folder
+
+# What is used of the two modules.
+NAMES = (
+    "Crate", "ci", "in_lanes", "need", "put_back", "rtlib", "stop", "handles_of", "processors", "free",
+    "checked", "must_fail", "unread",
+)
+LIBRARY_NAMES = ("Crate", "crates_below", "lock", "guarded", "text_of")
+
+
+class Unknown(Exception):
+    """This toolchain's `rt` isn't made as the one that is known here."""
+
+
+def load():
+    """Returns the module of `rt`, made to find each crate's sum and what stands below it once."""
+    path = os.path.join(kit_folder(), "bin", "rt")
+    sys.dont_write_bytecode = True
+    try:
+        loader = importlib.machinery.SourceFileLoader("rt", path)
+        module = importlib.util.module_from_spec(importlib.util.spec_from_loader("rt", loader))
+        loader.exec_module(module)
+        lacking = [it for it in NAMES if not hasattr(module, it)]
+        lacking += [it for it in LIBRARY_NAMES if not hasattr(module.rtlib, it)]
+    except (OSError, SyntaxError, ImportError) as error:
+        raise Unknown(str(error)) from error
+    if lacking or not hasattr(module.Crate, "ci"):
+        raise Unknown(f"it has no {', '.join(lacking) or 'Crate.ci'}")
+    find_once(module.rtlib.Crate, "below")
+    find_once(module.rtlib.Crate, "stamp")
+    return module
+
+
+def find_once(crate, name):
+    """Has a method with no arguments keep what it found for each crate."""
+    whole, kept = getattr(crate, name), f"_{name}_found"
+
+    def found(self):
+        # (a crate asks what stands below it while it is being made)
+        if not hasattr(self, "deps") or kept not in self.__dict__:
+            self.__dict__[kept] = whole(self)
+        answer = self.__dict__[kept]
+        return list(answer) if isinstance(answer, list) else answer
+
+    setattr(crate, name, found)

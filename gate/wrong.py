@@ -1,0 +1,376 @@
+#!/usr/bin/env python3
+"""Tries wrong edits: the prover has to refuse each, and to prove its control where it has one.
+
+    wrong.py [--from-nothing] [--texts | --gate] [CRATE..]
+
+The edits of a crate C stand in tests/wrong/C/ (gate/edits.py has their form); all crates are meant where
+none is named. With --texts nothing is proved: it is only seen that each edit and each control fits the
+files that it changes. With --gate the edits are those that tests/wrong/gate.txt names, otherwise all.
+
+They are tried over the proved libraries of the store, in checks of just the functions that they change
+(`rattle check --only`), as many side by side as processors and memory allow. Edits of different functions
+stand together in one check, which tells of each function by itself: an edit is refused where the very
+function that it changes is told as not proved, and not only since a proof file names what the edit took
+away. Controls stand together in checks of their own.
+
+With --gate an edit that isn't told as refused so has failed. Otherwise it is tried once more alone, and an
+edit of a definition, which is no function's, by a check of the whole crate; and what the store lacks of the
+libraries is proved first.
+
+A verdict is kept in the store by the sum of all that it rests on, and what has one isn't tried again; with
+--from-nothing none is taken. An edit that is refused has passed, and so has a control that is proved. The
+last line is `N passed, M failed`; the status is 0 where M is 0, and 2 where a name is no crate's.
+"""
+
+import hashlib
+import os
+import re
+import shutil
+import signal
+import sys
+import tempfile
+import threading
+import time
+
+import toolchain
+from crates import TOP, Crates, sum_of_files
+from edits import FLOORS, Misfit, edits_of, read_gate, strays
+from prove import LIBRARY, Chain, Prover
+from store import Store
+
+SCRIPTS = sum_of_files([os.path.join(TOP, "gate", it) for it in ("edits.py", "wrong.py")])
+# Where one of the edits in a check doesn't compile, the check tells of none.
+MOST_TOGETHER = 20
+# What rattle says of a proof file that names what an edit took away, and of what rests on a refused part.
+LOST = re.compile(r"has no field|is not in scope|has no `|was not admitted|\(nearest: |were not checked")
+TOLD = re.compile(r"^fn (\S+): (proved|not proved.*|no proof.*)$", re.M)
+# How a check tells that a function isn't proved.
+AT_A_VALUE, FOR_NAMES, WITHOUT_A_GOAL = "refused at a value", "refused for names", "refused without a goal"
+NOTES = {
+    FOR_NAMES: "refused only since a proof file names what it took away: change a value and keep the names",
+    WITHOUT_A_GOAL: "refused, and no goal is named: see why",
+}
+
+
+def name_told(function, told, crate):
+    """The whole name of a function that a check told of, or None."""
+    names = [it for it in told if it == f"{crate}::{function}"]
+    names = names or [it for it in told if it.endswith(f"::{function}")]
+    return names[0] if len(names) == 1 else None
+
+
+def errors_of(name, said):
+    """What a check said of the proof files of a function."""
+    *modules, last = name.split("::")[1:]
+    folder = "".join(f"{re.escape(it)}/" for it in modules)
+    # (a message goes on in indented lines; functions of one cycle have a folder together, where a goal begins
+    # by the name of its function)
+    error = rf"^(?:\./)?proofs/{folder}([\w+-]+)/\S+: error: (.*(?:\n  .*)*)"
+    return [
+        " ".join(message.split())
+        for place, message in re.findall(error, said, re.M)
+        if place.lstrip("+") == last or place[0] == "+" and message.startswith(f"`{last}-")
+    ]
+
+
+def refusal(function, said, crate):
+    """How a check told that this very function is not proved; None where it didn't."""
+    told = dict(TOLD.findall(said))
+    name = name_told(function, told, crate)
+    if not name or told[name] == "proved":
+        return None
+    if "did not prove" in told[name]:
+        return AT_A_VALUE
+    if not told[name].startswith("not proved"):
+        return None
+    errors = errors_of(name, said)
+    shown = [it for it in errors if not LOST.search(it)]
+    return AT_A_VALUE if shown else FOR_NAMES if errors else WITHOUT_A_GOAL
+
+
+def is_told_proved(function, told, crate):
+    """Whether a check told that this function and all closures in it are proved."""
+    name = name_told(function, told, crate)
+    inside = [it for it in told if name and it.replace("::fn::", "::", 1).startswith(f"{name}::")]
+    return bool(name) and all(told[it] == "proved" for it in [name, *inside])
+
+
+def last_line(said):
+    return said.rstrip("\n").rpartition("\n")[2][:300]
+
+
+def not_refused(said):
+    return f"its function isn't told as not proved; the last line is: {last_line(said)}"
+
+
+def batches(edits, change_of):
+    """The edits in batches of which each changes a function once, and the texts of a batch together."""
+    left = list(edits)
+    while left:
+        texts, taken, batch = {}, set(), []
+        for edit in list(left):
+            functions = {*change_of(edit).functions}
+            if taken & functions or len(batch) == MOST_TOGETHER:
+                continue
+            try:
+                texts = change_of(edit).over(texts)
+            except Misfit:
+                continue
+            taken |= functions
+            batch.append(edit)
+            left.remove(edit)
+        yield batch, texts
+
+
+class Trial:
+    """Tries edits and counts what passes."""
+
+    def __init__(self, prover, verdicts, tries_alone):
+        self.prover, self.verdicts, self.tries_alone = prover, verdicts, tries_alone
+        self.passed = self.failed = self.taken = self.tried = self.checks = self.ended = 0
+        self.told, self.own_sums = {}, {}
+        self.turn, self.began = threading.RLock(), time.monotonic()
+
+    def key(self, edit):
+        """The name of an edit's verdict: the sum of all that it rests on."""
+        own = hashlib.sha256(edit.content).hexdigest()
+        rests_on = self.prover.crates.sum(edit.crate.name), own, SCRIPTS
+        return hashlib.sha256(repr(rests_on).encode()).hexdigest() + ".edit"
+
+    def verdict(self, edit):
+        return "refused; control proved" if edit.control else "refused"
+
+    def take(self, edit):
+        """Says whether the store has an edit's verdict, and counts it then."""
+        self.own_sums.setdefault(edit.crate.name, edit.crate.own_sum())
+        if self.verdicts.verdict(self.key(edit)) != self.verdict(edit):
+            return False
+        self.taken += 1
+        self.passed += len(edit.changes())
+        return True
+
+    def record(self, edit, is_good, words=""):
+        """Counts what came of an edit or of its control, and keeps the verdict once both have passed."""
+        with self.turn:
+            self.passed, self.failed = self.passed + is_good, self.failed + (not is_good)
+            if words:
+                print(f"{'note' if is_good else 'FAILED'}: {edit.label}: {words}", flush=True)
+            told = self.told.setdefault(edit.label, [])
+            told.append(is_good and not words)
+            is_whole = len(told) == len(edit.changes()) and all(told)
+            if is_whole and edit.crate.own_sum() == self.own_sums[edit.crate.name]:
+                self.verdicts.keep_verdict(self.key(edit), self.verdict(edit))
+
+    def check(self, crate, texts, changes):
+        functions = sorted({at for it in changes for at in it.functions})
+        flags = ["--jobs", "1", *(f"--only={it}" for it in functions)]
+        ran = self.prover.rt.checked(self.rt_crates[crate.name], texts, flags, None)
+        return ran.returncode, ran.stdout
+
+    def try_edits(self, edits, texts):
+        _, said = self.check(edits[0].crate, texts, [it.wrong for it in edits])
+        for it in edits:
+            if AT_A_VALUE in [refusal(at, said, it.crate.name) for at in it.wrong.functions]:
+                self.record(it, True)
+            elif not self.tries_alone:
+                self.record(it, False, not_refused(said))
+            elif len(edits) == 1:
+                self.judge_alone(it, said)
+            else:
+                self.judge_alone(it, self.check(it.crate, it.wrong.over({}), [it.wrong])[1])
+
+    def judge_alone(self, edit, said):
+        """Counts an edit by what a check told in which no other stands."""
+        texts = edit.wrong.over({})
+        unread = [it for it in said.split("\n") if self.prover.rt.unread(it, texts)]
+        how = [it for it in (refusal(at, said, edit.crate.name) for at in edit.wrong.functions) if it]
+        if unread:
+            self.record(edit, False, f"the prover cannot read the edited text: {unread[0][:200]}")
+        elif how:
+            self.record(edit, True, "" if AT_A_VALUE in how else NOTES[how[0]])
+        else:
+            self.record(edit, False, not_refused(said))
+
+    def try_by_whole_check(self, edits, _texts):
+        """Tries an edit that is no function's, as `rt must-fail` does."""
+        for it in edits:
+            crate = self.rt_crates[it.crate.name]
+            is_refused, words = self.prover.rt.must_fail(crate, it.path, ["--jobs", "1"], None)
+            note = "only because a proof file names" in words or words.endswith(": refused, as it must be")
+            self.record(it, is_refused, "" if is_refused and not note else words.partition(": ")[2])
+
+    def try_controls(self, edits, texts):
+        crate = edits[0].crate
+        status, said = self.check(crate, texts, [it.control for it in edits])
+        told = dict(TOLD.findall(said))
+        if not told and len(edits) > 1:
+            # (one of them doesn't compile)
+            for it in edits:
+                self.try_controls([it], it.control.over({}))
+            return
+        well = {at for it in edits for at in it.control.functions if is_told_proved(at, told, crate.name)}
+        proved = [it for it in edits if well.issuperset(it.control.functions)]
+        if status and len(proved) == len(edits):
+            proved = []
+        for it in edits:
+            if it in proved:
+                self.record(it, True)
+                continue
+            names = [name_told(at, told, crate.name) for at in it.control.functions]
+            errors = [error for name in names if name for error in errors_of(name, said)]
+            why = (errors or [f"the last line is: {last_line(said)}"])[0][:300]
+            self.record(it, False, f"its control isn't proved, so the edit shows nothing: {why}")
+
+    def run_check(self, call, kind, edits, texts):
+        before = time.monotonic()
+        call(edits, texts)
+        with self.turn:
+            self.ended += 1
+            print(
+                f"wrong: {edits[0].crate.name}: {len(edits)} {kind} in {time.monotonic() - before:.0f} s"
+                f" ({self.ended} of {self.checks} checks, {time.monotonic() - self.began:.0f} s)",
+                flush=True,
+            )
+
+    def checks_of(self, edits):
+        """The checks in which a crate's edits are tried: how, what is tried, its edits and their texts."""
+        at_functions = [it for it in edits if None not in it.wrong.functions]
+        for batch, texts in batches(at_functions, lambda it: it.wrong):
+            yield self.try_edits, "edits", batch, texts
+        for batch, texts in batches([it for it in edits if it.control], lambda it: it.control):
+            yield self.try_controls, "controls", batch, texts
+        for it in edits:
+            if it not in at_functions and self.tries_alone:
+                yield self.try_by_whole_check, "edits of definitions", [it], {}
+            elif it not in at_functions:
+                self.record(it, False, "it changes no function, so the gate can't try it")
+
+    def run(self, edits):
+        """Tries edits, as many checks side by side as processors and memory allow."""
+        chain = Chain(self.prover, sorted({it.crate.name for it in edits}))
+        self.rt_crates = {it.name: it for it in chain.crates}
+        tasks = {}
+        for crate in {it.crate.name: it.crate for it in edits}.values():
+            for check in self.checks_of([it for it in edits if it.crate is crate]):
+                work = len(check[2]) * crate.memory()
+                call = lambda _given, _jobs, check=check: self.run_check(*check)
+                tasks[crate.name, "edits", len(tasks)] = [], work, crate.memory(), call
+        self.checks, self.tried = len(tasks), len(edits)
+        self.prover.rt.in_lanes(tasks)
+
+
+def lacking(prover, name):
+    """A library that is neither in the store nor laid out, of a crate or below it, or None."""
+    needed = [it.name for it in [*prover.crates.below(name), prover.crates[name]]]
+    return next((it for it in needed if prover.kind(it) == LIBRARY and not prover.lay_out(it)), None)
+
+
+def try_edits(edits, is_gate, is_from_nothing):
+    """Tries edits, and returns how many of them and of their controls passed and failed."""
+    try:
+        prover = Prover(toolchain.load(), Store())
+    except toolchain.Unknown as error:
+        print(f"FAILED: gate/toolchain.py doesn't know this toolchain's rt ({error}), so no edit was tried")
+        return 0, len(edits)
+    trial = Trial(prover, Store(reads=not is_from_nothing), not is_gate)
+    left = []
+    for it in edits:
+        if it.why:
+            trial.record(it, False, it.why)
+        elif not trial.take(it):
+            left.append(it)
+    names = [it for it in prover.crates if it in {edit.crate.name for edit in left}]
+    if names and not is_gate:
+        Chain(prover, names).run()
+    lost = {it: lacking(prover, it) for it in names}
+    for it in left:
+        for _ in it.changes() if lost[it.crate.name] else []:
+            why = f"not tried, since the library {lost[it.crate.name]} isn't in the store"
+            trial.record(it, False, why)
+    ready = [it for it in left if not lost[it.crate.name]]
+    if ready:
+        trial.run(ready)
+    print(f"wrong: {trial.tried} edits tried, {trial.taken} verdicts taken from the store")
+    return trial.passed, trial.failed
+
+
+def see_texts(edits):
+    """Sees whether each edit and each control fits. Returns how many do, and how many don't."""
+    for it in edits:
+        if it.why:
+            print(f"FAILED: {it.label}: {it.why}")
+    good = [it for it in edits if not it.why]
+    return sum(len(it.changes()) for it in good), len(edits) - len(good)
+
+
+def faults_of_gate(crates, chosen, floors, known):
+    """What is amiss in tests/wrong/gate.txt: names of none, and less than the floors."""
+    for name in chosen:
+        if name not in crates:
+            yield f"tests/wrong/gate.txt: crates.txt names no crate {name}"
+    for name, names in chosen.items():
+        yield from (f"tests/wrong/gate.txt: there is no tests/wrong/{name}/{it}.edit" for it in names
+                    if it not in known.get(name, {}))
+    in_all = [it for edits in known.values() for it in edits.values()]
+    in_gate = [it for it in in_all if it.name in chosen.get(it.crate.name, [])]
+    for floor, edits in zip(FLOORS, (in_gate, in_all)):
+        least = floors.get(floor, [])
+        if len(least) != 2 or not all(it.isdigit() for it in least):
+            yield f"tests/wrong/gate.txt: it has no line `{floor}: EDITS CONTROLS`"
+            continue
+        has = len(edits), len([it for it in edits if it.control])
+        for what, number, wanted in zip(("edits", "edits with controls"), has, least):
+            if number < int(wanted):
+                yield f"tests/wrong/gate.txt: {floor}: {number} {what}, and not {wanted} or more"
+
+
+def end_on_signals():
+    """Has all that is written while edits are tried in one folder, which a signal removes too."""
+    room = tempfile.tempdir = tempfile.mkdtemp(prefix="fowlyore-wrong-")
+
+    def end(number, _frame):
+        shutil.rmtree(room, ignore_errors=True)
+        # (what was started ends with this process, for which nobody waits here)
+        os._exit(128 + number)
+
+    for it in (signal.SIGINT, signal.SIGTERM, signal.SIGHUP):
+        signal.signal(it, end)
+    return room
+
+
+def main(words):
+    is_from_nothing = words[:1] == ["--from-nothing"]
+    words = words[is_from_nothing:]
+    mode = words[0] if words[:1] in (["--texts"], ["--gate"]) else ""
+    names, crates = words[bool(mode) :], Crates()
+    unknown = [it for it in names if it not in crates]
+    if unknown:
+        print(f"wrong: crates.txt names no crate {unknown[0]}", file=sys.stderr)
+        return 2
+    found = {name: edits_of(crate) for name, crate in crates.items()}
+    known = {name: edits for name, (edits, _) in found.items()}
+    chosen, floors = read_gate()
+    told = [it for _, faults in found.values() for it in faults]
+    told += [f"tests/wrong/{it}: crates.txt names no such crate" for it in strays(crates)]
+    told += faults_of_gate(crates, chosen, floors, known)
+    for it in told:
+        print(f"FAILED: {it}")
+    tried = [it for edits in known.values() for it in edits.values() if not names or it.crate.name in names]
+    if mode == "--gate":
+        tried = [it for it in tried if it.name in chosen.get(it.crate.name, [])]
+    if mode == "--texts":
+        good, bad = see_texts(tried)
+    else:
+        room = end_on_signals()
+        good, bad = try_edits(tried, mode == "--gate", is_from_nothing)
+        shutil.rmtree(room, ignore_errors=True)
+    if not good + bad:
+        told.append("no edit")
+        print("FAILED: there is no edit to try")
+    bad += len(told)
+    print(f"{good} passed, {bad} failed")
+    return 1 if bad else 0
+
+
+if __name__ == "__main__":
+    sys.exit(main(sys.argv[1:]))
