@@ -45,8 +45,8 @@ fn shown(
 ) -> Result<String, AllocError> {
     match made {
         Ok(specifier) => {
-            let operator = specifier.operator();
-            format!(in alloc; "{specifier} by {operator:?}")
+            let (operator, version) = (specifier.operator(), specifier.version());
+            format!(in alloc; "{specifier} by {operator:?} of {version}")
         }
         Err(VersionSpecifierBuildError::Memory) => Err(AllocError),
         Err(error) => error.to_string(alloc),
