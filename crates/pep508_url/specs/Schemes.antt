@@ -1,12 +1,11 @@
 -- Schemes of URLs: the text before the first `:` (RFC 3986, section 3.1).
-use Rattle.std.specs.Prelude.{ℕ, ◌==◌, ◌&&◌, ◌||◌, Bool, if◌then◌else◌, List, slice_index, codes, bytes_eq}
-use Rattle.std.specs.Prelude.{find, Option, Some, None, option_and_then}
+use Rattle.std.specs.Prelude.{ℕ, ◌==◌, ◌&&◌, ◌||◌, Bool, if◌then◌else◌, List, ◌∷◌, [], slice_index, codes}
+use Rattle.std.specs.Prelude.{bytes_eq, find, Option, Some, None, option_and_then}
 use Rattle.std.specs.List.{list_all}
 use Rattle.std.specs.Char.{is_ascii_alphabetic, is_ascii_alphanumeric}
 use Rattle.url.specs.Input.{trim_c0_control_and_space}
 use Rattle.pep508_url.specs.declared.scheme.Scheme.{Scheme}
 use Rattle.pep508_url.specs.declared.scheme.Scheme.TheVariants as schemes
-use Rattle.pep508_url.specs.declared.scheme.TheConstants.{SCHEMES}
 use Rattle.pep508_url.specs.Cuts.{cut}
 
 -- how a scheme is written
@@ -37,9 +36,18 @@ scheme_text schemes.SvnFile = codes "svn+file"
 scheme_text schemes.Http = codes "http"
 scheme_text schemes.Https = codes "https"
 
+-- the schemes that pip knows
+abbrev pub listed : List Scheme
+listed =
+    schemes.File ∷ schemes.GitGit ∷ schemes.GitHttp ∷ schemes.GitFile ∷ schemes.GitSsh ∷ schemes.GitHttps
+    ∷ schemes.BzrHttp ∷ schemes.BzrHttps ∷ schemes.BzrSsh ∷ schemes.BzrSftp ∷ schemes.BzrFtp ∷ schemes.BzrLp
+    ∷ schemes.BzrFile ∷ schemes.HgFile ∷ schemes.HgHttp ∷ schemes.HgHttps ∷ schemes.HgSsh
+    ∷ schemes.HgStaticHttp ∷ schemes.SvnSsh ∷ schemes.SvnHttp ∷ schemes.SvnHttps ∷ schemes.SvnSvn
+    ∷ schemes.SvnFile ∷ schemes.Http ∷ schemes.Https ∷ []
+
 -- the listed scheme that is written so, in these very letters
 unfoldable pub scheme_of : List ℕ → Option Scheme
-scheme_of text = find (λ scheme. bytes_eq (scheme_text scheme) text) SCHEMES
+scheme_of text = find (λ scheme. bytes_eq text (scheme_text scheme)) listed
 
 -- a letter, a digit, or one of `+-.`
 abbrev pub is_scheme_byte : ℕ → Bool

@@ -39,34 +39,6 @@ pub enum Scheme {
     Https,
 }
 
-pub(crate) const SCHEMES: [Scheme; 25] = [
-    Scheme::File,
-    Scheme::GitGit,
-    Scheme::GitHttp,
-    Scheme::GitFile,
-    Scheme::GitSsh,
-    Scheme::GitHttps,
-    Scheme::BzrHttp,
-    Scheme::BzrHttps,
-    Scheme::BzrSsh,
-    Scheme::BzrSftp,
-    Scheme::BzrFtp,
-    Scheme::BzrLp,
-    Scheme::BzrFile,
-    Scheme::HgFile,
-    Scheme::HgHttp,
-    Scheme::HgHttps,
-    Scheme::HgSsh,
-    Scheme::HgStaticHttp,
-    Scheme::SvnSsh,
-    Scheme::SvnHttp,
-    Scheme::SvnHttps,
-    Scheme::SvnSvn,
-    Scheme::SvnFile,
-    Scheme::Http,
-    Scheme::Https,
-];
-
 impl Scheme {
     ghost use Rattle.pep508_url.specs.declared.scheme.Scheme.TheVariants.{File};
 
@@ -75,7 +47,34 @@ impl Scheme {
     pub fn parse(text: &str) -> Option<Self>
         ensures { result ≡ scheme_of text.now }
     {
-        SCHEMES.iter().copied().find(|scheme| scheme.text() == text)
+        match text {
+            "file" => Some(Scheme::File),
+            "git+git" => Some(Scheme::GitGit),
+            "git+http" => Some(Scheme::GitHttp),
+            "git+file" => Some(Scheme::GitFile),
+            "git+ssh" => Some(Scheme::GitSsh),
+            "git+https" => Some(Scheme::GitHttps),
+            "bzr+http" => Some(Scheme::BzrHttp),
+            "bzr+https" => Some(Scheme::BzrHttps),
+            "bzr+ssh" => Some(Scheme::BzrSsh),
+            "bzr+sftp" => Some(Scheme::BzrSftp),
+            "bzr+ftp" => Some(Scheme::BzrFtp),
+            "bzr+lp" => Some(Scheme::BzrLp),
+            "bzr+file" => Some(Scheme::BzrFile),
+            "hg+file" => Some(Scheme::HgFile),
+            "hg+http" => Some(Scheme::HgHttp),
+            "hg+https" => Some(Scheme::HgHttps),
+            "hg+ssh" => Some(Scheme::HgSsh),
+            "hg+static-http" => Some(Scheme::HgStaticHttp),
+            "svn+ssh" => Some(Scheme::SvnSsh),
+            "svn+http" => Some(Scheme::SvnHttp),
+            "svn+https" => Some(Scheme::SvnHttps),
+            "svn+svn" => Some(Scheme::SvnSvn),
+            "svn+file" => Some(Scheme::SvnFile),
+            "http" => Some(Scheme::Http),
+            "https" => Some(Scheme::Https),
+            _ => None,
+        }
     }
 
     /// Whether it is `file`.
