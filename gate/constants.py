@@ -3,9 +3,9 @@
 
     constants.py
 
-What takes its values from the code's own table is met whatever stands there. So a definition in specs/ may cite a
-name of a module `declared.*.TheConstants` only where KEPT has it, with the reason and with tests of the constant's
-value, whose first words stand in a file. Such a module is imported by its names in braces and in no other way.
+What takes its values from the code's own table is met whatever stands there. So a definition in specs/ may cite
+a name of a module `declared.*.TheConstants` only where KEPT has it, with the reason and with tests of its value,
+whose first words stand in a file. Such a module is imported by its names in braces and in no other way.
 Fails too: a definition in KEPT that cites no constant, and a test that is gone. The last line is
 `N passed, M failed`, a definition each.
 """
@@ -23,7 +23,7 @@ HEAD = re.compile(r"^(?:[a-z]+ )*([^\s()]+) :", re.M)
 
 
 class Kept(NamedTuple):
-    """A constant that definitions cite, why they do, and tests of its value: their file and first words."""
+    """A constant that is cited, why it is, and the tests of its value: their file and first words."""
     constant: str
     reason: str
     file: str
@@ -68,7 +68,7 @@ def main():
                 found.update({(f"{crate.name}.{module}.{name}", of): None for name, of in cited(path)})
     faults = [f"{name} {why}" for name, of in found for why in [fault(of, KEPT.get(name))] if why]
     passed = len(found) - len(faults)
-    faults += [f"{it} stands in KEPT and cites no constant" for it in KEPT if (it, KEPT[it].constant) not in found]
+    faults += [f"{it} in KEPT cites no constant" for it in KEPT if (it, KEPT[it].constant) not in found]
     for name, of in found:
         print(f"{name} cites {of}: {KEPT[name].reason if name in KEPT else 'unknown'}")
     print(*[f"FAILED: {it}" for it in faults], f"{passed} passed, {len(faults)} failed", sep="\n")

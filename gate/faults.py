@@ -59,6 +59,8 @@ FAULTS = [
     Fault("an edit that is right", None, [*WRONG, "--gate", "underline"],
           "tests/wrong/underline/marks_are_the_blanks.edit", "",
           "file: src/lib.rt\nold: c.width().unwrap_or(0)\nnew: match c.width() { Some(it) => it, None => 0 }\n"),
+    Fault("a definition by the code's own table", None, ["gate/constants.py"],
+          "crates/reqs/specs/Inputs.antt", "abbrev pub IsWithin :", "abbrev pub IsShort :"),
     Fault("no edits", None, [*WRONG, "--texts"], "tests/wrong/gate.txt", "", ""),
 ]
 
