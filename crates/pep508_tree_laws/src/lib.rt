@@ -2,7 +2,7 @@
 //! `pep508_tree` cite. The functions do nothing: each one's contract is its law.
 #![tactic(auto)]
 
-ghost use Rattle.std.specs.Prelude.{◌≡◌, ◌↔◌, IsTrue, true, false, not, List};
+ghost use Rattle.std.specs.Prelude.{◌≡◌, ◌≢◌, ◌↔◌, IsTrue, true, false, not, List};
 ghost use Rattle.pep508_diagram.specs.Question.{Valuation};
 ghost use Rattle.pep508_tree.specs.Tree.{Tree, always, never, negation};
 ghost use Rattle.pep508_tree.specs.Meaning.{NodeRecord, IsTree, Extends, holds};
@@ -53,6 +53,14 @@ pub fn constants_are_named(interner: &Interner)
         (tree ≡ always) ↔ ((v : Valuation) → holds interner.now.nodes tree v ≡ true) }
     ensures falsehood { (tree : Tree) → IsTree interner.now.nodes tree →
         (tree ≡ never) ↔ ((v : Valuation) → holds interner.now.nodes tree v ≡ false) }
+{
+    interner.are_sound()
+}
+
+/// A tree other than the one that is named `FALSE` holds under some valuation.
+pub fn a_tree_holds_somewhere(interner: &Interner)
+    ensures { (tree : Tree) → IsTree interner.now.nodes tree → tree ≢ never →
+        (v : Valuation) × (holds interner.now.nodes tree v ≡ true) }
 {
     interner.are_sound()
 }
