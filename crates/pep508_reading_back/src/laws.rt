@@ -18,7 +18,8 @@ ghost use Rattle.pep508_requirement_text.specs.FrontReading.Source.{Specifiers};
 ghost use Rattle.pep508_requirement.specs.MarkerBehind.{no_marker};
 ghost use Rattle.pep508_requirement.specs.RequirementText.{IsMarkedText};
 ghost use Rattle.pep508_reading_back.specs.Readable.{IsReadable, marker_of};
-ghost use Rattle.pep508_reading_back.specs.ReadableRequirements.{IsReadableFront, NamesNoUrl, ReadsRequirement};
+ghost use Rattle.pep508_reading_back.specs.ReadableRequirements.{IsReadableFront, NamesNoUrl};
+ghost use Rattle.pep508_reading_back.specs.ReadableRequirements.{ReadsRequirement};
 ghost use Rattle.pep508_requirement_ref.specs.RequirementPrint.{requirement_text};
 ghost use Rattle.pep508_url.specs.Vars.{Variables};
 ghost use Rattle.pep508_tree.specs.Meaning.{NodeRecord, holds};
@@ -139,14 +140,14 @@ pub fn a_formula_hangs_on_its_questions()
 /// versions and texts that could stand in it, and for extras by their normal names.
 pub fn a_read_marker_asks_what_texts_say()
     ensures { (text : List ℕ) (front : Front) (marker : Marker) (diagram : Diagram Question) → IsUtf8 text
-        → IsMarkedText text front marker → IsCanonical diagram → HasShortVersions diagram
-        → SaysDiagram diagram marker → AllQuestions IsTold diagram }
+        → IsMarkedText text front marker → IsCanonical diagram
+        → HasShortVersions diagram → SaysDiagram diagram marker → AllQuestions IsTold diagram }
 {}
 
 /// And its texts are pieces of the text that was read, but for the normal names of extras.
 pub fn a_read_marker_asks_pieces_of_its_text()
-    ensures { (text : List ℕ) (front : Front) (marker : Marker) (diagram : Diagram Question) → IsUtf8 text
-        → IsMarkedText text front marker → IsCanonical diagram → HasShortVersions diagram
+    ensures { (text : List ℕ) (front : Front) (marker : Marker) (diagram : Diagram Question)
+        → IsUtf8 text → IsMarkedText text front marker → IsCanonical diagram → HasShortVersions diagram
         → SaysDiagram diagram marker → AllQuestions (AsksOf (IsPieceOf text)) diagram }
 {}
 
