@@ -1,9 +1,8 @@
 -- What is printed of a requirement is one line, where the texts of its marker are pieces of one.
-use Rattle.std.proofs.Common.{◌≡◌, ℕ, ◌<◌, true, false, length, List, [], ◌∷◌, ◌++◌, Option, Some, None, option_map, refl, sym, subst, arith, append_assoc}
+use Rattle.std.proofs.Common.{◌≡◌, ℕ, true, false, List, [], ◌∷◌, ◌++◌, Option, Some, None, option_map, refl, sym, subst, arith, append_assoc}
 use Rattle.std.proofs.lemmas.Bool.Decides.{nat_tests}
 use Rattle.std.specs.List.{AllByRecursion, filter, flat_map, join_by, join_with_byte, list_all}
 use Rattle.std.specs.Prelude.{codes}
-use Rattle.std.specs.Str.{IsUtf8}
 use Rattle.version_ranges.proofs.Membership.{all_weaker}
 use Rattle.version_ranges.specs.declared.boundary.Boundary.TheVariants as boundary
 use Rattle.pep440_text.specs.Print.{version_text}
@@ -28,7 +27,6 @@ use Rattle.pep508_marker.specs.Expression.{turned_text, string_text, expression_
 use Rattle.pep508_marker.specs.Keys.{version_key_name, text_key_name}
 use Rattle.pep508_marker.specs.Operators.{marker_operator_text, extra_operator_text}
 use Rattle.pep508_marker.specs.Values.{extra_text}
-use Rattle.pep508_name.specs.Name.{name_of}
 use Rattle.pep508_diagram.specs.declared.variable.VersionVariable.{VersionVariable}
 use Rattle.pep508_diagram.specs.declared.variable.Flag.{Flag}
 use Rattle.pep508_diagram.specs.declared.variable.Flag.TheVariants as flag

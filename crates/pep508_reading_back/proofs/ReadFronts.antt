@@ -159,17 +159,17 @@ source_listed : (name cs rest : List ℕ) (given list : List SpecifierRecord) �
 source_listed name cs rest given list (inl h) order = listed_asked _ given list h.are_specifiers order
 source_listed name cs rest given list (inr h) order = listed_asked _ given list h.are_specifiers order
 
-pub source_readable : (name cs rest : List ℕ) (source : Source) → IsSourceText name cs rest source →
+source_readable : (name cs rest : List ℕ) (source : Source) → IsSourceText name cs rest source →
     NamesNoUrl source → IsReadableSource source
 source_readable name cs rest Any s n = tt
 source_readable name cs rest (Specifiers given) (inl h) n = specifiers_readable _ given h.are_specifiers
 source_readable name cs rest (Specifiers given) (inr h) n = specifiers_readable _ given h.are_specifiers
 source_readable name cs rest (Url url) s n = absurd n
 
-pub list_readable : (name cs rest : List ℕ) (given list : List SpecifierRecord) →
+list_readable : (name cs rest : List ℕ) (given list : List SpecifierRecord) →
     IsSourceText name cs rest (Specifiers given) → IsInOrder given list → IsReadableSource (Specifiers list)
 list_readable name cs rest given list s order =
-    let asked = source_listed name cs rest given list s order in (asked.0, asked.2)
+    let listed = source_listed name cs rest given list s order in (listed.0, listed.2)
 
 pub asked_readable : {T E : Type 0} (Reads : List ℕ → Result T E → Type 0) (name cs rest : List ℕ)
     (source : Source) (what : Option (VersionOrUrl T E)) → IsSourceText name cs rest source →
