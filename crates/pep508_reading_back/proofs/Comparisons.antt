@@ -50,7 +50,7 @@ use Rattle.pep508_reading_back.proofs.Patterns.{plain_append, plain_version, ver
 
 -- ---- characters of comparisons
 
-in_order : (key operator value : List ℕ) →
+pub in_order : (key operator value : List ℕ) →
     term_text key operator value ≡ key ++ (32 ∷ (operator ++ (32 ∷ (39 ∷ (value ++ (39 ∷ []))))))
 in_order key operator value = simp append_assoc
 

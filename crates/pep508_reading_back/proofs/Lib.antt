@@ -15,6 +15,7 @@ pub mod ReadFronts
 pub mod ReadViews
 pub mod Matters
 pub mod ToldPoints
+pub mod Lines
 pub mod ToldRanges
 pub mod ToldAnswers
 pub mod ToldReleases
@@ -29,3 +30,4 @@ pub mod WritableSets
 pub mod WritableParts
 pub mod WritableDiagrams
 pub mod Unquoted
+pub mod PrintedLines

@@ -20,13 +20,14 @@ use Rattle.pep440_specifier_list.specs.ListText.{AreSpecifierTexts}
 use Rattle.pep440_specifier_list.proofs.Members.{all_in_order}
 use Rattle.pep508_name.specs.Name.{name_of}
 use Rattle.pep508_name.proofs.Again.{normal_again}
-use Rattle.pep508_requirement_text.specs.FrontReading.{Source}
+use Rattle.pep508_requirement_text.specs.FrontReading.{Source, Front}
 use Rattle.pep508_requirement_text.specs.FrontReading.Source.{Any, Specifiers, Url}
-use Rattle.pep508_requirement_text.specs.FrontText.{IsSpacedName, IsInside, IsExtrasText, IsSourceText}
+use Rattle.pep508_requirement_text.specs.FrontText.{IsSpacedName, IsInside, IsExtrasText, IsSourceText, IsFrontText}
 use Rattle.pep508_requirement.specs.declared.version_or_url.VersionOrUrl.{VersionOrUrl}
 use Rattle.pep508_requirement.specs.declared.version_or_url.VersionOrUrl.TheVariants as asked
 use Rattle.pep508_requirement.specs.RequirementReading.{AsksFor}
 use Rattle.pep508_reading_back.specs.Readable.{IsPrintableSpecifier}
+use Rattle.pep508_reading_back.specs.ReadableRequirements.{IsReadableSource, NamesNoUrl, IsReadableFront}
 use Rattle.pep508_reading_back.specs.Views.{IsReadableAsked}
 use Rattle.pep508_reading_back.specs.ReadViews.{AsksNoUrl}
 use Rattle.pep508_reading_back.proofs.SortedLists.{some_kept}
@@ -131,6 +132,13 @@ some_given [] given h some = absurd (omega arith)
 some_given (piece ∷ pieces) [] h some = absurd h
 some_given (piece ∷ pieces) (specifier ∷ given) h some = omega arith
 
+specifiers_readable : (text : List ℕ) (given : List SpecifierRecord) → AreSpecifierTexts text given →
+    IsReadableSource (Specifiers given)
+specifiers_readable text given h = (
+  some_given h.pieces given h.are_specifiers h.nonempty,
+  given_printable h.pieces given h.are_specifiers,
+)
+
 abbrev IsAskedList : List SpecifierRecord → Type 0
 IsAskedList list = (0 < length list) × IsByVersion list × AllByRecursion IsPrintableSpecifier list
 
@@ -151,6 +159,18 @@ source_listed : (name cs rest : List ℕ) (given list : List SpecifierRecord) �
 source_listed name cs rest given list (inl h) order = listed_asked _ given list h.are_specifiers order
 source_listed name cs rest given list (inr h) order = listed_asked _ given list h.are_specifiers order
 
+source_readable : (name cs rest : List ℕ) (source : Source) → IsSourceText name cs rest source →
+    NamesNoUrl source → IsReadableSource source
+source_readable name cs rest Any s n = tt
+source_readable name cs rest (Specifiers given) (inl h) n = specifiers_readable _ given h.are_specifiers
+source_readable name cs rest (Specifiers given) (inr h) n = specifiers_readable _ given h.are_specifiers
+source_readable name cs rest (Url url) s n = absurd n
+
+list_readable : (name cs rest : List ℕ) (given list : List SpecifierRecord) →
+    IsSourceText name cs rest (Specifiers given) → IsInOrder given list → IsReadableSource (Specifiers list)
+list_readable name cs rest given list s order =
+    let listed = source_listed name cs rest given list s order in (listed.0, listed.2)
+
 pub asked_readable : {T E : Type 0} (Reads : List ℕ → Result T E → Type 0) (name cs rest : List ℕ)
     (source : Source) (what : Option (VersionOrUrl T E)) → IsSourceText name cs rest source →
     AsksFor Reads source what →
@@ -161,3 +181,24 @@ asked_readable Reads name cs rest Any (Some (asked.VersionSpecifier list)) s h n
 asked_readable Reads name cs rest (Specifiers given) (Some (asked.VersionSpecifier list)) s h n =
     source_listed name cs rest given list s h
 asked_readable Reads name cs rest (Url url) (Some (asked.VersionSpecifier list)) s h n = absurd h
+
+-- ---- fronts
+
+pub front_readable : (text : List ℕ) (front : Front) (rest : List ℕ) → IsFrontText text front rest →
+    NamesNoUrl front.source → IsReadableFront front
+front_readable text front rest is n = record {
+  is_name = normal_again is.written front.name is.is_name;
+  are_names = extras_normal is.brackets front.extras is.are_extras;
+  is_source = source_readable is.written is.asked rest front.source is.is_source n;
+}
+
+-- also with its specifiers as a list keeps them
+pub kept_readable : (text : List ℕ) (front : Front) (rest : List ℕ) (given list : List SpecifierRecord) →
+    IsFrontText text front rest → front.source ≡ Specifiers given → IsInOrder given list →
+    IsReadableFront (record front { source = Specifiers list })
+kept_readable text front rest given list is same order = record {
+  is_name = normal_again is.written front.name is.is_name;
+  are_names = extras_normal is.brackets front.extras is.are_extras;
+  is_source = list_readable is.written is.asked rest given list
+      (subst (IsSourceText is.written is.asked rest) same is.is_source) order;
+}

@@ -41,13 +41,13 @@ use Rattle.pep508_reading_back.proofs.Specifiers.{Listed, plain_are_listed, list
 
 -- ---- extras
 
-abbrev AreNormal : List (List ℕ) → Type 0
+abbrev pub AreNormal : List (List ℕ) → Type 0
 AreNormal = AllByRecursion (λ name. name_of name ≡ Some name)
 
 name_listed : (name : List ℕ) → name_of name ≡ Some name → Listed name
 name_listed name h = plain_are_listed name (plain_name name name h)
 
-names_listed : (names : List (List ℕ)) → AreNormal names → Listed (join_with_byte 44 names)
+pub names_listed : (names : List (List ℕ)) → AreNormal names → Listed (join_with_byte 44 names)
 names_listed [] h = tt
 names_listed (name ∷ []) h = name_listed name h.0
 names_listed (name ∷ next ∷ names) h =

@@ -1,5 +1,5 @@
--- What equals a question that is told by a text is told too, where its version is in its shortest spelling.
-use Rattle.std.proofs.Common.{◌≡◌, ◌∙◌, ℕ, ◌<◌, ◌^◌, true, Option, Some, None, refl, ap, sym, subst, Equal}
+-- What equals a question that asks of good texts asks so too, where its version is in its shortest spelling.
+use Rattle.std.proofs.Common.{◌≡◌, ◌∙◌, ℕ, ◌<◌, ◌^◌, true, List, Option, Some, None, refl, ap, sym, subst, Equal}
 use Rattle.std.proofs.lemmas.List.Elements.{All-from_recursion}
 use Rattle.std.specs.Cmp.{tied_itself, tied_back, unsigned_Decides}
 use Rattle.std.specs.Prelude.{IfSome}
@@ -18,7 +18,7 @@ use Rattle.pep508_diagram.proofs.Questions.{questions_total, versions_order}
 use Rattle.pep508_diagram.proofs.Shortened.{shortened_tied, shortened_twice}
 use Rattle.pep508_marker_text.proofs.Spelled.{diagrams_spelled}
 use Rattle.pep508_reading_back.specs.Diagrams.{StandsAt}
-use Rattle.pep508_reading_back.specs.Told.{IsTold}
+use Rattle.pep508_reading_back.specs.Told.{AsksOf}
 use Rattle.pep508_reading_back.proofs.ToldReleases.{short_small}
 
 -- the question of the shortest spelling
@@ -80,10 +80,11 @@ shortened_told : (b : Boundary VersionRecord) → StandsAt IsPrintable b → Sta
 shortened_told (boundary.At version) is = shortest_printable version is
 shortened_told (boundary.JustAbove version) is = shortest_printable version is
 
-short_told : (r : Question) → IsTold r → IsTold (short_question r)
-short_told (VersionBelow key b) told = shortened_told b told
-short_told (TextBelow key b) told = told
-short_told (IsSet asked) told = told
+module _ (good : List ℕ → Type 0) where
+  short_told : (r : Question) → AsksOf good r → AsksOf good (short_question r)
+  short_told (VersionBelow key b) told = shortened_told b told
+  short_told (TextBelow key b) told = told
+  short_told (IsSet asked) told = told
 
-pub equal_told : (q r : Question) → AsksOfShort q → question_cmp q r ≡ Equal → IsTold r → IsTold q
-equal_told q r short e told = subst IsTold (sym (short_same q r short e)) (short_told r told)
+  pub equal_told : (q r : Question) → AsksOfShort q → question_cmp q r ≡ Equal → AsksOf good r → AsksOf good q
+  equal_told q r short e told = subst (AsksOf good) (sym (short_same q r short e)) (short_told r told)

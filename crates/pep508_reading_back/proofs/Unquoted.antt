@@ -16,26 +16,36 @@ use Rattle.pep508_reading_back.specs.ReadViews.{AsksNoUrl, ShowsRead}
 use Rattle.pep508_reading_back.proofs.ReadViews.{IsOfMarker}
 use Rattle.pep508_reading_back.proofs.WritableDiagrams.{written_marker}
 use Rattle.pep508_marker_text.specs.MarkerText.{marker_text}
-use Rattle.pep508_reading_back.specs.Told.{IsTold}
+use Rattle.pep508_reading_back.specs.Lines.{IsPieceOf}
+use Rattle.pep508_reading_back.specs.Told.{AsksOf, IsTold}
 use Rattle.pep508_reading_back.specs.Unquoted.{AsksUnquoted, AsksOfModernKey, IsPlainDiagram, IsUnquotedDiagram}
 use Rattle.pep508_reading_back.specs.Views.{IsReadableView}
 use Rattle.pep508_reading_back.specs.Writable.{AsksWritably, IsSayable, IsWritableDiagram}
 use Rattle.pep508_reading_back.proofs.Comparisons.{plain_name, plain_quotable}
 use Rattle.pep508_reading_back.proofs.ReadViews.{ReadIsWritten, read_is_readable}
-use Rattle.pep508_reading_back.proofs.Told.{tree_told}
+use Rattle.pep508_reading_back.proofs.Told.{tree_told, pieces_told}
 use Rattle.pep508_tree_ref.specs.Lent.{tree_in}
 use Rattle.pep508_tree_ref.specs.TreeIn.{diagram_in}
 
--- what a requirement that was read asks for, a text can say
-pub shown_told : {T E : Type 0} (Reads : List ℕ → Result T E → Type 0) → ReadIsWritten Reads → (text : List ℕ)
-    (shown : RequirementRef T E) → IsUtf8 text → ShowsRead Reads text shown →
+-- what the marker of a requirement that was read asks is about pieces of its text
+pub shown_pieces : {T E : Type 0} (Reads : List ℕ → Result T E → Type 0) → ReadIsWritten Reads →
+    (text : List ℕ) (shown : RequirementRef T E) → IsUtf8 text → ShowsRead Reads text shown →
     IsCanonical (diagram_in (tree_in shown.marker)) → HasShortVersions (diagram_in (tree_in shown.marker)) →
-    AllQuestions IsTold (diagram_in (tree_in shown.marker))
-shown_told Reads written text shown utf8 h canonical short =
+    AllQuestions (AsksOf (IsPieceOf text)) (diagram_in (tree_in shown.marker))
+shown_pieces Reads written text shown utf8 h canonical short =
     let w = written h.old text h.requirement h.is_read in
     tree_told h.old h.now h.requirement.marker (tree_in shown.marker) text w.0 w.1 utf8 w.2 w.6 h.keeps
     h.shows.marker
     canonical short
+
+-- so a text can say it
+shown_told : {T E : Type 0} (Reads : List ℕ → Result T E → Type 0) → ReadIsWritten Reads → (text : List ℕ)
+    (shown : RequirementRef T E) → IsUtf8 text → ShowsRead Reads text shown →
+    IsCanonical (diagram_in (tree_in shown.marker)) → HasShortVersions (diagram_in (tree_in shown.marker)) →
+    AllQuestions IsTold (diagram_in (tree_in shown.marker))
+shown_told Reads written text shown utf8 h canonical short =
+    pieces_told text (diagram_in (tree_in shown.marker))
+    (shown_pieces Reads written text shown utf8 h canonical short)
 
 question_readable : (q : Question) → IsTold q → AsksUnquoted q → AsksOfReleases q → AsksOfModernKey q →
     AsksReadably q
@@ -77,7 +87,7 @@ plain_is_readable Reads written text shown utf8 h n plain canonical short =
 
 -- ---- what is written as some marker
 
-sayable : (version : VersionRecord) → IsPrintable version → IsSayable version
+pub sayable : (version : VersionRecord) → IsPrintable version → IsSayable version
 sayable version h = record {
   no_least = refl;
   no_most = refl;

@@ -73,7 +73,7 @@ wants_memory Reads lacks vars written taken text front marker good m (sources.Ur
 
 -- ---- what is shown
 
-abbrev shown_front : {T E : Type 0} → RequirementRef T E → Source → Front
+abbrev pub shown_front : {T E : Type 0} → RequirementRef T E → Source → Front
 shown_front shown source = record { name = shown.name.now; extras = shown.extras.now; source = source }
 
 nothing_again : {T E : Type 0} (Reads : List ℕ → Result T E → Type 0) (other : Option (VersionOrUrl T E)) →
@@ -103,7 +103,7 @@ MakesMarker text Said =
     (front : Front) → IsReadableFront front
     → (marker : Marker) × IsMarkedText (requirement_text front text) front marker × Said marker
 
-the_text : (text other : List ℕ) → Some text ≡ Some other → text ≡ other
+pub the_text : (text other : List ℕ) → Some text ≡ Some other → text ≡ other
 the_text text other e = cc
 
 -- names in normal form, and no URL

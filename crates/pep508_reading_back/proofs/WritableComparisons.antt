@@ -51,7 +51,7 @@ IsWritable (Extra operator asked) = IsQuotable (extra_text asked)
 
 -- ---- versions
 
-written_version : (version : VersionRecord) → version.local ≡ [] →
+pub written_version : (version : VersionRecord) → version.local ≡ [] →
     version_text (as_written version) ≡ version_text version
 unfolding version_text
 written_version version none = ap (λ segments. version_text (record version { local = segments })) (sym none)

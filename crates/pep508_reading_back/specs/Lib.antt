@@ -7,5 +7,6 @@ pub mod ReadViews
 pub mod Questions
 pub mod Asked
 pub mod Told
+pub mod Lines
 pub mod Unquoted
 pub mod Writable

@@ -18,6 +18,12 @@ IsReadableSource Any = Unit {0}
 IsReadableSource (Specifiers given) = (0 < length given) × AllByRecursion IsPrintableSpecifier given
 IsReadableSource (Url url) = ⊥
 
+-- nothing or specifiers are asked for, and no URL
+abbrev pub NamesNoUrl : front.Source → Type 0
+NamesNoUrl Any = Unit {0}
+NamesNoUrl (Specifiers given) = Unit {0}
+NamesNoUrl (Url url) = ⊥
+
 -- names in normal form
 pub record IsReadableFront (front : Front) : Type 0 where
   pub is_name : name_of front.name ≡ Some front.name

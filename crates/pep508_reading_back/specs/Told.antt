@@ -71,14 +71,18 @@ questions_of (Either f g) = questions_of f ++ questions_of g
 -- ---- what a text can say
 
 -- an extra is asked for by its normal name, and otherwise by a text that is no name
-abbrev pub IsToldFlag : Flag → Type 0
-IsToldFlag (flag.In key text) = IsUtf8 text
-IsToldFlag (flag.Contains key text) = IsUtf8 text
-IsToldFlag (flag.Extra name) = name_of name ≡ Some name
-IsToldFlag (flag.Arbitrary text) = IsUtf8 text × (name_of text ≡ None)
+abbrev pub IsFlagOf : (List ℕ → Type 0) → Flag → Type 0
+IsFlagOf good (flag.In key text) = good text
+IsFlagOf good (flag.Contains key text) = good text
+IsFlagOf good (flag.Extra name) = name_of name ≡ Some name
+IsFlagOf good (flag.Arbitrary text) = good text × (name_of text ≡ None)
+
+-- a version that a text can say, and a text of which this holds
+abbrev pub AsksOf : (List ℕ → Type 0) → Question → Type 0
+AsksOf good (VersionBelow key boundary) = StandsAt IsPrintable boundary
+AsksOf good (TextBelow key boundary) = StandsAt good boundary
+AsksOf good (IsSet asked) = IsFlagOf good asked
 
 -- a version and a text that a text can say
 abbrev pub IsTold : Question → Type 0
-IsTold (VersionBelow key boundary) = StandsAt IsPrintable boundary
-IsTold (TextBelow key boundary) = StandsAt IsUtf8 boundary
-IsTold (IsSet asked) = IsToldFlag asked
+IsTold = AsksOf IsUtf8

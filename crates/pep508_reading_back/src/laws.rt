@@ -1,6 +1,6 @@
 //! Laws over the definitions. The functions do nothing: each one's contract is its law.
 ghost use Rattle.std.specs.Prelude.{◌≡◌, ◌≢◌, ℕ, false, List, Option, Some, None};
-ghost use Rattle.std.specs.Str.{chars};
+ghost use Rattle.std.specs.Str.{chars, IsUtf8};
 ghost use Rattle.pep508_marker.specs.Expression.{ExpressionRecord, expression_text};
 ghost use Rattle.pep508_diagram.specs.Diagram.{Diagram, Leaf};
 ghost use Rattle.pep508_diagram.specs.Question.{Question, Valuation, truth, IsCanonical};
@@ -11,11 +11,15 @@ ghost use Rattle.pep508_marker_text.specs.MarkerText.{clauses_text, marker_text}
 ghost use Rattle.pep508_marker_text.specs.Saying.{Clause};
 ghost use Rattle.pep508_reading_back.specs.Clauses.{AreReadable, ReadsClauses};
 ghost use Rattle.pep508_reading_back.specs.Diagrams.{IsReadableDiagram, SaysDiagram, ReadsDiagram};
+ghost use Rattle.pep440_specifier.specs.Matching.{SpecifierRecord};
+ghost use Rattle.pep440_specifier_list.specs.Lists.{IsInOrder};
 ghost use Rattle.pep508_requirement_text.specs.FrontReading.{Front};
+ghost use Rattle.pep508_requirement_text.specs.FrontReading.Source.{Specifiers};
 ghost use Rattle.pep508_requirement.specs.MarkerBehind.{no_marker};
 ghost use Rattle.pep508_requirement.specs.RequirementText.{IsMarkedText};
 ghost use Rattle.pep508_reading_back.specs.Readable.{IsReadable, marker_of};
-ghost use Rattle.pep508_reading_back.specs.ReadableRequirements.{IsReadableFront, ReadsRequirement};
+ghost use Rattle.pep508_reading_back.specs.ReadableRequirements.{IsReadableFront, NamesNoUrl};
+ghost use Rattle.pep508_reading_back.specs.ReadableRequirements.{ReadsRequirement};
 ghost use Rattle.pep508_requirement_ref.specs.RequirementPrint.{requirement_text};
 ghost use Rattle.pep508_url.specs.Vars.{Variables};
 ghost use Rattle.pep508_tree.specs.Meaning.{NodeRecord, holds};
@@ -23,7 +27,8 @@ ghost use Rattle.pep508_requirement.specs.RequirementReading.{AsksFor, IsRead};
 ghost use Rattle.pep508_requirement.specs.RequirementReading as reading;
 ghost use Rattle.pep508_marker_read.specs.Formula.{Formula, formula_holds};
 ghost use Rattle.pep508_expression.specs.Expressions.{expression_holds};
-ghost use Rattle.pep508_reading_back.specs.Told.{questions_of, IsTold};
+ghost use Rattle.pep508_reading_back.specs.Told.{questions_of, AsksOf, IsTold};
+ghost use Rattle.pep508_reading_back.specs.Lines.{IsPieceOf, IsLine, IsWholeLine};
 ghost use Rattle.pep508_reading_back.specs.Views.{IsReadableView, ReadsBack};
 ghost use Rattle.pep508_reading_back.specs.ReadViews.{AsksNoUrl, KeepsFront, ShowsRead};
 ghost use Rattle.pep508_reading_back.specs.Unquoted.{IsPlainDiagram, IsUnquotedDiagram};
@@ -133,19 +138,56 @@ pub fn a_formula_hangs_on_its_questions()
 
 /// The diagram of a marker that was read of a text, as interners keep it, asks for what texts can say alone: for
 /// versions and texts that could stand in it, and for extras by their normal names.
-pub fn a_read_marker_asks_what_texts_say(text: &str)
-    ensures { (front : Front) (marker : Marker) (diagram : Diagram Question)
-        → IsMarkedText text.now front marker → IsCanonical diagram → HasShortVersions diagram
-        → SaysDiagram diagram marker → AllQuestions IsTold diagram }
+pub fn a_read_marker_asks_what_texts_say()
+    ensures { (text : List ℕ) (front : Front) (marker : Marker) (diagram : Diagram Question) → IsUtf8 text
+        → IsMarkedText text front marker → IsCanonical diagram
+        → HasShortVersions diagram → SaysDiagram diagram marker → AllQuestions IsTold diagram }
 {}
+
+/// And its texts are pieces of the text that was read, but for the normal names of extras.
+pub fn a_read_marker_asks_pieces_of_its_text()
+    ensures { (text : List ℕ) (front : Front) (marker : Marker) (diagram : Diagram Question)
+        → IsUtf8 text → IsMarkedText text front marker → IsCanonical diagram → HasShortVersions diagram
+        → SaysDiagram diagram marker → AllQuestions (AsksOf (IsPieceOf text)) diagram }
+{}
+
+/// What is read of a text before its marker, without a URL, is such that its print is read again: its names
+/// and its specifiers, in the order given or as lists keep them.
+pub fn a_read_front_is_readable()
+    ensures given { (text : List ℕ) (front : Front) (marker : Marker) → IsMarkedText text front marker
+        → NamesNoUrl front.source → IsReadableFront front }
+    ensures kept { (text : List ℕ) (front : Front) (marker : Marker) (given list : List SpecifierRecord)
+        → IsMarkedText text front marker → front.source ≡ Specifiers given → IsInOrder given list
+        → IsReadableFront (record front { source = Specifiers list }) }
+{}
+
+/// A printed requirement is one line and has no comment, where the texts of its marker are pieces of such a
+/// line: so a line of its print can stand for the line that was read.
+pub fn a_printed_requirement_is_a_line()
+    ensures { (line : List ℕ) (front : Front) (diagram : Diagram Question) → IsLine line
+        → IsReadableFront front → AllQuestions (AsksOf (IsPieceOf line)) diagram
+        → IsWholeLine (requirement_text front (marker_text diagram)) }
+{}
+
+/// What a requirement that was read of a line, without a URL, prints with its interner is one line again, and
+/// has no comment.
+pub fn a_read_line_prints_a_line<'a, T: Pep508Url>(shown: &RequirementRef<'a, T>)
+    ensures { (vars : Variables) (directory : Option (List ℕ)) (line text : List ℕ) → IsLine line
+        → ShowsRead (λ url. T.reads vars url directory) line shown.now
+        → AsksNoUrl shown.now.version_or_url.now
+        → ⟦<RequirementRef<'a, T> as fmt::Display>⟧.output shown.now ≡ Some text → IsWholeLine text }
+{
+    shown.is_canonical();
+    a_read_requirement_is_written::<T>();
+}
 
 /// What a requirement that was read without a URL prints with its interner is read by `Requirement::parse`
 /// with any interner, unless memory runs out, with its name, its extras and its specifiers: where no text of
 /// its marker has a single quote, which a text in double quotes may have.
-pub fn a_read_requirement_reads_back<'a, T: Pep508Url>(given: &str, shown: &RequirementRef<'a, T>)
-    ensures { (vars others : Variables) (directory other : Option (List ℕ)) (text : List ℕ)
-        (nodes : List NodeRecord) (answer : _)
-        → ShowsRead (λ url. T.reads vars url directory) given.now shown.now
+pub fn a_read_requirement_reads_back<'a, T: Pep508Url>(shown: &RequirementRef<'a, T>)
+    ensures { (vars others : Variables) (directory other : Option (List ℕ)) (given text : List ℕ)
+        (nodes : List NodeRecord) (answer : _) → IsUtf8 given
+        → ShowsRead (λ url. T.reads vars url directory) given shown.now
         → AsksNoUrl shown.now.version_or_url.now
         → IsUnquotedDiagram (diagram_in (tree_in shown.now.marker))
         → ⟦<RequirementRef<'a, T> as fmt::Display>⟧.output shown.now ≡ Some text
@@ -161,10 +203,10 @@ pub fn a_read_requirement_reads_back<'a, T: Pep508Url>(given: &str, shown: &Requ
 /// The marker of a requirement that was read without a URL reads back too, as a tree that means the same:
 /// where its texts have no single quote, its versions are releases of epoch 0, its keys are no old names, and
 /// it sometimes holds.
-pub fn a_read_marker_reads_back<'a, T: Pep508Url>(given: &str, shown: &RequirementRef<'a, T>)
-    ensures { (vars others : Variables) (directory other : Option (List ℕ)) (text : List ℕ)
-        (nodes : List NodeRecord) (answer : _)
-        → ShowsRead (λ url. T.reads vars url directory) given.now shown.now
+pub fn a_read_marker_reads_back<'a, T: Pep508Url>(shown: &RequirementRef<'a, T>)
+    ensures { (vars others : Variables) (directory other : Option (List ℕ)) (given text : List ℕ)
+        (nodes : List NodeRecord) (answer : _) → IsUtf8 given
+        → ShowsRead (λ url. T.reads vars url directory) given shown.now
         → AsksNoUrl shown.now.version_or_url.now → IsPlainDiagram (diagram_in (tree_in shown.now.marker))
         → ⟦<RequirementRef<'a, T> as fmt::Display>⟧.output shown.now ≡ Some text
         → reading.ReadsRequirement (λ url. T.reads others url other) T.lacks_memory others nodes text answer
