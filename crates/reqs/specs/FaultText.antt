@@ -9,6 +9,8 @@ use Rattle.pep508_error.specs.declared.error.Pep508Error.{Pep508Error}
 use Rattle.pep508_error.specs.Errors.{error_text}
 use Rattle.reqtable_text.specs.declared.candidates.CandidateFault.{CandidateFault}
 use Rattle.reqtable_text.specs.declared.candidates.CandidateFault.TheVariants as causes
+use Rattle.reqs.specs.declared.fault.JsonShape.{JsonShape}
+use Rattle.reqs.specs.declared.fault.JsonShape.TheVariants as shapes
 use Rattle.reqs.specs.declared.fault.RunFault.{RunFault}
 use Rattle.reqs.specs.declared.fault.RunFault.TheVariants.{Read, Write, Memory, TooLong, NotText, Extra}
 use Rattle.reqs.specs.declared.fault.RunFault.TheVariants.{Requirement, NumberAtEnd, Json, Float, Shape}
@@ -20,6 +22,11 @@ abbrev pub cause_text : CandidateFault → List ℕ
 cause_text causes.Shape = codes "shape"
 cause_text causes.Name = codes "name"
 cause_text causes.Version = codes "version"
+
+-- that a JSON value has not the shape that is wanted
+abbrev pub shape_text : JsonShape → List ℕ
+shape_text shapes.Object = codes "not an object"
+shape_text shapes.List = codes "not a list"
 
 -- something about a file
 abbrev pub input_text : List ℕ → List ℕ → List ℕ
@@ -56,7 +63,7 @@ fault_text paths (NumberAtEnd input number) =
     Some (line_text (of_input paths input) number (codes "a version number can't be raised"))
 fault_text paths (Json input) = Some (input_text (of_input paths input) (codes "not JSON"))
 fault_text paths (Float input) = Some (input_text (of_input paths input) (codes "a number is a float"))
-fault_text paths (Shape input) = Some (input_text (of_input paths input) (codes "not an object"))
+fault_text paths (Shape input wanted) = Some (input_text (of_input paths input) (shape_text wanted))
 fault_text paths (Member input index name) =
     Some (member_text (of_input paths input) index (member_name name) (codes "missing or no text"))
 fault_text paths (Version input index name) =

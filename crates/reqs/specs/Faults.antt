@@ -14,6 +14,7 @@ use Rattle.reqtable_requirements.specs.Requirements.{IsErrorIn}
 use Rattle.reqtable_requirements.specs.declared.requirements.RequirementsError.{RequirementsError}
 use Rattle.reqtable_requirements.specs.declared.requirements.RequirementsError.TheVariants as requirements
 use Rattle.reqs.specs.declared.fault.Input.{Input}
+use Rattle.reqs.specs.declared.fault.JsonShape.TheVariants as shapes
 use Rattle.reqs.specs.declared.fault.RunFault.{RunFault}
 use Rattle.reqs.specs.declared.fault.RunFault.TheVariants.{Read, Write, Memory, TooLong, NotText}
 use Rattle.reqs.specs.declared.fault.RunFault.TheVariants.{Requirement, NumberAtEnd, Json, Float, Shape}
@@ -48,7 +49,7 @@ of_requirements input requirements.Memory = Memory
 -- of an environment, by its place on the command line and its number
 abbrev pub of_environment : Input → ℕ → EnvironmentError → RunFault
 of_environment input index environments.Float = Float input
-of_environment input index environments.Shape = Shape input
+of_environment input index environments.Shape = Shape input shapes.Object
 of_environment input index (environments.Member name) = Member input index name
 of_environment input index (environments.Version name) = Version input index name
 of_environment input index environments.Memory = Memory
@@ -93,7 +94,7 @@ IsOfTexts vars bytes = IsOfInputs (IsErrorIn vars (text_lines bytes))
 abbrev pub IsOfEnvironment : RunFault → Type 0
 IsOfEnvironment (Json input) = Unit {0}
 IsOfEnvironment (Float input) = Unit {0}
-IsOfEnvironment (Shape input) = Unit {0}
+IsOfEnvironment (Shape input wanted) = Unit {0}
 IsOfEnvironment (Member input index name) = Unit {0}
 IsOfEnvironment (Version input index name) = Unit {0}
 IsOfEnvironment fault = ⊥

@@ -5,7 +5,7 @@ ghost use Rattle.pep508_environment.specs.Environment.{member_name};
 ghost use Rattle.reqs.specs.Ends.{place_of, of_input};
 ghost use Rattle.reqs.specs.Faults.{status_of, IsOfEnvironment};
 ghost use Rattle.reqs.specs.Faults.{of_reading, of_requirements, of_environment, of_candidates};
-ghost use Rattle.reqs.specs.FaultText.{cause_text, input_text, line_text, member_text};
+ghost use Rattle.reqs.specs.FaultText.{cause_text, shape_text, input_text, line_text, member_text};
 ghost use Rattle.reqs.specs.FaultText.{requirement_text, fault_text};
 
 use pep508_environment::{EnvironmentError, EnvironmentMember};
@@ -105,6 +105,13 @@ impl fmt::Display for RefusedWord {
     }
 }
 
+/// What a JSON value is wanted to be.
+#[derive(Clone, Copy, Debug, PartialEq, Eq)]
+pub enum JsonShape {
+    Object,
+    List,
+}
+
 /// Why a command gave no answer. Lines and environments are numbered from 1.
 #[derive(Debug, Drop)]
 pub enum RunFault {
@@ -146,9 +153,10 @@ pub enum RunFault {
     Float {
         input: Input,
     },
-    /// The environment is no JSON object.
+    /// A JSON value is none of the shape that is wanted.
     Shape {
         input: Input,
+        wanted: JsonShape,
     },
     /// A member of the environment is missing or no text.
     Member {
@@ -223,7 +231,10 @@ impl RunFault {
     {
         match fault {
             EnvironmentError::Float => RunFault::Float { input },
-            EnvironmentError::Shape => RunFault::Shape { input },
+            EnvironmentError::Shape => RunFault::Shape {
+                input,
+                wanted: JsonShape::Object,
+            },
             EnvironmentError::Member(name) => RunFault::Member { input, index, name },
             EnvironmentError::Version(name) => RunFault::Version { input, index, name },
             EnvironmentError::Memory => RunFault::Memory,
@@ -305,7 +316,9 @@ impl RunFault {
         match self {
             RunFault::Json { input } => at(alloc, input.path(paths), "not JSON"),
             RunFault::Float { input } => at(alloc, input.path(paths), "a number is a float"),
-            RunFault::Shape { input } => at(alloc, input.path(paths), "not an object"),
+            RunFault::Shape { input, wanted } => {
+                at(alloc, input.path(paths), shape_text(*wanted))
+            }
             RunFault::Member { input, index, name } => {
                 at_member(
                     alloc,
@@ -320,6 +333,16 @@ impl RunFault {
             }
             _ => unreachable!(),
         }
+    }
+}
+
+/// What is said of a JSON value that has not the shape that is wanted.
+fn shape_text(wanted: JsonShape) -> &'static str
+    ensures { result.now ≡ shape_text wanted }
+{
+    match wanted {
+        JsonShape::Object => "not an object",
+        JsonShape::List => "not a list",
     }
 }
 
