@@ -67,7 +67,7 @@ AnswersLines vars nodes input bytes (Ok lines) =
     (said : List LineRecord) × (lines_from vars input bytes ≡ Ok said)
     × AllZip (StandsFor vars nodes) lines said
 AnswersLines vars nodes input bytes (Err fault) =
-    Refuses (IsOfTexts vars bytes) fault (lines_from vars input bytes)
+    Refuses (IsOfTexts vars input bytes) fault (lines_from vars input bytes)
 
 -- the environment of this number that a JSON value of an input is
 abbrev pub environment_in : Input → ℕ → Option Data → Result EnvironmentRecord Cause
