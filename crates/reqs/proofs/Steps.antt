@@ -35,20 +35,21 @@ refuses_rest IsOne fault step rest h = (h.0, tells_rest (told_run fault) step re
 -- a fault of a list is one of the command
 pub requirements_refuse : {A : Type 0} (vars : Variables) (input : Input) (bytes : List ℕ) (error : RequirementsError)
     (reading : Result A LinesFault) → Tells (told_requirements error) reading → IsErrorIn vars (text_lines bytes) error
-    → Refuses (IsOfTexts vars bytes) (of_requirements input error) (with_cause (requirements_cause input) reading)
+    → Refuses (IsOfTexts vars input bytes) (of_requirements input error) (with_cause (requirements_cause input) reading)
 requirements_refuse vars input bytes (requirements.NotText offset) reading h said = (tt, ap (with_cause (requirements_cause input)) h)
-requirements_refuse vars input bytes (requirements.Line number error) reading h said = (said, ap (with_cause (requirements_cause input)) h)
+requirements_refuse vars input bytes (requirements.Line number error) reading h said = ((refl, said), ap (with_cause (requirements_cause input)) h)
 requirements_refuse vars input bytes (requirements.NumberAtEnd number) reading h said = (tt, ap (with_cause (requirements_cause input)) h)
 requirements_refuse vars input bytes requirements.Memory reading h said = (tt, tt)
 
-is_of_texts : (vars : Variables) (bytes : List ℕ) (fault : RunFault) → IsPlain fault → IsOfTexts vars bytes fault
-is_of_texts vars bytes (Requirement input number error) h = absurd h
-is_of_texts vars bytes fault h = h
+is_of_texts : (vars : Variables) (list : Input) (bytes : List ℕ) (fault : RunFault) → IsPlain fault
+    → IsOfTexts vars list bytes fault
+is_of_texts vars list bytes (Requirement input number error) h = absurd h
+is_of_texts vars list bytes fault h = h
 
 -- what refuses another text than a list of requirements
-pub refuses_texts : {A : Type 0} (vars : Variables) (bytes : List ℕ) (fault : RunFault) (reading : Result A Cause)
-    → Refuses IsPlain fault reading → Refuses (IsOfTexts vars bytes) fault reading
-refuses_texts vars bytes fault reading h = (is_of_texts vars bytes fault h.0, h.1)
+pub refuses_texts : {A : Type 0} (vars : Variables) (list : Input) (bytes : List ℕ) (fault : RunFault)
+    (reading : Result A Cause) → Refuses IsPlain fault reading → Refuses (IsOfTexts vars list bytes) fault reading
+refuses_texts vars list bytes fault reading h = (is_of_texts vars list bytes fault h.0, h.1)
 
 -- the answer behind a list of requirements is that of all texts
 pub whole : {Y : Type 0} (vars : Variables) (extras : List (List ℕ)) (x y z : List ℕ) (names : List (List ℕ))
@@ -58,7 +59,7 @@ pub whole : {Y : Type 0} (vars : Variables) (extras : List (List ℕ)) (x y z : 
 unfolding texts_of
 whole vars extras x y z names said e l (Ok text) h = rw (e, l) h
 whole vars extras x y z names said e l (Err fault) h =
-    rw (e, l) (refuses_texts vars x fault (behind_lines names said y z) h)
+    rw (e, l) (refuses_texts vars First x fault (behind_lines names said y z) h)
 
 pub candidates_refuse : {A : Type 0} (input : Input) (error : CandidatesError) (reading : Result A CandidatesError)
     → Tells (told_candidates error) reading
@@ -87,14 +88,14 @@ module _ {W : Type 0} (Answers : Answering) (Refused : Refusing) (contents : W �
   unread view input told fault h inputs before there = absurd h
 
   -- a fault of the texts ends it so
-  refused : (vars : Variables) (bytes : List ℕ) (inputs : List (List ℕ)) (fault : RunFault)
-      → IsOfTexts vars bytes fault → AreWithin inputs → Refused inputs fault
+  refused : (vars : Variables) (list : Input) (bytes : List ℕ) (inputs : List (List ℕ)) (fault : RunFault)
+      → IsOfTexts vars list bytes fault → AreWithin inputs → Refused inputs fault
       → EndsAs Answers Refused inputs contents old new (Err fault)
-  refused vars bytes inputs (Read input) h within r = absurd h
-  refused vars bytes inputs (TooLong input) h within r = absurd h
-  refused vars bytes inputs Write h within r = absurd h
-  refused vars bytes inputs Memory h within r = tt
-  refused vars bytes inputs fault h within r = (within, r)
+  refused vars list bytes inputs (Read input) h within r = absurd h
+  refused vars list bytes inputs (TooLong input) h within r = absurd h
+  refused vars list bytes inputs Write h within r = absurd h
+  refused vars list bytes inputs Memory h within r = tt
+  refused vars list bytes inputs fault h within r = (within, r)
 
   -- a command of three inputs, of which one is not read
   module _ (a b z : Option (List ℕ)) where
@@ -120,10 +121,10 @@ module _ {W : Type 0} (Answers : Answering) (Refused : Refusing) (contents : W �
 
         -- or whose texts are refused
         pub texts_refused : (third : List ℕ) → AreAsTold z third × IsWithin third → (vars : Variables) (fault : RunFault)
-            → IsOfTexts vars first fault → Refused (first ∷ second ∷ third ∷ []) fault
+            → IsOfTexts vars First first fault → Refused (first ∷ second ∷ third ∷ []) fault
             → Runs Answers Refused (a ∷ b ∷ z ∷ []) contents old new (Err fault)
         texts_refused third read_third vars fault h r = record {
           inputs = first ∷ second ∷ third ∷ [];
           are_told = (read_first.0, (read_second.0, (read_third.0, tt)));
-          ends = refused vars first (first ∷ second ∷ third ∷ []) fault h (read_first.1, (read_second.1, (read_third.1, tt))) r;
+          ends = refused vars First first (first ∷ second ∷ third ∷ []) fault h (read_first.1, (read_second.1, (read_third.1, tt))) r;
         }

@@ -33,7 +33,7 @@ AnswersBehind (Err fault) inputs = Refuses IsPlain fault inputs
 abbrev pub AnswersText : {Y : Type 0} → Variables → List ℕ → Result (String Y) RunFault
     → Result CheckInputs Cause → Type 0
 AnswersText vars requirements (Ok text) inputs = IsCheckText inputs (string_bytes text)
-AnswersText vars requirements (Err fault) inputs = Refuses (IsOfTexts vars requirements) fault inputs
+AnswersText vars requirements (Err fault) inputs = Refuses (IsOfTexts vars First requirements) fault inputs
 
 abbrev pub check_inputs : Variables → List (List ℕ) → List (List ℕ) → Result CheckInputs Cause
 check_inputs vars extras inputs =
@@ -45,7 +45,7 @@ ChecksAs vars extras inputs status text =
 
 abbrev pub CheckRefuses : Variables → List (List ℕ) → List (List ℕ) → RunFault → Type 0
 CheckRefuses vars extras inputs fault =
-    Refuses (IsOfTexts vars (of_input inputs First)) fault (check_inputs vars extras inputs)
+    Refuses (IsOfTexts vars First (of_input inputs First)) fault (check_inputs vars extras inputs)
 
 -- `check` ends so, with what its readers tell of the requirements, the environment and the candidates
 abbrev pub RunsCheck : {W : Type 0} → Variables → List (List ℕ) → Option (List ℕ) → Option (List ℕ)

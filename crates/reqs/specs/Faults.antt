@@ -14,6 +14,7 @@ use Rattle.reqtable_requirements.specs.Requirements.{IsErrorIn}
 use Rattle.reqtable_requirements.specs.declared.requirements.RequirementsError.{RequirementsError}
 use Rattle.reqtable_requirements.specs.declared.requirements.RequirementsError.TheVariants as requirements
 use Rattle.reqs.specs.declared.fault.Input.{Input}
+use Rattle.reqs.specs.declared.fault.JsonShape.TheVariants as shapes
 use Rattle.reqs.specs.declared.fault.RunFault.{RunFault}
 use Rattle.reqs.specs.declared.fault.RunFault.TheVariants.{Read, Write, Memory, TooLong, NotText}
 use Rattle.reqs.specs.declared.fault.RunFault.TheVariants.{Requirement, NumberAtEnd, Json, Float, Shape}
@@ -48,7 +49,7 @@ of_requirements input requirements.Memory = Memory
 -- of an environment, by its place on the command line and its number
 abbrev pub of_environment : Input → ℕ → EnvironmentError → RunFault
 of_environment input index environments.Float = Float input
-of_environment input index environments.Shape = Shape input
+of_environment input index environments.Shape = Shape input shapes.Object
 of_environment input index (environments.Member name) = Member input index name
 of_environment input index (environments.Version name) = Version input index name
 of_environment input index environments.Memory = Memory
@@ -72,28 +73,29 @@ told_run (Requirement input number error) = Some (NoRequirement input number)
 told_run fault = Some (Says fault)
 
 -- it is no fault of a reader or the writer, and not of an input's length; and what it says of a line that is
--- no requirement may be said
-abbrev pub IsOfInputs : (RequirementsError → Type 0) → RunFault → Type 0
+-- no requirement may be said of a line of that input
+abbrev pub IsOfInputs : (Input → RequirementsError → Type 0) → RunFault → Type 0
 IsOfInputs MaySay (Read input) = ⊥
 IsOfInputs MaySay Write = ⊥
 IsOfInputs MaySay (TooLong input) = ⊥
-IsOfInputs MaySay (Requirement input number error) = MaySay (requirements.Line number error)
+IsOfInputs MaySay (Requirement input number error) = MaySay input (requirements.Line number error)
 IsOfInputs MaySay fault = Unit {0}
 
 -- it is of texts of which none is a list of requirements
 abbrev pub IsPlain : RunFault → Type 0
-IsPlain = IsOfInputs (λ error. ⊥)
+IsPlain = IsOfInputs (λ input error. ⊥)
 
--- it is of texts of which the first is a list of requirements: what it says of a line that is no requirement
--- is the error of some line with this number
-abbrev pub IsOfTexts : Variables → List ℕ → RunFault → Type 0
-IsOfTexts vars bytes = IsOfInputs (IsErrorIn vars (text_lines bytes))
+-- it is of texts of which this input's is a list of requirements: what it says of a line that is none
+-- it says of this input, and is the error of some line with this number
+abbrev pub IsOfTexts : Variables → Input → List ℕ → RunFault → Type 0
+IsOfTexts vars list bytes =
+    IsOfInputs (λ input error. (input ≡ list) × IsErrorIn vars (text_lines bytes) error)
 
 -- it is one of an environment's text
 abbrev pub IsOfEnvironment : RunFault → Type 0
 IsOfEnvironment (Json input) = Unit {0}
 IsOfEnvironment (Float input) = Unit {0}
-IsOfEnvironment (Shape input) = Unit {0}
+IsOfEnvironment (Shape input wanted) = Unit {0}
 IsOfEnvironment (Member input index name) = Unit {0}
 IsOfEnvironment (Version input index name) = Unit {0}
 IsOfEnvironment fault = ⊥

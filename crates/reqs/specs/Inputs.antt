@@ -67,17 +67,19 @@ AnswersLines vars nodes input bytes (Ok lines) =
     (said : List LineRecord) × (lines_from vars input bytes ≡ Ok said)
     × AllZip (StandsFor vars nodes) lines said
 AnswersLines vars nodes input bytes (Err fault) =
-    Refuses (IsOfTexts vars bytes) fault (lines_from vars input bytes)
+    Refuses (IsOfTexts vars input bytes) fault (lines_from vars input bytes)
 
-abbrev pub environment_in : Option Data → Result EnvironmentRecord Cause
-environment_in None = Err (Says (Json Second))
-environment_in (Some value) =
-    with_cause (λ error. Says (of_environment Second 1 error)) (environment_of value)
+-- the environment of this number that a JSON value of an input is
+abbrev pub environment_in : Input → ℕ → Option Data → Result EnvironmentRecord Cause
+environment_in input index None = Err (Says (Json input))
+environment_in input index (Some value) =
+    with_cause (λ error. Says (of_environment input index error)) (environment_of value)
 
--- an environment's text: JSON in UTF-8
-unfoldable pub environment_from : List ℕ → Result EnvironmentRecord Cause
-environment_from bytes =
-    if is_utf8 bytes then environment_in (read bytes) else Err (Says (NotText Second (utf8_valid_len bytes)))
+-- that of an environment's text, JSON in UTF-8
+unfoldable pub environment_from : Input → ℕ → List ℕ → Result EnvironmentRecord Cause
+environment_from input index bytes =
+    if is_utf8 bytes then environment_in input index (read bytes)
+    else Err (Says (NotText input (utf8_valid_len bytes)))
 
 abbrev pub candidates_from : Input → List ℕ → Result (List Candidate) Cause
 candidates_from input bytes = with_cause (λ error. Says (of_candidates input error)) (candidates_of bytes)
@@ -92,7 +94,7 @@ pub record CheckInputs : Type 0 where
 -- what two texts are, or the first thing at fault, behind extras and lines that are read
 unfoldable pub behind_lines : List (List ℕ) → List LineRecord → List ℕ → List ℕ → Result CheckInputs Cause
 behind_lines extras lines environment candidates = do
-  record_of_environment ← environment_from environment
+  record_of_environment ← environment_from Second 1 environment
   list ← candidates_from Third candidates
   Ok (record { extras = extras; lines = lines; environment = record_of_environment; candidates = list })
 

@@ -104,7 +104,7 @@ fn text_behind(
         AllZip (StandsFor vars interner.now.nodes) requirements.now said →
         AnswersBehind result (behind_lines extras.now said environment.old.items candidates.old.items) }
 {
-    let environment = read_environment(alloc, environment)?;
+    let environment = read_environment(alloc, Input::Second, 1, environment)?;
     let candidates = read_candidates(alloc, Input::Third, candidates)?;
     match answer_text(
         alloc,

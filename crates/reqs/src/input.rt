@@ -88,11 +88,15 @@ fn text_of(input: Input, bytes: &[u8]) -> Result<&str, RunFault>
     }
 }
 
-/// The environment that a JSON text is.
-fn environment_of(alloc: Global, text: &str) -> Result<MarkerEnvironment, RunFault>
-    ensures { AnswersRun (λ e. e) result (environment_in (read text.now)) }
+/// The environment that a JSON text is, of this number in an input.
+fn environment_of(
+    alloc: Global,
+    input: Input,
+    index: usize,
+    text: &str,
+) -> Result<MarkerEnvironment, RunFault>
+    ensures { AnswersRun (λ e. e) result (environment_in input index (read text.now)) }
 {
-    let input = Input::Second;
     let value = match Value::from_str(alloc, text) {
         Ok(value) => value,
         Err(error) => {
@@ -104,23 +108,33 @@ fn environment_of(alloc: Global, text: &str) -> Result<MarkerEnvironment, RunFau
     };
     match MarkerEnvironment::from_value(alloc, &value) {
         Ok(environment) => Ok(environment),
-        Err(fault) => Err(RunFault::of_environment(input, 1, fault)),
+        Err(fault) => Err(RunFault::of_environment(input, index, fault)),
     }
 }
 
 /// The environment that bytes are, JSON in UTF-8.
 #[tactic(auto, unfolding(crate::specs::Inputs::environment_from))]
-fn environment_from(alloc: Global, bytes: &[u8]) -> Result<MarkerEnvironment, RunFault>
-    ensures { AnswersRun (λ e. e) result (environment_from bytes.now) }
+fn environment_from(
+    alloc: Global,
+    input: Input,
+    index: usize,
+    bytes: &[u8],
+) -> Result<MarkerEnvironment, RunFault>
+    ensures { AnswersRun (λ e. e) result (environment_from input index bytes.now) }
 {
-    environment_of(alloc, text_of(Input::Second, bytes)?)
+    environment_of(alloc, input, index, text_of(input, bytes)?)
 }
 
-/// Reads an environment, and lets its bytes go.
-pub fn read_environment(alloc: Global, bytes: &mut Vec<u8>) -> Result<MarkerEnvironment, RunFault>
-    ensures { AnswersRun (λ e. e) result (environment_from bytes.old.items) }
+/// Reads the environment of this number in an input, from 1, and lets its bytes go.
+pub fn read_environment(
+    alloc: Global,
+    input: Input,
+    index: usize,
+    bytes: &mut Vec<u8>,
+) -> Result<MarkerEnvironment, RunFault>
+    ensures { AnswersRun (λ e. e) result (environment_from input index bytes.old.items) }
 {
-    let read = environment_from(alloc, bytes);
+    let read = environment_from(alloc, input, index, bytes);
     *bytes = Vec::new(alloc);
     read
 }

@@ -6,5 +6,5 @@ mod fault;
 mod input;
 
 pub use checks::check;
-pub use fault::{Input, RefusedWord, RunFault, Status};
+pub use fault::{Input, JsonShape, RefusedWord, RunFault, Status};
 pub use pep508_url::Vars;

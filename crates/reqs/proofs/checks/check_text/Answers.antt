@@ -1,5 +1,6 @@
 use Rattle.std.proofs.Common.{◌∙◌, Ok, ap, sym}
 use Rattle.std.proofs.lemmas.Result.{err_from_is_err_and}
+use Rattle.reqs.specs.declared.fault.Input.TheVariants.{First}
 use Rattle.reqs.specs.Faults.{IsPlain, IsOfTexts}
 use Rattle.reqs.specs.Inputs.{texts_of}
 use Rattle.reqtable_requirements.proofs.Asked.{are_of_nodes}
@@ -10,13 +11,13 @@ pub returns-in_err-extras : goal.returns-in_err-extras
 unfolding texts_of
 returns-in_err-extras c =
     let p = err_from_is_err_and c.from_residual.result c.from_residual.ensures.1 in
-    rw (p.1, p.2) (refuses_texts _ _ _ _ (refuses_rest IsPlain _ _ _ c.in_err-extras.ensures))
+    rw (p.1, p.2) (refuses_texts _ _ _ _ _ (refuses_rest IsPlain _ _ _ c.in_err-extras.ensures))
 
 pub returns-in_err-requirements : goal.returns-in_err-requirements
 unfolding texts_of
 returns-in_err-requirements c =
     let p = err_from_is_err_and c.from_residual-in_err-requirements.result c.from_residual-in_err-requirements.ensures.1 in
-    rw (p.1, p.2, c.in_ok-extras.ensures) (refuses_rest (IsOfTexts c.args.vars.now c.args.requirements.now.items) _ _ _ c.in_err-requirements.ensures)
+    rw (p.1, p.2, c.in_ok-extras.ensures) (refuses_rest (IsOfTexts c.args.vars.now First c.args.requirements.now.items) _ _ _ c.in_err-requirements.ensures)
 
 pub text_behind-requires : goal.text_behind-requires
 text_behind-requires c =
