@@ -1,7 +1,7 @@
 -- Members by their kinds, one more at a time.
-use Rattle.std.proofs.Common.{◌≡◌, ◌∙◌, ◌<◌, ◌+◌, ℕ, Bool, ◌&&◌, List, [], ◌∷◌, ◌++◌, map, length, take, All, refl, ap, sym, subst, append-nil, get_or}
+use Rattle.std.proofs.Common.{◌≡◌, ◌∙◌, ◌<◌, ◌+◌, ℕ, Bool, ◌&&◌, List, [], ◌∷◌, ◌++◌, map, length, take, All, ap, sym, subst, append-nil, append_assoc, get_or}
 use Rattle.std.proofs.Math.Bool.{and_assoc, and_comm}
-use Rattle.std.proofs.lemmas.List.{map-append, map_more}
+use Rattle.std.proofs.lemmas.List.{map-append, map_more, take_more}
 use Rattle.std.proofs.lemmas.List.Concat.{flat_map-append}
 use Rattle.std.proofs.lemmas.List.Elements.{All-nil, All-push}
 use Rattle.std.proofs.lemmas.List.Folds.{list_all-append}
@@ -126,3 +126,10 @@ listed_more lists i list below at =
     sym (ap members_of (map_more (λ (l : Bor Members). l.now) lists i list below)
     ∙ flat_map-append (λ l. l) (map (λ l. l.now) (take i lists)) ((get_or lists i list).now ∷ [])
     ∙ ap (λ x. before ++ x) (append-nil (get_or lists i list).now ∙ ap (λ l. l.now) (sym at)))
+
+-- the members of a list one after another
+pub one_added : (members : Members) (i : ℕ) (member : SpecifierRecord) → i < length members → member ≡ get_or members i member
+    → (before : Members) → (before ++ take i members) ++ member ∷ [] ≡ before ++ take (i + 1) members
+one_added members i member below at before =
+    append_assoc before (take i members) (member ∷ [])
+    ∙ ap (λ x. before ++ x) (ap (λ m. take i members ++ m ∷ []) at ∙ sym (take_more members i member below))

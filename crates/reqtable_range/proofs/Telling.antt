@@ -10,7 +10,6 @@ use Rattle.pep440_specifier_list.specs.Lists.{matches_all}
 use Rattle.pep440_range.specs.Agreement.{IsSaid, IsSimple, IsWithoutPosts}
 use Rattle.pep440_range.specs.Ranges.{range_of, GivesAll}
 use Rattle.reqtable_range.specs.declared.one.OneRange.{OneRange}
-use Rattle.reqtable_range.specs.declared.sorting.Kind.{Kind}
 use Rattle.reqtable_range.specs.declared.sorting.Kind.TheVariants.{Simple, Plain}
 use Rattle.reqtable_range.specs.One.{FindsOne}
 use Rattle.reqtable_range.specs.Sorting.{IsOfKind}
@@ -71,11 +70,39 @@ held_public set version plain = ap (λ (v : VersionRecord). holds_at version_cmp
 
 -- ---- three questions, of which one may refuse
 
-pub first_refuses : (a b c all : Bool) → all ≡ (a && (b && c)) → a ≡ false → false ≡ all
+first_refuses : (a b c all : Bool) → all ≡ (a && (b && c)) → a ≡ false → false ≡ all
 first_refuses a b c all h e = sym (h ∙ ap (λ x. x && (b && c)) e)
 
-pub second_refuses : (a b c all : Bool) → all ≡ (a && (b && c)) → a ≡ true → b ≡ false → false ≡ all
+second_refuses : (a b c all : Bool) → all ≡ (a && (b && c)) → a ≡ true → b ≡ false → false ≡ all
 second_refuses a b c all h e f = sym (h ∙ (λ i. e i && (f i && c)))
 
-pub third_answers : (a b c all : Bool) → all ≡ (a && (b && c)) → a ≡ true → b ≡ true → c ≡ all
+third_answers : (a b c all : Bool) → all ≡ (a && (b && c)) → a ≡ true → b ≡ true → c ≡ all
 third_answers a b c all h e f = sym (h ∙ (λ i. e i && (f i && c)))
+
+-- what a version is told where the ranges are asked first, and then the single members
+module _ (law : (lists : List Members) (one : OneRange) (version : VersionRecord) → FindsOne (members_of lists) one → IsSaid version
+    → all_take lists version
+    ≡ (holds_at version_cmp one.simple (At (without_local version)) && (matches_all (lent one.beside.items) version && matches_all (lent one.single.items) version)))
+    (one : OneRange) (version : VersionRecord) (said : IsSaid version)
+    (simple : Bool) (simple_is : simple ≡ holds_at version_cmp one.simple (At (without_local version))) where
+  pub first_told : simple ≡ false → (lists : List Members) → FindsOne (members_of lists) one → false ≡ all_take lists version
+  first_told e lists found =
+      first_refuses (holds_at version_cmp one.simple (At (without_local version))) (matches_all (lent one.beside.items) version)
+      (matches_all (lent one.single.items) version) (all_take lists version) (law lists one version found said) (sym simple_is ∙ e)
+
+  pub second_told : simple ≡ true → (beside : Bool)
+      → ((members : Members) → FindsOne members one → beside ≡ matches_all (lent one.beside.items) version)
+      → beside ≡ false → (lists : List Members) → FindsOne (members_of lists) one → false ≡ all_take lists version
+  second_told e beside is f lists found =
+      second_refuses (holds_at version_cmp one.simple (At (without_local version))) (matches_all (lent one.beside.items) version)
+      (matches_all (lent one.single.items) version) (all_take lists version) (law lists one version found said)
+      (sym simple_is ∙ e) (sym (is (members_of lists) found) ∙ f)
+
+  pub third_told : simple ≡ true → (beside : Bool)
+      → ((members : Members) → FindsOne members one → beside ≡ matches_all (lent one.beside.items) version)
+      → beside ≡ true → (taken : Bool) → taken ≡ matches_all (lent one.single.items) version
+      → (lists : List Members) → FindsOne (members_of lists) one → taken ≡ all_take lists version
+  third_told e beside is f taken single lists found =
+      single ∙ third_answers (holds_at version_cmp one.simple (At (without_local version))) (matches_all (lent one.beside.items) version)
+      (matches_all (lent one.single.items) version) (all_take lists version) (law lists one version found said)
+      (sym simple_is ∙ e) (sym (is (members_of lists) found) ∙ f)
