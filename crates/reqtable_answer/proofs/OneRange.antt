@@ -1,5 +1,5 @@
 -- The range of asks tells what they take.
-use Rattle.std.proofs.Common.{◌≡◌, ◌∙◌, Bool, List, Option, Some, subst, Bor}
+use Rattle.std.proofs.Common.{◌≡◌, ◌∙◌, Bool, List, Option, Some, IfSome, subst, Bor}
 use Rattle.std.specs.List.{list_all}
 use Rattle.pep440_version.specs.Record.{VersionRecord}
 use Rattle.pep440_specifier.specs.Matching.{SpecifierRecord}
@@ -20,10 +20,12 @@ pub range_tells : {one : OneRange} (asks : List (Bor Asked)) (lists : List (List
 range_tells asks lists same found = (lists, found, same)
 
 -- what a range answers for its lists, asks are told
-pub told : (asks : List (Bor Asked)) (range : Option OneRange) (one : OneRange) (version : VersionRecord) (taken : Bool)
-    → range ≡ Some one → TellsTaken asks range
-    → ((lists : List (List SpecifierRecord)) → FindsOne (members_of lists) one → taken ≡ all_take lists version)
+pub told : (asks : List (Bor Asked)) (range : Option OneRange) (one : OneRange) (version : VersionRecord) (found : Option Bool) (taken : Bool)
+    → range ≡ Some one → found ≡ Some taken → TellsTaken asks range
+    → IfSome found (λ it. (lists : List (List SpecifierRecord)) → FindsOne (members_of lists) one → it ≡ all_take lists version)
     → taken ≡ asks_take asks version
-told asks range one version taken e tells answers =
+told asks range one version found taken e f tells answers =
     let of_lists : TellsTaken asks (Some one) = subst (TellsTaken asks) e tells in
-    answers of_lists.0 of_lists.1 ∙ of_lists.2 version
+    let answered : IfSome (Some taken) (λ it. (lists : List (List SpecifierRecord)) → FindsOne (members_of lists) one → it ≡ all_take lists version) =
+    subst (λ o. IfSome o (λ it. (lists : List (List SpecifierRecord)) → FindsOne (members_of lists) one → it ≡ all_take lists version)) f answers in
+    answered of_lists.0 of_lists.1 ∙ of_lists.2 version

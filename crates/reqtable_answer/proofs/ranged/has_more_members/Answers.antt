@@ -1,4 +1,4 @@
-use Rattle.std.proofs.Common.{◌≡◌, ◌≤◌, ◌+◌, length, take, ap, arith, refl}
+use Rattle.std.proofs.Common.{◌+◌, length, ap, arith, refl}
 use Rattle.std.proofs.lemmas.List.{take_all}
 use Rattle.reqtable_answer.proofs.Counting.{listed, one_more, front_is_less}
 use Rattle.reqtable_answer.proofs.ranged.has_more_members.Goals as goal
@@ -27,4 +27,4 @@ pub returns : goal.returns
 returns c =
     let counted = c.loop-list.invariant in
     let all = ap (λ lists. length (listed lists)) (take_all c.loop-list.list-index c.args.lists.now c.loop-list-test.false) in
-    (λ it. absurd (cc), λ it. omega arith)
+    (λ it. absurd (cc), λ it. absurd (omega arith))
