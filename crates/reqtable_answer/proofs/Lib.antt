@@ -11,3 +11,4 @@ pub mod ByPackage
 pub mod Said
 pub mod Others
 pub mod OneRange
+pub mod Counting

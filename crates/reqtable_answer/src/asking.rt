@@ -60,7 +60,7 @@ fn has_prerelease_in(list: &VersionSpecifiers) -> bool
 pub fn may_be_taken<F: Fn(&Version, bool) -> bool>(
     alloc: Global,
     asks: &[&Requirement<VerbatimUrl>],
-    range: &Option<OneRange>,
+    range: &Option<OneRange<'_>>,
     names_prerelease: bool,
     admission: &Admission<F>,
     version: &Version,
@@ -79,7 +79,7 @@ pub fn may_be_taken<F: Fn(&Version, bool) -> bool>(
 fn all_take(
     alloc: Global,
     asks: &[&Requirement<VerbatimUrl>],
-    range: &Option<OneRange>,
+    range: &Option<OneRange<'_>>,
     version: &Version,
 ) -> Result<bool, AllocError>
     requires { TellsTaken asks.now range.now }

@@ -72,7 +72,7 @@ fn greatest<'a, F: Fn(&Version, bool) -> bool>(
 fn greatest_by<'a, F: Fn(&Version, bool) -> bool>(
     alloc: Global,
     asks: &[&Requirement<VerbatimUrl>],
-    range: &Option<OneRange>,
+    range: &Option<OneRange<'_>>,
     candidates: &[Numbered<'a>],
     admission: &Admission<F>,
 ) -> Result<Option<Numbered<'a>>, AllocError>
@@ -96,7 +96,7 @@ fn greatest_by<'a, F: Fn(&Version, bool) -> bool>(
 fn better<'a, F: Fn(&Version, bool) -> bool>(
     alloc: Global,
     asks: &[&Requirement<VerbatimUrl>],
-    range: &Option<OneRange>,
+    range: &Option<OneRange<'_>>,
     prerelease: bool,
     admission: &Admission<F>,
     candidate: &Numbered<'a>,

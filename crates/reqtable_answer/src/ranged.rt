@@ -1,9 +1,9 @@
 //! The range of many asks, which tells what they take together.
 
-ghost use Rattle.std.specs.Prelude.{◌≡◌, ◌&&◌, map, IfOk, OnOk};
+ghost use Rattle.std.specs.Prelude.{◌≡◌, ◌<◌, ◌↔◌, ◌&&◌, IsTrue, length, map, IfOk, OnOk};
 ghost use Rattle.std.specs.List.{list_all};
 ghost use Rattle.pep440_version.specs.Record.{VersionRecord};
-ghost use Rattle.reqtable_range.specs.Together.{all_take};
+ghost use Rattle.reqtable_range.specs.Together.{members_of, all_take};
 ghost use Rattle.reqtable_answer.specs.Asks.{ask_takes};
 ghost use Rattle.reqtable_answer.specs.Ranged.{TellsTaken};
 ghost use Rattle.reqtable_answer.specs.Says.{ask_seen};
@@ -11,27 +11,50 @@ ghost use Rattle.reqtable_answer.specs.Says.{ask_seen};
 use pep440_specifier_list::VersionSpecifiers;
 use pep508_requirement::{Requirement, VersionOrUrl};
 use pep508_url::VerbatimUrl;
-use reqtable_range::laws::one_range_tells_what_all_take;
 use reqtable_range::{OneRange, one_range};
 use std::alloc::{AllocError, Global};
 
-/// With fewer asks or candidates each candidate is asked of every ask.
-const MANY: usize = 16;
+/// With fewer candidates each one is asked of every ask.
+const FEW_CANDIDATES: usize = 16;
 
-/// A range that tells what the asks take: for many of them and of candidates, where they have one.
-pub fn range_of(
+/// With no more questions (members times candidates) each candidate is asked of every ask.
+const FEW_QUESTIONS: usize = 1024;
+
+/// A range that tells what the asks take, where members times candidates are many.
+///
+/// Takes the O(n log n) comparisons of versions of `one_range` for n members, and memory for as many places as
+/// there are lists. Where it gives none, fewer than 16 candidates are asked of n members each, or all of them
+/// together at most 1,024 questions.
+pub fn range_of<'a>(
     alloc: Global,
-    asks: &[&Requirement<VerbatimUrl>],
+    asks: &[&'a Requirement<VerbatimUrl>],
     candidates: usize,
-) -> Result<Option<OneRange>, AllocError>
+) -> Result<Option<OneRange<'a>>, AllocError>
     ensures { IfOk result (TellsTaken asks.now) }
 {
-    if asks.len() < MANY || candidates < MANY {
+    if candidates < FEW_CANDIDATES {
         return Ok(None);
     }
-    one_range_tells_what_all_take();
     let lists = lists_of(alloc, asks)?;
-    one_range(alloc, &lists)
+    if !has_more_members(&lists, FEW_QUESTIONS / candidates) {
+        return Ok(None);
+    }
+    Ok(Some(one_range(alloc, &lists)?))
+}
+
+/// Whether the lists have more members together than so many. The lists are counted until they do.
+fn has_more_members(lists: &[&VersionSpecifiers], most: usize) -> bool
+    ensures { IsTrue result ↔ (most < length (members_of (map (λ list. list.now) lists.now))) }
+{
+    let mut left = most;
+    for list in lists {
+        let count = list.as_slice().len();
+        if left < count {
+            return true;
+        }
+        left -= count;
+    }
+    false
 }
 
 /// The lists of specifiers that the asks have.

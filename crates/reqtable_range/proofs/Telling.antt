@@ -1,60 +1,108 @@
--- What one range tells.
-use Rattle.std.proofs.Common.{◌≡◌, ◌∙◌, ◌↔◌, IsTrue, Bool, true, false, List, [], ◌∷◌, map, All, Some, Ok, ap, sym, refl}
-use Rattle.std.proofs.lemmas.List.Elements.{All-nil, All-cons, All-head, All-tail, All-append}
-use Rattle.std.specs.Borrow.{Bor}
+-- What one range, and the members beside it, tell.
+use Rattle.std.proofs.Common.{◌≡◌, ◌∙◌, Bool, true, false, ◌&&◌, List, [], map, All, None, Ok, ap, sym}
+use Rattle.std.proofs.lemmas.List.Elements.{All-weaker}
 use Rattle.version_ranges.specs.Point.{Point, At}
 use Rattle.version_ranges.specs.Held.{holds_at}
 use Rattle.pep440_version.specs.Record.{VersionRecord, without_local}
 use Rattle.pep440_version.specs.Order.{version_cmp}
 use Rattle.pep440_specifier.specs.Matching.{SpecifierRecord}
 use Rattle.pep440_specifier_list.specs.Lists.{matches_all}
-use Rattle.pep440_range.specs.Agreement.{IsSaid, IsSimple}
+use Rattle.pep440_range.specs.Agreement.{IsSaid, IsSimple, IsWithoutPosts}
 use Rattle.pep440_range.specs.Ranges.{range_of, GivesAll}
-use Rattle.reqtable_range.specs.Together.{members_of, all_take, IsPlain, IsTold, FindsRange}
-use Rattle.reqtable_range.proofs.Halves.{listed, all_front, all_back, members_take}
+use Rattle.reqtable_range.specs.declared.one.OneRange.{OneRange}
+use Rattle.reqtable_range.specs.declared.sorting.Kind.TheVariants.{Simple, Plain}
+use Rattle.reqtable_range.specs.One.{FindsOne}
+use Rattle.reqtable_range.specs.Sorting.{IsOfKind}
+use Rattle.reqtable_range.specs.Together.{members_of, all_take, lent, IsPlain, HasRange, HaveRanges}
+use Rattle.reqtable_range.proofs.Halves.{members_take, all_have}
 
 abbrev Set : Type 0
 Set = List (Point VersionRecord)
 
+abbrev Members : Type 0
+Members = List SpecifierRecord
+
+-- ---- members of a kind that have ranges
+
+pub simple_have : (members : Members) → All (IsOfKind Simple) members → HaveRanges members
+simple_have members h = all_have members (All-weaker (IsOfKind Simple) HasRange (λ m k. k.0) members h)
+
+pub plain_have : (members : Members) → All (IsOfKind Plain) members → HaveRanges members
+plain_have members h = all_have members (All-weaker (IsOfKind Plain) HasRange (λ m k. k.0) members h)
+
+-- ---- what the ranges tell
+
+abbrev pub SimpleLaw : Type 0
+SimpleLaw =
+    (members : Members) (version : VersionRecord) (set : Set)
+    → All IsSimple members → IsSaid version → GivesAll (Ok set) (map range_of members)
+    → holds_at version_cmp set (At (without_local version)) ≡ matches_all members version
+
+abbrev pub PlainLaw : Type 0
+PlainLaw =
+    (members : Members) (version : VersionRecord) (set : Set)
+    → All IsWithoutPosts members → IsSaid version → version.local ≡ [] → version.post ≡ None → GivesAll (Ok set) (map range_of members)
+    → holds_at version_cmp set (At version) ≡ matches_all members version
+
+pub plain_tells : PlainLaw → (members : Members) (one : OneRange) (version : VersionRecord) → FindsOne members one → IsPlain version
+    → holds_at version_cmp one.plain (At version) ≡ matches_all (lent one.beside.items) version
+plain_tells law members one version found plain =
+    law (lent one.beside.items) version one.plain
+    (All-weaker (IsOfKind Plain) IsWithoutPosts (λ m k. k.1) (lent one.beside.items) found.are_plain)
+    plain.said plain.no_local plain.no_post found.plain
+
+pub all_told : SimpleLaw → (lists : List Members) (one : OneRange) (version : VersionRecord) → FindsOne (members_of lists) one → IsSaid version
+    → all_take lists version
+    ≡ (holds_at version_cmp one.simple (At (without_local version)) && (matches_all (lent one.beside.items) version && matches_all (lent one.single.items) version))
+all_told law lists one version found said =
+    sym (members_take lists version) ∙ found.take version
+    ∙ ap (λ b. b && (matches_all (lent one.beside.items) version && matches_all (lent one.single.items) version))
+    (sym (law found.simple_members version one.simple
+    (All-weaker (IsOfKind Simple) IsSimple (λ m k. k.1) found.simple_members found.are_simple) said found.simple))
+
 -- a version without a local part is what is left of it without one
-pub public_is : (version : VersionRecord) → version.local ≡ [] → version ≡ without_local version
+public_is : (version : VersionRecord) → version.local ≡ [] → version ≡ without_local version
 public_is version plain = λ i. record version { local = plain i }
 
 pub held_public : (set : Set) (version : VersionRecord) → version.local ≡ []
     → holds_at version_cmp set (At version) ≡ holds_at version_cmp set (At (without_local version))
 held_public set version plain = ap (λ (v : VersionRecord). holds_at version_cmp set (At v)) (public_is version plain)
 
--- ---- all members, list by list
+-- ---- three questions, of which one may refuse
 
-pub lists_all : (P : SpecifierRecord → Type 0) (lists : List (Bor (List SpecifierRecord)))
-    → All (λ list. All P list.now) lists ↔ All P (listed lists)
-lists_all P [] = (λ h. All-nil P, λ h. All-nil (λ (list : Bor (List SpecifierRecord)). All P list.now))
-lists_all P (list ∷ lists) =
-    let Q : Bor (List SpecifierRecord) → Type 0 = λ list. All P list.now in (
-      λ h. All-append P list.now (listed lists) (All-head Q list lists h) ((lists_all P lists).0 (All-tail Q list lists h)),
-      λ h. All-cons Q list lists (all_front P list.now (listed lists) h) ((lists_all P lists).1 (all_back P list.now (listed lists) h)),
-    )
+first_refuses : (a b c all : Bool) → all ≡ (a && (b && c)) → a ≡ false → false ≡ all
+first_refuses a b c all h e = sym (h ∙ ap (λ x. x && (b && c)) e)
 
--- ---- of which versions it tells
+second_refuses : (a b c all : Bool) → all ≡ (a && (b && c)) → a ≡ true → b ≡ false → false ≡ all
+second_refuses a b c all h e f = sym (h ∙ (λ i. e i && (f i && c)))
 
-abbrev pub PlainLaw : Type 0
-PlainLaw =
-    (lists : List (List SpecifierRecord)) (set : Set) (version : VersionRecord)
-    → FindsRange (members_of lists) (Some set) → IsPlain version
-    → holds_at version_cmp set (At version) ≡ all_take lists version
+third_answers : (a b c all : Bool) → all ≡ (a && (b && c)) → a ≡ true → b ≡ true → c ≡ all
+third_answers a b c all h e f = sym (h ∙ (λ i. e i && (f i && c)))
 
-abbrev pub SimpleLaw : Type 0
-SimpleLaw =
-    (members : List SpecifierRecord) (version : VersionRecord) (set : Set)
-    → All IsSimple members → IsSaid version → GivesAll (Ok set) (map range_of members)
-    → holds_at version_cmp set (At (without_local version)) ≡ matches_all members version
+-- what a version is told where the ranges are asked first, and then the single members
+module _ (law : (lists : List Members) (one : OneRange) (version : VersionRecord) → FindsOne (members_of lists) one → IsSaid version
+    → all_take lists version
+    ≡ (holds_at version_cmp one.simple (At (without_local version)) && (matches_all (lent one.beside.items) version && matches_all (lent one.single.items) version)))
+    (one : OneRange) (version : VersionRecord) (said : IsSaid version)
+    (simple : Bool) (simple_is : simple ≡ holds_at version_cmp one.simple (At (without_local version))) where
+  pub first_told : simple ≡ false → (lists : List Members) → FindsOne (members_of lists) one → false ≡ all_take lists version
+  first_told e lists found =
+      first_refuses (holds_at version_cmp one.simple (At (without_local version))) (matches_all (lent one.beside.items) version)
+      (matches_all (lent one.single.items) version) (all_take lists version) (law lists one version found said) (sym simple_is ∙ e)
 
-pub tells : PlainLaw → SimpleLaw → (lists : List (List SpecifierRecord)) (set : Set) (simple : Bool)
-    (version : VersionRecord) → FindsRange (members_of lists) (Some set)
-    → (IsTrue simple ↔ All IsSimple (members_of lists)) → IsTold simple version
-    → holds_at version_cmp set (At (without_local version)) ≡ all_take lists version
-tells plain_law simple_law lists set true version found simple said =
-    simple_law (members_of lists) version set (simple.0 refl) said (found.0.there, found.1)
-    ∙ members_take lists version
-tells plain_law simple_law lists set false version found simple plain =
-    sym (held_public set version plain.no_local) ∙ plain_law lists set version found plain
+  pub second_told : simple ≡ true → (beside : Bool)
+      → ((members : Members) → FindsOne members one → beside ≡ matches_all (lent one.beside.items) version)
+      → beside ≡ false → (lists : List Members) → FindsOne (members_of lists) one → false ≡ all_take lists version
+  second_told e beside is f lists found =
+      second_refuses (holds_at version_cmp one.simple (At (without_local version))) (matches_all (lent one.beside.items) version)
+      (matches_all (lent one.single.items) version) (all_take lists version) (law lists one version found said)
+      (sym simple_is ∙ e) (sym (is (members_of lists) found) ∙ f)
+
+  pub third_told : simple ≡ true → (beside : Bool)
+      → ((members : Members) → FindsOne members one → beside ≡ matches_all (lent one.beside.items) version)
+      → beside ≡ true → (taken : Bool) → taken ≡ matches_all (lent one.single.items) version
+      → (lists : List Members) → FindsOne (members_of lists) one → taken ≡ all_take lists version
+  third_told e beside is f taken single lists found =
+      single ∙ third_answers (holds_at version_cmp one.simple (At (without_local version))) (matches_all (lent one.beside.items) version)
+      (matches_all (lent one.single.items) version) (all_take lists version) (law lists one version found said)
+      (sym simple_is ∙ e) (sym (is (members_of lists) found) ∙ f)

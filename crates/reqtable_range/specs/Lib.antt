@@ -1,2 +1,3 @@
 pub mod Together
+pub mod Sorting
 pub mod One

@@ -1,12 +1,17 @@
--- The one range of many lists, and whether it tells of all versions.
-use Rattle.std.specs.Prelude.{◌↔◌, IsTrue, List, All, Option, Some, None}
+-- The one range of many lists.
+use Rattle.std.specs.Prelude.{List, All}
 use Rattle.pep440_specifier.specs.Matching.{SpecifierRecord}
-use Rattle.pep440_range.specs.Agreement.{IsSimple}
 use Rattle.reqtable_range.specs.declared.one.OneRange.{OneRange}
-use Rattle.reqtable_range.specs.Together.{FindsRange}
+use Rattle.reqtable_range.specs.declared.sorting.Kind.TheVariants.{Simple, Plain, Single}
+use Rattle.reqtable_range.specs.Sorting.{IsOfKind, TakeAs}
+use Rattle.reqtable_range.specs.Together.{lent, IsShared}
 
--- the one range of all members, where each has one, and whether all of them are simple
-abbrev pub FindsOne : List SpecifierRecord → Option OneRange → Type 0
-FindsOne members None = FindsRange members None
-FindsOne members (Some one) =
-    FindsRange members (Some one.range) × (IsTrue one.is_simple ↔ All IsSimple members)
+-- the ranges of the simple and the plain ones of the members, these plain ones, and the single ones
+pub record FindsOne (members : List SpecifierRecord) (one : OneRange) : Type 0 where
+  pub simple_members : List SpecifierRecord
+  pub are_simple : All (IsOfKind Simple) simple_members
+  pub simple : IsShared simple_members one.simple
+  pub are_plain : All (IsOfKind Plain) (lent one.beside.items)
+  pub plain : IsShared (lent one.beside.items) one.plain
+  pub are_single : All (IsOfKind Single) (lent one.single.items)
+  pub take : TakeAs members simple_members (lent one.beside.items) (lent one.single.items)

@@ -1,15 +1,14 @@
--- What many lists of specifiers take together, and where a range tells it.
-use Rattle.std.specs.Prelude.{◌≡◌, Bool, true, false, List, [], map, All, Option, Some, None}
+-- What many lists of specifiers take together, and what a range of members is.
+use Rattle.std.specs.Prelude.{◌≡◌, Bool, true, List, [], map, None, Ok}
 use Rattle.std.specs.Option.{is_some}
 use Rattle.std.specs.List.{list_all, flat_map}
+use Rattle.std.specs.Borrow.{Bor}
 use Rattle.version_ranges.specs.Point.{Point}
-use Rattle.version_ranges.specs.Held.{holds_at}
 use Rattle.pep440_version.specs.Record.{VersionRecord}
-use Rattle.pep440_version.specs.Order.{version_cmp}
 use Rattle.pep440_specifier.specs.Matching.{SpecifierRecord}
 use Rattle.pep440_specifier_list.specs.Lists.{matches_all}
-use Rattle.pep440_range.specs.Agreement.{IsSaid, IsWithoutPosts}
-use Rattle.pep440_range.specs.Ranges.{range_of, all_hold}
+use Rattle.pep440_range.specs.Agreement.{IsSaid}
+use Rattle.pep440_range.specs.Ranges.{range_of, GivesAll}
 
 -- the members of all lists
 abbrev pub members_of : List (List SpecifierRecord) → List SpecifierRecord
@@ -19,25 +18,24 @@ members_of lists = flat_map (λ list. list) lists
 abbrev pub all_take : List (List SpecifierRecord) → VersionRecord → Bool
 all_take lists candidate = list_all (λ list. matches_all list candidate) lists
 
+-- the members that references lend
+abbrev pub lent : List (Bor SpecifierRecord) → List SpecifierRecord
+lent members = map (λ member. member.now) members
+
 -- a version without a local part and a post-release, which marks no end of a range
 pub record IsPlain (candidate : VersionRecord) : Type 0 where
   pub said : IsSaid candidate
   pub no_local : candidate.local ≡ []
   pub no_post : candidate.post ≡ None
 
--- the versions of which one range tells: all that texts say where each member is simple, else the plain ones
-abbrev pub IsTold : Bool → VersionRecord → Type 0
-IsTold true candidate = IsSaid candidate
-IsTold false candidate = IsPlain candidate
+-- a member has a range: no number at the end of 64 bits would have to be raised for it
+abbrev pub HasRange : SpecifierRecord → Type 0
+HasRange member = is_some (range_of member) ≡ true
 
--- each member has a range, which tells what it takes of plain versions
-pub record HaveRanges (members : List SpecifierRecord) : Type 0 where
-  pub agree : All IsWithoutPosts members
-  pub there : list_all is_some (map range_of members) ≡ true
+-- each member has one
+abbrev pub HaveRanges : List SpecifierRecord → Type 0
+HaveRanges members = list_all is_some (map range_of members) ≡ true
 
--- the one range of all members, where each has one
-abbrev pub FindsRange : List SpecifierRecord → Option (List (Point VersionRecord)) → Type 0
-FindsRange members (Some set) =
-    HaveRanges members
-    × ((p : Point VersionRecord) → holds_at version_cmp set p ≡ all_hold (map range_of members) p)
-FindsRange members None = ¬ (HaveRanges members)
+-- each member has one, and a set holds just the points that are in all of them
+abbrev pub IsShared : List SpecifierRecord → List (Point VersionRecord) → Type 0
+IsShared members set = GivesAll (Ok set) (map range_of members)

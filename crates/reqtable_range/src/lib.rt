@@ -1,4 +1,4 @@
-//! What many lists of specifiers take together, asked of one range.
+//! What many lists of specifiers take together: asked of one range, and of the few members that it can't tell.
 #![tactic(auto)]
 
 pub mod laws;
@@ -6,7 +6,6 @@ mod one;
 mod plain;
 mod shared;
 mod simple;
+mod sorting;
 
 pub use one::{OneRange, one_range};
-pub use plain::is_plain;
-pub use shared::range_of_all;

@@ -1,74 +1,124 @@
-//! The one range of many lists, and the versions of which it tells.
+//! The one range of many lists, and what it tells of versions.
 
-ghost use Rattle.std.specs.Prelude.{◌≡◌, ◌↔◌, IsTrue, map, is_some, IfOk, IfSome};
+ghost use Rattle.std.specs.Prelude.{◌≡◌, ◌↔◌, IsTrue, List, map, is_some, IfOk, IfSome};
 ghost use Rattle.version_ranges.specs.Point.{At};
 ghost use Rattle.version_ranges.specs.Held.{holds_at};
 ghost use Rattle.pep440_version.specs.Record.{without_local};
 ghost use Rattle.pep440_version.specs.Order.{version_cmp};
-ghost use Rattle.reqtable_range.specs.Together.{members_of, IsTold};
+ghost use Rattle.pep440_specifier.specs.Matching.{SpecifierRecord};
+ghost use Rattle.pep440_specifier_list.specs.Lists.{matches_all};
+ghost use Rattle.pep440_range.specs.Agreement.{IsSaid};
+ghost use Rattle.reqtable_range.specs.Together.{members_of, all_take, lent};
 ghost use Rattle.reqtable_range.specs.One.{FindsOne};
 
+use crate::laws::simple_range_tells_what_all_take;
 use crate::plain::{is_plain, is_said};
-use crate::shared::range_of_all;
-use crate::simple::are_simple;
+use crate::shared::shared_range;
+use crate::sorting::sorted_members;
+use pep440_range::laws::ranges_agree_beside_posts;
+use pep440_specifier::VersionSpecifier;
 use pep440_specifier_list::VersionSpecifiers;
 use pep440_version::Version;
 use std::alloc::{AllocError, Global};
 use version_ranges::Ranges;
 
-/// The one range of many lists, and whether all their members are simple: then it tells of each version, and
-/// else of those alone that have neither a local part nor a post-release.
+/// The one range of many lists, and the members that are asked beside it.
 #[derive(Drop)]
-pub struct OneRange {
-    pub range: Ranges<Version>,
-    pub is_simple: bool,
+pub struct OneRange<'a> {
+    /// The range of those members whose range tells of each version, asked without its local part.
+    pub simple: Ranges<Version>,
+    /// The range of those whose range tells of plain versions alone.
+    pub plain: Ranges<Version>,
+    /// These members themselves, which are asked of the versions that aren't plain.
+    pub beside: Vec<&'a VersionSpecifier>,
+    /// The members of which no range tells: each `===`, `<` or `>` beside a post-release, and what has no range.
+    pub single: Vec<&'a VersionSpecifier>,
 }
 
-impl OneRange {
-    /// Whether all lists take the version (`laws::one_range_tells_what_all_take`), where the range tells it.
+impl<'a> OneRange<'a> {
+    /// Whether all lists take the version. There is an answer for each version that marks no end of a range,
+    /// and so for all that texts say.
     ///
-    /// With n members that are O(log n) comparisons of versions. Takes memory for a copy of a version that
-    /// has a local part.
+    /// With n members in both ranges that are O(log n) comparisons of versions; beside these each single
+    /// member is asked, and for a version that isn't plain each one of `beside`, up to the first that refuses
+    /// it. Takes memory for a copy of a version that has a local part, and where a `===` is asked.
     pub fn tells(&self, alloc: Global, version: &Version) -> Result<Option<bool>, AllocError>
-        ensures taken { IfOk result (λ told. IfSome told (λ taken.
-            taken ≡ holds_at version_cmp self.now.range (At (without_local version.now)))) }
-        ensures told { IfOk result (λ told.
-            IsTrue (is_some told) ↔ IsTold self.now.is_simple version.now) }
+        ensures taken { IfOk result (λ told. IfSome told (λ taken. (lists : List (List SpecifierRecord)) →
+            FindsOne (members_of lists) self.now → taken ≡ all_take lists version.now)) }
+        ensures told { IfOk result (λ told. IsTrue (is_some told) ↔ IsSaid version.now) }
     {
-        if !is_told(self.is_simple, version) {
+        if !is_said(version) {
             return Ok(None);
         }
-        let held = holds_public(alloc, &self.range, version)?;
-        Ok(Some(held))
+        let taken = self.takes(alloc, version)?;
+        Ok(Some(taken))
+    }
+
+    fn takes(&self, alloc: Global, version: &Version) -> Result<bool, AllocError>
+        requires { IsSaid version.now }
+        ensures { IfOk result (λ taken. (lists : List (List SpecifierRecord)) →
+            FindsOne (members_of lists) self.now → taken ≡ all_take lists version.now) }
+    {
+        simple_range_tells_what_all_take();
+        let simple = holds_public(alloc, &self.simple, version)?;
+        if !simple {
+            return Ok(false);
+        }
+        let beside = self.takes_beside(alloc, version)?;
+        if !beside {
+            return Ok(false);
+        }
+        each_takes(alloc, &self.single, version)
+    }
+
+    /// Whether the members of `beside` take the version: by their range, where that is plain.
+    fn takes_beside(&self, alloc: Global, version: &Version) -> Result<bool, AllocError>
+        ensures { IfOk result (λ taken. (members : List SpecifierRecord) → FindsOne members self.now →
+            taken ≡ matches_all (lent self.now.beside.items) version.now) }
+    {
+        ranges_agree_beside_posts();
+        if is_plain(version) {
+            return Ok(self.plain.contains(version));
+        }
+        each_takes(alloc, &self.beside, version)
     }
 }
 
-/// The one range, and whether all members are simple; there is none where `range_of_all` finds none.
+/// The one range of the lists.
 ///
-/// Takes O(n log n) comparisons of versions for n members, and memory for the bounds.
-pub fn one_range(
+/// Takes O(n log n) comparisons of versions for n members, and memory for the bounds and for places of members.
+pub fn one_range<'a>(
     alloc: Global,
-    lists: &[&VersionSpecifiers],
-) -> Result<Option<OneRange>, AllocError>
+    lists: &[&'a VersionSpecifiers],
+) -> Result<OneRange<'a>, AllocError>
     ensures { IfOk result (FindsOne (members_of (map (λ list. list.now) lists.now))) }
 {
-    match range_of_all(alloc, lists)? {
-        None => Ok(None),
-        Some(range) => Ok(Some(OneRange {
-            range,
-            is_simple: are_simple(lists),
-        })),
-    }
+    let sorted = sorted_members(alloc, lists)?;
+    let simple = shared_range(alloc, &sorted.simple)?;
+    let plain = shared_range(alloc, &sorted.plain)?;
+    Ok(OneRange {
+        simple,
+        plain,
+        beside: sorted.plain,
+        single: sorted.single,
+    })
 }
 
-fn is_told(is_simple: bool, version: &Version) -> bool
-    ensures { IsTrue result ↔ IsTold is_simple version.now }
+/// Whether each member takes the version, asked up to the first that doesn't.
+fn each_takes(
+    alloc: Global,
+    members: &[&VersionSpecifier],
+    version: &Version,
+) -> Result<bool, AllocError>
+    ensures { IfOk result (λ taken. taken ≡ matches_all (lent members.now) version.now) }
 {
-    if is_simple {
-        is_said(version)
-    } else {
-        is_plain(version)
+    for member in members {
+        let taken = member.contains(alloc, version)?;
+        if !taken {
+            return Ok(false);
+        }
     }
+    Ok(true)
 }
 
 /// Whether the range holds the version without its local part.

@@ -1,6 +1,6 @@
 //! Versions and specifiers of which a range tells what matching says.
 
-ghost use Rattle.std.specs.Prelude.{◌↔◌, IsTrue, All};
+ghost use Rattle.std.specs.Prelude.{◌↔◌, IsTrue};
 ghost use Rattle.pep440_range.specs.Agreement.{IsSaid, AgreesBesidePosts, IsWithoutPosts};
 ghost use Rattle.reqtable_range.specs.Together.{IsPlain};
 
@@ -8,7 +8,7 @@ use pep440_specifier::{Operator, VersionSpecifier};
 use pep440_version::Version;
 
 /// Whether the version has neither a local part nor a post-release, and marks no end of a range.
-pub fn is_plain(version: &Version) -> bool
+pub(crate) fn is_plain(version: &Version) -> bool
     ensures { IsTrue result ↔ IsPlain version.now }
 {
     is_said(version) && version.local().is_empty() && version.post().is_none()
@@ -20,19 +20,8 @@ pub(crate) fn is_said(version: &Version) -> bool
     version.min().is_none() && version.max().is_none()
 }
 
-/// Whether each member agrees with its range at all plain versions.
-pub(crate) fn are_without_posts(members: &[VersionSpecifier]) -> bool
-    ensures { IsTrue result ↔ All IsWithoutPosts members.now }
-{
-    for member in members {
-        if !is_without_posts(member) {
-            return false;
-        }
-    }
-    true
-}
-
-fn is_without_posts(member: &VersionSpecifier) -> bool
+/// Whether the member agrees with its range at all plain versions.
+pub(crate) fn is_without_posts(member: &VersionSpecifier) -> bool
     ensures { IsTrue result ↔ IsWithoutPosts member.now }
 {
     let version = member.version();

@@ -1,37 +1,14 @@
 //! Specifiers of which a range tells what matching says of each version.
 
-ghost use Rattle.std.specs.Prelude.{◌↔◌, IsTrue, All};
+ghost use Rattle.std.specs.Prelude.{◌↔◌, IsTrue};
 ghost use Rattle.pep440_range.specs.Agreement.{IsFinal, AgreesEverywhere, IsSimple};
 
 use crate::plain::is_said;
 use pep440_specifier::{Operator, VersionSpecifier};
-use pep440_specifier_list::VersionSpecifiers;
 use pep440_version::Version;
 
-/// Whether each member of the lists has no local part, and agrees with its range at all versions.
-pub(crate) fn are_simple(lists: &[&VersionSpecifiers]) -> bool
-    ensures { IsTrue result ↔ All (λ list. All IsSimple list.now) lists.now }
-{
-    for list in lists {
-        if !are_simple_members(list.as_slice()) {
-            return false;
-        }
-    }
-    true
-}
-
-fn are_simple_members(members: &[VersionSpecifier]) -> bool
-    ensures { IsTrue result ↔ All IsSimple members.now }
-{
-    for member in members {
-        if !is_simple(member) {
-            return false;
-        }
-    }
-    true
-}
-
-fn is_simple(member: &VersionSpecifier) -> bool
+/// Whether the member has no local part, and agrees with its range at all versions.
+pub(crate) fn is_simple(member: &VersionSpecifier) -> bool
     ensures { IsTrue result ↔ IsSimple member.now }
 {
     let version = member.version();

@@ -5,6 +5,6 @@ use Rattle.reqtable_answer.proofs.ranged.range_of.Goals as goal
 
 pub returns : goal.returns
 returns c =
-    range_tells c.one_range_tells_what_all_take.ensures c.args.asks.now (map (λ list. list.now) c.deref.result.now)
-    (λ v. ap (λ lists. all_take (map (λ list. list.now) lists) v) c.deref.ensures.value ∙ c.in_ok-lists.ensures v)
-    c.one_range.result c.one_range.ensures
+    range_tells c.args.asks.now (map (λ list. list.now) c.deref-2.result.now)
+    (λ v. ap (λ lists. all_take (map (λ list. list.now) lists) v) c.deref-2.ensures.value ∙ c.in_ok-lists.ensures v)
+    c.in_ok-one_range.ensures

@@ -1,14 +1,25 @@
-use Rattle.std.proofs.Common.{subst}
-use Rattle.pep440_range.specs.Agreement.{IsSimple}
-use Rattle.reqtable_range.specs.Together.{FindsRange}
-use Rattle.reqtable_range.proofs.Halves.{listed}
-use Rattle.reqtable_range.proofs.Telling.{lists_all}
+use Rattle.std.proofs.Common.{sym, subst, All}
+use Rattle.reqtable_range.specs.declared.sorting.Kind.TheVariants.{Simple, Plain}
+use Rattle.reqtable_range.specs.Sorting.{IsOfKind}
+use Rattle.reqtable_range.specs.Together.{lent, IsShared}
+use Rattle.reqtable_range.proofs.Telling.{simple_have, plain_have}
 use Rattle.reqtable_range.proofs.one.one_range.Goals as goal
 
-pub returns-in-Some : goal.returns-in-Some
-returns-in-Some c =
-    let lists = c.args.lists.now in
-    let each = lists_all IsSimple lists in (
-      subst (FindsRange (listed lists)) c.in-Some.is c.in_ok-range_of_all.ensures,
-      (λ h. each.0 (c.are_simple.ensures.0 h), λ h. c.are_simple.ensures.1 (each.1 h)),
-    )
+pub shared_range-requires : goal.shared_range-requires
+shared_range-requires c =
+    simple_have (lent c.deref.result.now) (subst (λ members. All (IsOfKind Simple) (lent members)) (sym c.deref.ensures.value) c.in_ok-sorted.ensures.simple)
+
+pub shared_range-requires-2 : goal.shared_range-requires-2
+shared_range-requires-2 c =
+    plain_have (lent c.deref-2.result.now) (subst (λ members. All (IsOfKind Plain) (lent members)) (sym c.deref-2.ensures.value) c.in_ok-sorted.ensures.plain)
+
+pub returns : goal.returns
+returns c = record {
+  simple_members = lent c.in_ok-sorted.sorted.simple.items;
+  are_simple = c.in_ok-sorted.ensures.simple;
+  simple = subst (λ members. IsShared (lent members) c.in_ok-simple.simple) c.deref.ensures.value c.in_ok-simple.ensures;
+  are_plain = c.in_ok-sorted.ensures.plain;
+  plain = subst (λ members. IsShared (lent members) c.in_ok-plain.plain) c.deref-2.ensures.value c.in_ok-plain.ensures;
+  are_single = c.in_ok-sorted.ensures.single;
+  take = c.in_ok-sorted.ensures.take;
+}

@@ -1,0 +1,135 @@
+//! The members of many lists, by what a range tells of them.
+
+ghost use Rattle.std.specs.Prelude.{◌≡◌, [], ◌∷◌, ◌++◌, List, map, IfOk, OnOk};
+ghost use Rattle.std.specs.Option.{is_some};
+ghost use Rattle.pep440_specifier.specs.Matching.{SpecifierRecord};
+ghost use Rattle.pep440_range.specs.Ranges.{range_of};
+ghost use Rattle.reqtable_range.specs.Sorting.{IsOfKind, SortsInto};
+ghost use Rattle.reqtable_range.specs.Together.{members_of};
+
+use crate::plain::is_without_posts;
+use crate::simple::is_simple;
+use pep440_range::{RangeError, specifier_to_range};
+use pep440_specifier::{Operator, VersionSpecifier};
+use pep440_specifier_list::VersionSpecifiers;
+use std::alloc::{AllocError, Global};
+
+/// Of which versions a member's range tells whether the member takes them.
+#[derive(Clone, Copy)]
+pub(crate) enum Kind {
+    /// Of all that texts say, asked without their local part.
+    Simple,
+    /// Of the plain ones.
+    Plain,
+    /// Of none: a `===`, `<` or `>` beside a post-release, or a member without a range.
+    Single,
+}
+
+/// Members by their kinds.
+#[derive(Drop)]
+pub(crate) struct Sorted<'a> {
+    pub(crate) simple: Vec<&'a VersionSpecifier>,
+    pub(crate) plain: Vec<&'a VersionSpecifier>,
+    pub(crate) single: Vec<&'a VersionSpecifier>,
+}
+
+/// The members of all lists, by their kinds.
+pub(crate) fn sorted_members<'a>(
+    alloc: Global,
+    lists: &[&'a VersionSpecifiers],
+) -> Result<Sorted<'a>, AllocError>
+    ensures { IfOk result (SortsInto (members_of (map (λ list. list.now) lists.now))) }
+{
+    let mut sorted = Sorted {
+        simple: Vec::new(alloc),
+        plain: Vec::new(alloc),
+        single: Vec::new(alloc),
+    };
+    for list in lists {
+        add_all(alloc, &mut sorted, list.as_slice())?;
+    }
+    Ok(sorted)
+}
+
+fn add_all<'a>(
+    alloc: Global,
+    sorted: &mut Sorted<'a>,
+    members: &'a [VersionSpecifier],
+) -> Result<(), AllocError>
+    ensures { OnOk result ((before : List SpecifierRecord) →
+        SortsInto before sorted.old → SortsInto (before ++ members.now) sorted.new) }
+{
+    for member in members {
+        add(alloc, sorted, member)?;
+    }
+    Ok(())
+}
+
+fn add<'a>(
+    alloc: Global,
+    sorted: &mut Sorted<'a>,
+    member: &'a VersionSpecifier,
+) -> Result<(), AllocError>
+    ensures { OnOk result ((before : List SpecifierRecord) →
+        SortsInto before sorted.old → SortsInto (before ++ member.now ∷ []) sorted.new) }
+{
+    match kind_of(alloc, member)? {
+        Kind::Simple => {
+            sorted.simple.push(member)?;
+            Ok(())
+        }
+        Kind::Plain => {
+            sorted.plain.push(member)?;
+            Ok(())
+        }
+        Kind::Single => {
+            sorted.single.push(member)?;
+            Ok(())
+        }
+    }
+}
+
+fn kind_of(alloc: Global, member: &VersionSpecifier) -> Result<Kind, AllocError>
+    ensures { IfOk result (λ kind. IsOfKind kind member.now) }
+{
+    if !is_without_posts(member) {
+        return Ok(Kind::Single);
+    }
+    let there = has_range(alloc, member)?;
+    if !there {
+        return Ok(Kind::Single);
+    }
+    if is_simple(member) {
+        Ok(Kind::Simple)
+    } else {
+        Ok(Kind::Plain)
+    }
+}
+
+/// Whether the member has a range. Only where a number of it would be raised is the range made for that.
+fn has_range(alloc: Global, member: &VersionSpecifier) -> Result<bool, AllocError>
+    ensures { IfOk result (λ there. there ≡ is_some (range_of member.now)) }
+{
+    match member.operator() {
+        Operator::Equal
+        | Operator::ExactEqual
+        | Operator::NotEqual
+        | Operator::LessThan
+        | Operator::LessThanEqual
+        | Operator::GreaterThanEqual => Ok(true),
+        Operator::EqualStar
+        | Operator::NotEqualStar
+        | Operator::TildeEqual
+        | Operator::GreaterThan => makes_range(alloc, member),
+    }
+}
+
+fn makes_range(alloc: Global, member: &VersionSpecifier) -> Result<bool, AllocError>
+    ensures { IfOk result (λ there. there ≡ is_some (range_of member.now)) }
+{
+    match specifier_to_range(alloc, member) {
+        Ok(_) => Ok(true),
+        Err(RangeError::NumberAtEnd) => Ok(false),
+        Err(RangeError::Memory) => Err(AllocError),
+    }
+}
