@@ -1,5 +1,5 @@
 -- Pairs of what stands in two nodes of one variable.
-use Rattle.std.proofs.Common.{◌≡◌, ℕ, List, refl, ap, sym, subst, arith, Equal, nat_cmp}
+use Rattle.std.proofs.Common.{◌≡◌, inl, inr, ℕ, Bool, true, false, cond, List, [], ◌∷◌, refl, ap, sym, subst, arith, Equal, nat_cmp}
 use Rattle.pep440_text.specs.Record.{VersionRecord}
 use Rattle.pep440_version.specs.Order.{version_cmp}
 use Rattle.version_ranges.specs.Point.{Point}
@@ -9,11 +9,14 @@ use Rattle.pep508_diagram.specs.declared.variable.VersionVariable.{VersionVariab
 use Rattle.pep508_diagram.specs.Text.{text_cmp}
 use Rattle.pep508_diagram.specs.Branches.{RisingBranches, branch_at, AllBranches}
 use Rattle.pep508_diagram.specs.Chains.{IsChild}
+use Rattle.pep508_diagram.specs.Pairing.{AreChildPairs}
 use Rattle.pep508_diagram.specs.declared.variable.Flag.{Flag}
 use Rattle.pep508_diagram.specs.Question.{version_rank, text_rank, flag_rank}
 use Rattle.pep508_diagram.proofs.Places.{both_equal, numbers_same, texts_same, versions_same, text_keys_same, flags_same, version_rank_below, rank_below, flag_rank_from}
 use Rattle.pep508_tree.specs.Tree.{Tree}
 use Rattle.pep508_tree.specs.Meaning.{NodeRecord, Versions, Texts, Flagged}
+use Rattle.pep508_tree.specs.declared.node.Side.{Side}
+use Rattle.pep508_tree.specs.Sides.{with_side, HavePairs}
 use Rattle.pep508_tree.specs.Nodes.{counterpart, Paired, node_rank, node_text, node_place, first_child, second_child, version_branches, text_branches}
 
 pub versions_paired : (a : NodeRecord) (key : VersionVariable) (own : Tree)
@@ -45,6 +48,51 @@ texts_paired a key own later first versions texts second pairs e points rises ch
     subst (λ (n : NodeRecord). Paired n (counterpart n first versions texts second)
     (Texts key (own, first) pairs)) e
     (record { place_is = refl; rises = rises; chosen_is = λ v. points (v.text key); children = children })
+
+-- ---- pairs of a node and a side, in turn
+
+pub versions_pairs : (a : NodeRecord) (key : VersionVariable) (own : Tree)
+    (later : List (Branch VersionRecord Tree)) (side : Side) (pairs : List (Tree × Tree)) →
+    Versions key own later ≡ a → AreChildPairs version_cmp own later side.first side.versions.now pairs →
+    HavePairs (Paired a (with_side a side)) pairs
+versions_pairs a key own later side pairs e are = (
+  Versions key (own, side.first) are.branches,
+  are.pairs_are,
+  versions_paired a key own later side.first side.versions.now side.texts.now side.second are.branches e
+      are.points are.rises are.children,
+)
+
+pub texts_pairs : (a : NodeRecord) (key : MarkerValueString) (own : Tree)
+    (later : List (Branch (List ℕ) Tree)) (side : Side) (pairs : List (Tree × Tree)) →
+    Texts key own later ≡ a → AreChildPairs text_cmp own later side.first side.texts.now pairs →
+    HavePairs (Paired a (with_side a side)) pairs
+texts_pairs a key own later side pairs e are = (
+  Texts key (own, side.first) are.branches,
+  are.pairs_are,
+  texts_paired a key own later side.first side.versions.now side.texts.now side.second are.branches e
+      are.points are.rises are.children,
+)
+
+pub flag_pairs : (a : NodeRecord) (flag : Flag) (set unset : Tree) (side : Side) (pairs : List (Tree × Tree)) →
+    Flagged flag set unset ≡ a → pairs ≡ (set, side.first) ∷ (unset, side.second) ∷ [] →
+    HavePairs (Paired a (with_side a side)) pairs
+flag_pairs a flag set unset side pairs e are =
+    let node = Flagged flag (set, side.first) (unset, side.second) in (
+      node,
+      are,
+      subst (λ (n : NodeRecord). Paired n (with_side n side) node) e
+          (record {
+            place_is = refl;
+            rises = tt;
+            chosen_is = λ v. either (v.flag flag);
+            children = ((inl refl, inl refl), (inr refl, inr refl));
+          }),
+    )
+  where
+    either : (b : Bool) → cond b (set, side.first) (unset, side.second)
+        ≡ (cond b set unset, cond b side.first side.second)
+    either true = refl
+    either false = refl
 
 -- ---- nodes of one variable
 

@@ -9,7 +9,7 @@ use Rattle.pep508_diagram.proofs.Places.{texts_same}
 use Rattle.pep508_diagram.proofs.Turned.{flips_twice}
 use Rattle.pep508_tree.specs.Tree.{Tree}
 use Rattle.pep508_tree.specs.Meaning.{NodeOf, NodeRecord, Versions, Texts, Flagged, holds, IsTree}
-use Rattle.pep508_tree.specs.Nodes.{AllChildren, IsChildIn, Above, AreSound, Paired, Splits, chosen, counterpart, node_at, node_place, turned}
+use Rattle.pep508_tree.specs.Nodes.{AllChildren, IsChildIn, Above, AreSound, IsRising, Paired, Splits, chosen, counterpart, node_at, node_place, turned}
 use Rattle.pep508_tree.specs.Places.{nodes_of}
 use Rattle.pep508_tree.proofs.NodeChildren.{weaker_children}
 use Rattle.pep508_tree.proofs.Meanings.{chosen_child, each_child, holds_at, holds_turned}
@@ -156,6 +156,11 @@ module _ (nodes : List NodeRecord) (sound : AreSound nodes) where
   alone_in (Texts key first later) u c is = is
   alone_in (Flagged flag set unset) u c (inl is) = is
   alone_in (Flagged flag set unset) u c (inr is) = is
+
+  pub alone_rises : (n : NodeRecord) (u : Tree) → IsRising (counterpart n u [] [] u)
+  alone_rises (Versions key first later) u = tt
+  alone_rises (Texts key first later) u = tt
+  alone_rises (Flagged flag set unset) u = tt
 
   back : (t : Tree) → t ≡ turned t.negated (turned t.negated t)
   back t = λ i. record { place = t.place; negated = sym (flips_twice t.negated t.negated) i }

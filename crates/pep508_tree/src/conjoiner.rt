@@ -7,6 +7,7 @@ ghost use Rattle.std.specs.List.{AllByRecursion};
 ghost use Rattle.pep508_diagram.specs.Text.{text_cmp};
 ghost use Rattle.pep508_tree.specs.Meaning.{NodeRecord, IsTree, Extends};
 ghost use Rattle.pep508_tree.specs.Forms.{record_of};
+ghost use Rattle.pep508_tree.specs.Sides.{HavePairs};
 ghost use Rattle.pep508_tree.specs.Nodes.{AreSound, first_place, node_place, node_at, Above, AllChildren, IsRising, IsJoined, Splits, Made};
 ghost use Rattle.pep508_tree.specs.Joining.{node_joined};
 ghost use Rattle.pep508_tree.specs.Conjunctions.{Conjunction, ArePairs, Meet};
@@ -194,6 +195,23 @@ impl Conjoiner {
         ensures { IfOk result (λ pairs. Splits self.now a b (record_of pairs.value)) }
     {
         Ok(Box::new(self.allocator(), self.table.split(a, b)?)?)
+    }
+
+    /// The same pairs, in turn. Copies no boundary.
+    pub fn pairs(
+        &self,
+        alloc: Global,
+        a: MarkerTree,
+        b: MarkerTree,
+    ) -> Result<Vec<Pair>, AllocError>
+        requires a { IsTree self.now a }
+        requires b { IsTree self.now b }
+        requires a_node { 0 < a.place }
+        requires b_node { 0 < b.place }
+        requires ordered { is_gt (text_cmp (first_place self.now a) (first_place self.now b)) ≡ false }
+        ensures { IfOk result (λ pairs. HavePairs (Splits self.now a b) pairs.items) }
+    {
+        self.table.pairs(alloc, a, b)
     }
 
     /// The tree of a form, of which each child asks for later variables only.

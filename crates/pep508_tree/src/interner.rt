@@ -136,7 +136,7 @@ impl Interner {
 
     /// The pairs of what stands in two trees for each answer about the variable that comes first in them,
     /// each with a tree of the one and a tree of the other. The only refusal is want of memory. Takes as many
-    /// steps as the two trees' nodes have boundaries, which it copies.
+    /// steps as the two trees' nodes have boundaries, of which it copies none.
     pub fn pairs(
         &self,
         alloc: Global,
@@ -151,8 +151,7 @@ impl Interner {
     {
         self.conjoiner.are_sound();
         let (first, second) = self.conjoiner.in_order(a, b);
-        let form = self.conjoiner.split(first, second)?;
-        let pairs = form.children(alloc)?;
+        let pairs = self.conjoiner.pairs(alloc, first, second)?;
         Ok(turned_pairs(pairs, first.is_negated(), second.is_negated()))
     }
 }

@@ -8,6 +8,8 @@ ghost use Rattle.pep508_diagram.specs.Text.{text_cmp};
 ghost use Rattle.std.specs.declared.cmp.Ordering.TheVariants.{Equal};
 ghost use Rattle.pep508_tree.specs.Forms.{record_of};
 ghost use Rattle.pep508_tree.specs.Joining.{children, joined, node_joined, head, tail};
+ghost use Rattle.pep508_tree.specs.Sides.{with_side, HavePairs};
+ghost use Rattle.pep508_tree.specs.Meaning.{NodeRecord};
 ghost use Rattle.pep508_tree.specs.Nodes.{node_rank, node_text, node_place, version_branches, text_branches};
 ghost use Rattle.pep508_tree.specs.Nodes.{first_child, second_child, counterpart, IsRising, Paired, signed, branch_cmp, node_cmp};
 ghost use Rattle.pep508_tree.specs.Disjoint.{turned_pair};
@@ -17,7 +19,9 @@ ghost use Rattle.pep508_tree.specs.NodeLaws.{nodes_total};
 use crate::root::{Children, TreeNode};
 use crate::tree::MarkerTree;
 use pep440_version::Version;
-use pep508_diagram::{Branch, Flag, MarkerText, NodeValue, VersionVariable, paired, text_rank};
+use pep508_diagram::{
+    Branch, Flag, MarkerText, NodeValue, VersionVariable, paired, paired_children, text_rank,
+};
 use pep508_marker::MarkerValueString;
 use std::alloc::{AllocError, Global};
 use std::cmp::Ordering;
@@ -136,6 +140,29 @@ impl Form<Pair> {
             ),
             Form::Flagged(flag, _, _) => Form::Flagged(flag, first, first_and_others(others).0),
         })
+    }
+}
+
+/// What stands in a tree for each answer about a variable.
+#[derive(Clone, Copy)]
+pub(crate) struct Side<'a> {
+    first: MarkerTree,
+    versions: &'a [Branch<Version, MarkerTree>],
+    texts: &'a [Branch<MarkerText, MarkerTree>],
+    second: MarkerTree,
+}
+
+impl<'a> Side<'a> {
+    /// Of a tree that does not ask for the variable.
+    pub fn of_tree(tree: MarkerTree) -> Side<'a>
+        ensures { (node : NodeRecord) → with_side node result ≡ counterpart node tree [] [] tree }
+    {
+        Side {
+            first: tree,
+            versions: &[],
+            texts: &[],
+            second: tree,
+        }
     }
 }
 
@@ -284,59 +311,60 @@ impl Node {
         }
     }
 
-    /// The pairs of what stands here and in a node of the same variable, of which the children are given.
-    fn paired(
-        &self,
-        alloc: Global,
-        first: MarkerTree,
-        versions: &[Branch<Version, MarkerTree>],
-        texts: &[Branch<MarkerText, MarkerTree>],
-        second: MarkerTree,
-    ) -> Result<Form<Pair>, AllocError>
+    /// What stands here for each answer about the node's variable.
+    pub fn side(&self) -> Side<'_>
+        ensures { (node : NodeRecord) → text_cmp (node_place node) (node_place self.now) ≡ Equal →
+            with_side node result ≡ self.now }
+    {
+        Side {
+            first: self.first(),
+            versions: self.versions(),
+            texts: self.texts(),
+            second: self.second(),
+        }
+    }
+
+    /// The pairs of what stands here and in a side of the same variable.
+    pub fn paired(&self, alloc: Global, side: Side<'_>) -> Result<Form<Pair>, AllocError>
         requires rising { IsRising self.now }
-        requires other_rising { IsRising (counterpart self.now first versions.now texts.now second) }
+        requires side_rising { IsRising (with_side self.now side) }
         ensures { IfOk result (λ pairs.
-            Paired self.now (counterpart self.now first versions.now texts.now second) (record_of pairs)) }
+            Paired self.now (with_side self.now side.entry) (record_of pairs)) }
     {
         match &self.form {
-            Form::Versions(key, own, later) => {
-                let pairs = paired(alloc, *own, later, first, versions)?;
-                Ok(Form::Versions(*key, (*own, first), pairs))
+            Form::Versions(key, first, later) => {
+                let pairs = paired(alloc, *first, later, side.first, side.versions)?;
+                Ok(Form::Versions(*key, (*first, side.first), pairs))
             }
-            Form::Texts(key, own, later) => {
-                let pairs = paired(alloc, *own, later, first, texts)?;
-                Ok(Form::Texts(*key, (*own, first), pairs))
+            Form::Texts(key, first, later) => {
+                let pairs = paired(alloc, *first, later, side.first, side.texts)?;
+                Ok(Form::Texts(*key, (*first, side.first), pairs))
             }
             Form::Flagged(flag, set, unset) => {
                 let flag = flag.try_clone(alloc)?;
-                Ok(Form::Flagged(flag, (*set, first), (*unset, second)))
+                Ok(Form::Flagged(flag, (*set, side.first), (*unset, side.second)))
             }
         }
     }
 
-    /// The pairs of each child and a tree that does not ask for the variable.
-    pub fn with_tree(&self, alloc: Global, tree: MarkerTree) -> Result<Form<Pair>, AllocError>
-        requires { IsRising self.now }
-        ensures { IfOk result (λ pairs.
-            Paired self.now (counterpart self.now tree [] [] tree) (record_of pairs)) }
-    {
-        self.paired(alloc, tree, &[], &[], tree)
-    }
-
-    /// The pairs of what stands here and in a node of the same variable.
-    pub fn with_node(&self, alloc: Global, other: &Node) -> Result<Form<Pair>, AllocError>
-        requires same { text_cmp (node_place self.now) (node_place other.now) ≡ Equal }
+    /// The same pairs, in turn. Copies no boundary and no flag.
+    pub fn pairs(&self, alloc: Global, side: Side<'_>) -> Result<Vec<Pair>, AllocError>
         requires rising { IsRising self.now }
-        requires other_rising { IsRising other.now }
-        ensures { IfOk result (λ pairs. Paired self.now other.now (record_of pairs)) }
+        requires side_rising { IsRising (with_side self.now side) }
+        ensures { IfOk result (λ pairs.
+            HavePairs (Paired self.now (with_side self.now side.entry)) pairs.items) }
     {
-        self.paired(
-            alloc,
-            other.first(),
-            other.versions(),
-            other.texts(),
-            other.second(),
-        )
+        match &self.form {
+            Form::Versions(_, first, later) => {
+                paired_children(alloc, *first, later, side.first, side.versions)
+            }
+            Form::Texts(_, first, later) => {
+                paired_children(alloc, *first, later, side.first, side.texts)
+            }
+            Form::Flagged(_, set, unset) => {
+                Ok(vec![in alloc; (*set, side.first), (*unset, side.second)]?)
+            }
+        }
     }
 }
 

@@ -5,10 +5,11 @@ ghost use Rattle.std.specs.Ordering.{is_gt};
 ghost use Rattle.pep508_diagram.specs.Text.{text_cmp};
 ghost use Rattle.pep508_tree.specs.Meaning.{IsTree, Extends};
 ghost use Rattle.pep508_tree.specs.Forms.{record_of};
+ghost use Rattle.pep508_tree.specs.Sides.{HavePairs, AreSides};
 ghost use Rattle.pep508_tree.specs.Nodes.{AreSound, IsSoundNode, IsPlaced, IsAlone, IsRising, IsJoined, AllChildren, Above};
 ghost use Rattle.pep508_tree.specs.Nodes.{first_place, node_place, node_at, Splits, Made, first_child, signed, turned_branch, short_node};
 
-use crate::node::{Form, Node, Pair};
+use crate::node::{Form, Node, Pair, Side};
 use crate::tree::MarkerTree;
 use pep508_diagram::{Branch, shortened_branches};
 use std::alloc::{AllocError, Global};
@@ -156,6 +157,25 @@ impl NodeTable {
         }
     }
 
+    /// The first tree's node, and what stands in the second for each answer about the node's variable, which
+    /// does not come after that of the second. Both without the trees' signs.
+    fn sides(&self, a: MarkerTree, b: MarkerTree) -> (&Node, Side<'_>)
+        requires a { IsTree self.now a }
+        requires b { IsTree self.now b }
+        requires a_node { 0 < a.place }
+        requires b_node { 0 < b.place }
+        requires ordered { is_gt (text_cmp (first_place self.now a) (first_place self.now b)) ≡ false }
+        ensures { AreSides self.now a b result.0.now result.1 }
+    {
+        let first: &Node = &self.nodes[a.place() - 1];
+        let second: &Node = &self.nodes[b.place() - 1];
+        if first.cmp_variable(second).is_eq() {
+            (first, second.side())
+        } else {
+            (first, Side::of_tree(b.turned(b.is_negated())))
+        }
+    }
+
     /// The pairs of what stands in two trees for each answer about the variable that comes first in them,
     /// without the trees' signs. The first tree's variable does not come after that of the second.
     pub fn split(&self, a: MarkerTree, b: MarkerTree) -> Result<Form<Pair>, AllocError>
@@ -166,13 +186,26 @@ impl NodeTable {
         requires ordered { is_gt (text_cmp (first_place self.now a) (first_place self.now b)) ≡ false }
         ensures { IfOk result (λ pairs. Splits self.now a b (record_of pairs)) }
     {
-        let first: &Node = &self.nodes[a.place() - 1];
-        let second: &Node = &self.nodes[b.place() - 1];
-        if first.cmp_variable(second).is_eq() {
-            first.with_node(self.alloc, second)
-        } else {
-            first.with_tree(self.alloc, b.turned(b.is_negated()))
-        }
+        let (first, second) = self.sides(a, b);
+        first.paired(self.alloc, second)
+    }
+
+    /// The same pairs, in turn. Copies no boundary.
+    pub fn pairs(
+        &self,
+        alloc: Global,
+        a: MarkerTree,
+        b: MarkerTree,
+    ) -> Result<Vec<Pair>, AllocError>
+        requires a { IsTree self.now a }
+        requires b { IsTree self.now b }
+        requires a_node { 0 < a.place }
+        requires b_node { 0 < b.place }
+        requires ordered { is_gt (text_cmp (first_place self.now a) (first_place self.now b)) ≡ false }
+        ensures { IfOk result (λ pairs. HavePairs (Splits self.now a b) pairs.items) }
+    {
+        let (first, second) = self.sides(a, b);
+        first.pairs(alloc, second)
     }
 
     /// The place of a node that stands here, or is put here now. A refusal stores nothing.
