@@ -1,6 +1,8 @@
 -- Bytes that are text, and bytes that are none.
-use Rattle.std.proofs.Common.{◌≡◌, ◌∙◌, ◌++◌, ℕ, Bool, true, false, List, Option, Some, None, Result, Ok, Err, IfOk, IfSome, String, string_bytes, ap, refl}
+use Rattle.std.proofs.Common.{◌≡◌, ◌∙◌, ◌++◌, ℕ, Bool, true, false, List, Option, Some, None, Result, Ok, Err, IfOk, IfSome, String, string_bytes, length, take, ap, refl}
+use Rattle.std.proofs.Math.Seq.{take-append_seam}
 use Rattle.std.specs.Fmt.{◌++?◌}
+use Rattle.std.specs.Io.{StartsWith}
 use Rattle.std.proofs.lemmas.Str.{IsUtf8-from_is_utf8}
 use Rattle.std.specs.Str.{is_utf8, IsUtf8}
 
@@ -24,3 +26,10 @@ pub said_behind : {Y E : Type 0} (made : Result (String Y) E) (front shown : Lis
 said_behind (Ok text) front shown None e h = tt
 said_behind (Ok text) front shown (Some wanted) e h = h ∙ ap (λ l. front ++ l) e
 said_behind (Err error) front shown said e h = tt
+
+-- such a text begins so
+pub begins : {Y E : Type 0} (made : Result (String Y) E) (front shown : List ℕ)
+    → IfOk made (λ text. string_bytes text ≡ front ++ shown)
+    → IfOk made (λ text. StartsWith (string_bytes text) front)
+begins (Ok text) front shown h = ap (take (length front)) h ∙ take-append_seam front shown
+begins (Err error) front shown h = tt

@@ -1,6 +1,7 @@
 -- What is said of a fault, by the paths of the inputs.
 use Rattle.std.specs.Prelude.{ℕ, List, ◌++◌, codes, Option, Some}
 use Rattle.std.specs.Fmt.{◌++?◌, decimal}
+use Rattle.std.specs.Io.{StartsWith}
 use Rattle.pep508_environment.specs.Environment.{member_name}
 use Rattle.pep508_url.specs.UrlFaults.{url_error_text}
 use Rattle.pep508_url.specs.UrlTexts.{Verbatim}
@@ -41,12 +42,16 @@ abbrev pub member_text : List ℕ → ℕ → List ℕ → List ℕ → List ℕ
 member_text path index name what =
     path ++ codes ": environment " ++ decimal index ++ codes ": member " ++ name ++ codes " is " ++ what
 
--- a line that is no requirement, with the place in bytes of what is at fault, and below it what is said of
--- it; where that is the text of the crate `url`, nothing is claimed
+-- what is said first of a line that is no requirement: the place in bytes of what is at fault
+abbrev pub requirement_front : List ℕ → ℕ → Pep508Error Verbatim VerbatimUrlError → List ℕ
+requirement_front path number error =
+    path ++ codes ": line " ++ decimal number ++ codes ", byte " ++ decimal error.excerpt.start
+    ++ codes ", length " ++ decimal error.excerpt.len ++ codes "\n"
+
+-- and below it what the error says; where that is the text of the crate `url`, nothing is claimed here
 abbrev pub requirement_text : List ℕ → ℕ → Pep508Error Verbatim VerbatimUrlError → Option (List ℕ)
 requirement_text path number error =
-    Some (path ++ codes ": line " ++ decimal number ++ codes ", byte " ++ decimal error.excerpt.start
-    ++ codes ", length " ++ decimal error.excerpt.len ++ codes "\n") ++? error_text url_error_text error
+    Some (requirement_front path number error) ++? error_text url_error_text error
 
 -- what is said of a fault
 abbrev pub fault_text : List (List ℕ) → RunFault → Option (List ℕ)
@@ -70,3 +75,9 @@ fault_text paths (Version input index name) =
     Some (member_text (of_input paths input) index (member_name name) (codes "no version"))
 fault_text paths (Candidate input number cause) =
     Some (line_text (of_input paths input) number (cause_text cause))
+
+-- a text that says of a line that it is no requirement says so and where first, whatever stands behind that
+abbrev pub HasItsFront : List (List ℕ) → RunFault → List ℕ → Type 0
+HasItsFront paths (Requirement input number error) text =
+    StartsWith text (requirement_front (of_input paths input) number error)
+HasItsFront paths fault text = Unit {0}

@@ -85,8 +85,8 @@ IsOfInputs MaySay fault = Unit {0}
 abbrev pub IsPlain : RunFault → Type 0
 IsPlain = IsOfInputs (λ input error. ⊥)
 
--- it is of texts of which this input's is a list of requirements: what it says of a line that is no requirement
--- it says of this input, and it is the error of some line with this number
+-- it is of texts of which this input's is a list of requirements: what it says of a line that is none
+-- it says of this input, and is the error of some line with this number
 abbrev pub IsOfTexts : Variables → Input → List ℕ → RunFault → Type 0
 IsOfTexts vars list bytes =
     IsOfInputs (λ input error. (input ≡ list) × IsErrorIn vars (text_lines bytes) error)

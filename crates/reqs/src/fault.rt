@@ -1,12 +1,13 @@
 //! How a command ends: its statuses, its refusals and their texts.
 
 ghost use Rattle.std.specs.Prelude.{◌≡◌, map, string_bytes, IfOk, IfSome};
+ghost use Rattle.std.specs.Io.{StartsWith};
 ghost use Rattle.pep508_environment.specs.Environment.{member_name};
 ghost use Rattle.reqs.specs.Ends.{place_of, of_input};
 ghost use Rattle.reqs.specs.Faults.{status_of, IsOfEnvironment};
 ghost use Rattle.reqs.specs.Faults.{of_reading, of_requirements, of_environment, of_candidates};
 ghost use Rattle.reqs.specs.FaultText.{cause_text, shape_text, input_text, line_text, member_text};
-ghost use Rattle.reqs.specs.FaultText.{requirement_text, fault_text};
+ghost use Rattle.reqs.specs.FaultText.{requirement_front, requirement_text, fault_text, HasItsFront};
 
 use pep508_environment::{EnvironmentError, EnvironmentMember};
 use pep508_error::Pep508Error;
@@ -270,8 +271,10 @@ impl RunFault {
     /// What is said of the fault, without a line end. The paths are those of the inputs, in the
     /// order of the command line. Linear in the text.
     pub fn text(&self, alloc: Global, paths: &[&str]) -> Result<String, AllocError>
-        ensures { IfOk result (λ text. IfSome (fault_text (map (λ p. p.now) paths.now) self.now)
+        ensures text { IfOk result (λ text. IfSome (fault_text (map (λ p. p.now) paths.now) self.now)
             (λ wanted. string_bytes text ≡ wanted)) }
+        ensures front { IfOk result (λ text.
+            HasItsFront (map (λ p. p.now) paths.now) self.now (string_bytes text)) }
     {
         match self {
             RunFault::Read { input } => at(alloc, input.path(paths), "read fault"),
@@ -367,8 +370,10 @@ fn at_requirement(
     number: usize,
     error: &Pep508Error<VerbatimUrl>,
 ) -> Result<String, AllocError>
-    ensures { IfOk result (λ text. IfSome (requirement_text path.now number error.now)
+    ensures text { IfOk result (λ text. IfSome (requirement_text path.now number error.now)
         (λ wanted. string_bytes text ≡ wanted)) }
+    ensures front { IfOk result (λ text.
+        StartsWith (string_bytes text) (requirement_front path.now number error.now)) }
 {
     let text = error.to_string(alloc)?;
     let start = error.start();
