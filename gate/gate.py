@@ -53,6 +53,7 @@ def parts(more):
         Part("wrong edits fit", [*python, "gate/wrong.py", "--texts"]),
         Part("calls and least counts", [*python, "gate/asked.py"]),
         Part("constants in definitions", [*python, "gate/constants.py"]),
+        Part("lent calls", [*python, "gate/lent.py"]),
         Part("proofs", [*python, "gate/prove.py", *more]),
         Part("wrong edits", [*python, "gate/wrong.py", *more, "--gate"]),
         Part("command line", ["bash", "tests/cli.sh"], ["reqs_cli"], of_reqs),

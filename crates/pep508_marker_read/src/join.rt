@@ -8,7 +8,7 @@ ghost use Rattle.pep508_marker_read.specs.Formula.{joined};
 ghost use Rattle.pep508_marker_read.specs.TreeReading.{connective, joins, chain_truth, listed};
 
 use crate::word::Word;
-use pep508_tree::{Interner, MarkerTree};
+use pep508_tree::{Interner, MarkerTree, uncounted_conjunction};
 use std::alloc::{AllocError, Global};
 
 /// The tree of two trees with a word between them.
@@ -29,9 +29,9 @@ fn join_two(
     ensures counts { interner.new.conjunctions ≡ interner.old.conjunctions }
 {
     match word {
-        Word::And => interner.conjunction(alloc, a, b),
+        Word::And => uncounted_conjunction(alloc, interner, a, b),
         Word::Or => {
-            let neither = interner.conjunction(alloc, a.negate(), b.negate())?;
+            let neither = uncounted_conjunction(alloc, interner, a.negate(), b.negate())?;
             Ok(neither.negate())
         }
     }

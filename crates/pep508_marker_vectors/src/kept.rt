@@ -10,9 +10,10 @@ use pep508_environment::MarkerEnvironment;
 use pep508_evaluation::MarkerTreeEvaluation;
 use pep508_tree::{Interner, MarkerTree};
 use pep508_tree_laws::earlier_trees_keep;
-use std::alloc::Global;
+use std::alloc::{AllocError, Global};
 
-/// Two markers, and what is made of them: `and`, `or`, or a marker that is read beside them.
+/// Two markers, and what is made of them: `and`, `or`, `forgotten`, which is `and` once more after the first one
+/// was forgotten, or a marker that is read beside them.
 #[derive(Drop)]
 pub struct Call<'a> {
     pub left: &'a str,
@@ -100,10 +101,29 @@ fn made(
     let tree = match call {
         "and" => left.and(alloc, interner, right),
         "or" => left.or(alloc, interner, right),
+        "forgotten" => and_forgotten(alloc, interner, left, right),
         text => return read(alloc, interner, text),
     };
     match tree {
         Ok(tree) => Ok(tree),
         Err(_) => Err(Stop::Memory),
     }
+}
+
+/// The conjunction once it was made and forgotten, of the trees in their other order.
+fn and_forgotten(
+    alloc: Global,
+    interner: &mut Interner,
+    left: MarkerTree,
+    right: MarkerTree,
+) -> Result<MarkerTree, AllocError>
+    requires left { IsTree interner.old.nodes left }
+    requires right { IsTree interner.old.nodes right }
+    ensures made { IfOk result (IsTree interner.new.nodes) }
+    ensures keeps { Extends interner.old.nodes interner.new.nodes }
+{
+    earlier_trees_keep();
+    left.and(alloc, interner, right)?;
+    interner.forget_conjunctions();
+    right.and(alloc, interner, left)
 }

@@ -8,7 +8,7 @@ ghost use Rattle.pep508_tree.specs.Meaning.{IsTree, Extends, holds};
 use crate::Requirement;
 use pep508_diagram::Flag;
 use pep508_name::ExtraName;
-use pep508_tree::Interner;
+use pep508_tree::{Interner, uncounted_conjunction};
 use pep508_url::Pep508Url;
 use std::alloc::{AllocError, Global};
 
@@ -32,7 +32,7 @@ impl<T: Pep508Url> Requirement<T> {
     {
         let flag = Flag::Extra(extra.try_clone(alloc)?);
         let asked = interner.flag_tree(alloc, flag)?;
-        let marker = interner.conjunction(alloc, self.marker, asked)?;
+        let marker = uncounted_conjunction(alloc, interner, self.marker, asked)?;
         Ok(Requirement { marker, ..self })
     }
 }

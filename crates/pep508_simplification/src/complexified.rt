@@ -10,7 +10,7 @@ ghost use Rattle.pep508_simplification.specs.Simplified.{between};
 use crate::bounds::copy_of_bound;
 use pep440_version::Version;
 use pep508_diagram::VersionVariable;
-use pep508_tree::{Interner, MarkerTree};
+use pep508_tree::{Interner, MarkerTree, uncounted_conjunction};
 use std::alloc::{AllocError, Global};
 use std::ops::Bound;
 use version_ranges::Ranges;
@@ -35,5 +35,5 @@ pub(crate) fn complexified(
     let upper = copy_of_bound(alloc, upper)?;
     let set = Ranges::from_range_bounds(alloc, (lower, upper))?;
     let range = interner.versions_tree(alloc, VersionVariable::PythonFullVersion, &set)?;
-    interner.conjunction(alloc, tree, range)
+    uncounted_conjunction(alloc, interner, tree, range)
 }

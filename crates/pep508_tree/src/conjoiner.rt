@@ -156,6 +156,13 @@ impl Conjoiner {
         self.table.node_of(tree)
     }
 
+    /// Lets go of all conjunctions that are known.
+    pub fn forget(&mut self)
+        ensures { self.new ≡ self.old }
+    {
+        self.known = BTreeMap::new(self.allocator());
+    }
+
     /// Keeps the conjunction of two trees.
     #[inline(never)]
     fn keep(&mut self, a: MarkerTree, b: MarkerTree, tree: MarkerTree) -> Result<(), AllocError>
@@ -168,7 +175,8 @@ impl Conjoiner {
         Ok(())
     }
 
-    /// The two trees, first the one whose first variable does not come after that of the other.
+    /// The two trees, first the one whose first variable does not come after that of the other. Of one
+    /// variable it is the one that was made first, so that a pair and its reverse are one.
     #[inline(never)]
     pub fn in_order(&self, a: MarkerTree, b: MarkerTree) -> (MarkerTree, MarkerTree)
         requires a { IsTree self.now a }
@@ -179,7 +187,11 @@ impl Conjoiner {
         ensures ordered { is_gt (text_cmp (first_place self.now result.0) (first_place self.now result.1))
             ≡ false }
     {
-        self.table.in_order(a, b)
+        if a.cmp_places(b).is_gt() {
+            self.table.in_order(b, a)
+        } else {
+            self.table.in_order(a, b)
+        }
     }
 
     /// The pairs of what stands in two trees for each answer about their first variable, without the trees'

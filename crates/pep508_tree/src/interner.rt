@@ -52,30 +52,22 @@ impl Interner {
         self.conjunctions
     }
 
+    /// Lets go of what is remembered of conjunctions, by which one that is asked for again is found at once.
+    /// Trees, their nodes and the count stay.
+    ///
+    /// What is remembered grows with each pair of nodes that conjunctions look at, and is mostly more than the
+    /// nodes; it is let go of with the interner otherwise.
+    pub fn forget_conjunctions(&mut self)
+        ensures { self.new ≡ self.old }
+    {
+        self.conjoiner.forget();
+    }
+
     /// What the nodes keep. Does nothing.
     pub fn are_sound(&self)
         ensures { AreSound self.now.nodes }
     {
         self.conjoiner.are_sound()
-    }
-
-    /// The tree that holds where both hold, which isn't counted. Refusal and cost are those of
-    /// `MarkerTree::and`.
-    pub fn conjunction(
-        &mut self,
-        alloc: Global,
-        a: MarkerTree,
-        b: MarkerTree,
-    ) -> Result<MarkerTree, AllocError>
-        requires a { IsTree self.old.nodes a }
-        requires b { IsTree self.old.nodes b }
-        ensures made { IfOk result (λ tree. IsTree self.new.nodes tree) }
-        ensures truth { IfOk result (λ tree. (v : Valuation) →
-            holds self.new.nodes tree v ≡ (holds self.old.nodes a v && holds self.old.nodes b v)) }
-        ensures keeps { Extends self.old.nodes self.new.nodes }
-        ensures counts { self.new.conjunctions ≡ self.old.conjunctions }
-    {
-        self.conjoiner.conjunction(alloc, a, b)
     }
 
     /// The conjunction, counted.
@@ -94,7 +86,7 @@ impl Interner {
         ensures counts { self.new.conjunctions ≡ counted self.old.conjunctions }
     {
         self.conjunctions = self.conjunctions.saturating_add(1);
-        self.conjunction(alloc, a, b)
+        uncounted_conjunction(alloc, self, a, b)
     }
 
     /// The tree of one node whose children are constants, which isn't counted.
@@ -155,4 +147,26 @@ impl Interner {
         let pairs = form.children(alloc)?;
         Ok(turned_pairs(pairs, first.is_negated(), second.is_negated()))
     }
+}
+
+/// The tree that holds where both hold, which isn't counted. Refusal and cost are those of
+/// `MarkerTree::and`.
+///
+/// It is lent to the crates that make trees of texts and of requirements. `pep508_rs` doesn't pass it on, and
+/// whoever promises a number of conjunctions doesn't call it.
+pub fn uncounted_conjunction(
+    alloc: Global,
+    interner: &mut Interner,
+    a: MarkerTree,
+    b: MarkerTree,
+) -> Result<MarkerTree, AllocError>
+    requires a { IsTree interner.old.nodes a }
+    requires b { IsTree interner.old.nodes b }
+    ensures made { IfOk result (λ tree. IsTree interner.new.nodes tree) }
+    ensures truth { IfOk result (λ tree. (v : Valuation) → holds interner.new.nodes tree v
+        ≡ (holds interner.old.nodes a v && holds interner.old.nodes b v)) }
+    ensures keeps { Extends interner.old.nodes interner.new.nodes }
+    ensures counts { interner.new.conjunctions ≡ interner.old.conjunctions }
+{
+    interner.conjoiner.conjunction(alloc, a, b)
 }

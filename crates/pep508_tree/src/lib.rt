@@ -14,6 +14,6 @@ mod root;
 mod table;
 mod tree;
 
-pub use interner::Interner;
+pub use interner::{Interner, uncounted_conjunction};
 pub use root::{Children, TreeNode};
 pub use tree::MarkerTree;

@@ -7,7 +7,7 @@ use Rattle.pep508_simplification.proofs.complexified.complexified.Goals as goal
 
 pub returns-clause-truth : goal.returns-clause-truth
 returns-clause-truth c =
-    IfOk-weaker c.conjunction.result _ _
+    IfOk-weaker c.uncounted_conjunction.result _ _
     (λ both is v.
     let p = v.version PythonFullVersion in
     is v
@@ -16,4 +16,4 @@ returns-clause-truth c =
     c.args.tree c.requires v)
     (c.in_ok-range.ensures.truth v ∙ c.in_ok-set.ensures p
     ∙ ap₂ (λ l u. between l u p) c.in_ok-lower.ensures c.in_ok-upper.ensures))
-    c.conjunction.ensures.truth
+    c.uncounted_conjunction.ensures.truth

@@ -1,0 +1,56 @@
+#!/usr/bin/env python3
+"""Sees that calls which crates lend each other are made by these alone, and passed on by nobody.
+
+    lent.py
+
+`Interner::conjunctions` counts what a caller asks for, so that a promise on how many there are binds all that a
+crate does. A call that isn't counted is public only since other crates of trees need it. LENT has such calls, each
+with the crate that has it and those that may name it; nobody may pass one on by `pub use`, and no other crate's
+source may name it. Fails too where one of those crates has no use for it. Comments, texts and clauses don't count.
+The last line is `N passed, M failed`, a crate each.
+"""
+
+import os
+import re
+import sys
+
+from asked import code
+from crates import Crates
+
+BORROWERS = ("pep508_marker_read", "pep508_requirement", "pep508_simplification")
+LENT = {"uncounted_conjunction": ("pep508_tree", BORROWERS)}
+PASSED_ON = re.compile(r"\bpub use ([^;]+);")
+
+
+def fault(crate, name, owner, borrowers):
+    """What is wrong with how a crate names a lent call, or None."""
+    texts = []
+    for path in crate.text_files():
+        if path.endswith(".rt"):
+            with open(path, encoding="utf-8") as file:
+                texts.append((os.path.relpath(path, crate.folder), code(file.read())))
+    word = re.compile(rf"\b{name}\b")
+    naming = [path for path, text in texts if word.search(text)]
+    passing = [path for path, text in texts for it in PASSED_ON.findall(text) if word.search(it)]
+    if crate.name == owner:
+        return None if naming else f"has no {name}"
+    if passing:
+        return f"passes on {name} in {passing[0]}"
+    if crate.name in borrowers:
+        return None if naming else f"has no use for {name}"
+    return f"names {name} in {naming[0]}" if naming else None
+
+
+def main():
+    crates, faults, passed = Crates(), [], 0
+    for name, (owner, borrowers) in LENT.items():
+        for crate in crates.values():
+            why = fault(crate, name, owner, borrowers)
+            faults += [f"{crate.name} {why}"] if why else []
+            passed += not why
+    print(*[f"FAILED: {it}" for it in faults], f"{passed} passed, {len(faults)} failed", sep="\n")
+    return 1 if faults else 0
+
+
+if __name__ == "__main__":
+    sys.exit(main())
