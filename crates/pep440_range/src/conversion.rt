@@ -14,36 +14,36 @@ use version_ranges::Ranges;
 /// The range of a specifier (PEP 440, "Version specifiers"), with the bounds that `range_of` names;
 /// `NumberAtEnd` where a number of a bound would have to be greater than `u64::MAX`.
 ///
-/// Goes a fixed number of times through the version. Takes memory for the bounds and a copy of the version.
+/// Goes a fixed number of times through the version. Takes memory for the bounds alone: a copy of the version
+/// where it is one.
 pub fn specifier_to_range(
     alloc: Global,
     specifier: &VersionSpecifier,
 ) -> Result<Ranges<Version>, RangeError>
     ensures { Gives result (range_of specifier.now) }
 {
-    let version = specifier.version().try_clone(alloc)?;
-    range_by(alloc, specifier.operator(), version)
+    range_by(alloc, specifier.operator(), specifier.version())
 }
 
 /// The range of an operator and a version.
 fn range_by(
     alloc: Global,
     operator: Operator,
-    version: Version,
+    version: &Version,
 ) -> Result<Ranges<Version>, RangeError>
-    requires { operator ≡ Operator.TildeEqual → 2 ≤ length version.release }
-    ensures { Gives result (range_by operator version) }
+    requires { operator ≡ Operator.TildeEqual → 2 ≤ length version.now.release }
+    ensures { Gives result (range_by operator version.now) }
 {
     match operator {
-        Operator::Equal | Operator::ExactEqual => sets::point(alloc, version),
-        Operator::EqualStar => star_range(alloc, &version),
-        Operator::NotEqual => sets::all_but(alloc, sets::point(alloc, version)),
-        Operator::NotEqualStar => sets::all_but(alloc, star_range(alloc, &version)),
+        Operator::Equal | Operator::ExactEqual => sets::point(alloc, version.try_clone(alloc)?),
+        Operator::EqualStar => star_range(alloc, version),
+        Operator::NotEqual => sets::all_but(alloc, sets::point(alloc, version.try_clone(alloc)?)),
+        Operator::NotEqualStar => sets::all_but(alloc, star_range(alloc, version)),
         Operator::TildeEqual => compatible_range(alloc, version),
-        Operator::LessThan => sets::below(alloc, end_of_less(version)),
-        Operator::LessThanEqual => sets::to(alloc, version),
+        Operator::LessThan => sets::below(alloc, end_of_less(version.try_clone(alloc)?)),
+        Operator::LessThanEqual => sets::to(alloc, version.try_clone(alloc)?),
         Operator::GreaterThan => greater_range(alloc, version),
-        Operator::GreaterThanEqual => sets::from(alloc, version),
+        Operator::GreaterThanEqual => sets::from(alloc, version.try_clone(alloc)?),
     }
 }
 
@@ -70,14 +70,14 @@ fn star_range(alloc: Global, version: &Version) -> Result<Ranges<Version>, Range
 }
 
 /// The version and what comes behind it, as far as its release numbers but the last are kept.
-fn compatible_range(alloc: Global, version: Version) -> Result<Ranges<Version>, RangeError>
-    requires { 2 ≤ length version.release }
-    ensures { Gives result (compatible_range version) }
+fn compatible_range(alloc: Global, version: &Version) -> Result<Ranges<Version>, RangeError>
+    requires { 2 ≤ length version.now.release }
+    ensures { Gives result (compatible_range version.now) }
 {
     let release = version.release();
     let end = last_raised(alloc, &release[..release.len() - 1])?;
     let end = first_of(alloc, version.epoch(), &end)?;
-    sets::up_to(alloc, version, end)
+    sets::up_to(alloc, version.try_clone(alloc)?, end)
 }
 
 /// The version before which everything lies that is less than this one.
@@ -92,16 +92,16 @@ fn end_of_less(version: Version) -> Version
 }
 
 /// What is greater than a version.
-fn greater_range(alloc: Global, version: Version) -> Result<Ranges<Version>, RangeError>
-    ensures { Gives result (greater_range version version.dev version.post) }
+fn greater_range(alloc: Global, version: &Version) -> Result<Ranges<Version>, RangeError>
+    ensures { Gives result (greater_range version.now version.now.dev version.now.post) }
 {
     if let Some(dev) = version.dev() {
-        let next = version.with_dev(Some(raised(dev)?));
-        return sets::from(alloc, next);
+        let next = raised(dev)?;
+        return sets::from(alloc, version.try_clone(alloc)?.with_dev(Some(next)));
     }
     if let Some(post) = version.post() {
-        let next = version.with_post(Some(raised(post)?));
-        return sets::from(alloc, next);
+        let next = raised(post)?;
+        return sets::from(alloc, version.try_clone(alloc)?.with_post(Some(next)));
     }
-    sets::above(alloc, version.with_max(Some(0)))
+    sets::above(alloc, version.try_clone(alloc)?.with_max(Some(0)))
 }
