@@ -17,11 +17,11 @@ use Rattle.pep508_marker_read.proofs.Comparisons.{spaced_found, spaced_again, sp
 
 -- ---- words
 
-own_word : (word : Connective) → encode_utf8_all (word_of word) ≡ word_of word
+pub own_word : (word : Connective) → encode_utf8_all (word_of word) ≡ word_of word
 own_word And = ascii_same (word_of And) (lit< tt, (lit< tt, (lit< tt, tt)))
 own_word Or = ascii_same (word_of Or) (lit< tt, (lit< tt, tt))
 
-word_unspaced : (word : Connective) → NonePasses is_whitespace (word_of word)
+pub word_unspaced : (word : Connective) → NonePasses is_whitespace (word_of word)
 word_unspaced And = (refl, (refl, (refl, tt)))
 word_unspaced Or = (refl, (refl, tt))
 
@@ -47,7 +47,7 @@ run_here word behind cs h =
     ap run_at (next_here word word behind cs h)
     ∙ cut_again is_whitespace (word_of word) behind (word_unspaced word) (before_ends is_whitespace behind h.ends)
 
-same_word : (word : Connective) → bytes_eq (word_of word) (word_of word) ≡ true
+pub same_word : (word : Connective) → bytes_eq (word_of word) (word_of word) ≡ true
 same_word And = refl
 same_word Or = refl
 

@@ -12,3 +12,4 @@ pub mod ChainTrees
 pub mod Chains
 pub mod ComparedTrees
 pub mod MarkerTrees
+pub mod Words

@@ -1,6 +1,6 @@
 -- What there is to read of a marker's text: a formula and the warnings of its comparisons, or why there is
 -- none (PEP 508, "Grammar").
-use Rattle.std.specs.Prelude.{ℕ, suc, zero, ◌==◌, Bool, if◌then◌else◌, List, [], ◌∷◌, ◌++◌, length, codes}
+use Rattle.std.specs.Prelude.{ℕ, suc, zero, ◌==◌, Bool, true, if◌then◌else◌, List, [], ◌∷◌, ◌++◌, length, codes}
 use Rattle.std.specs.Prelude.{Option, Some, None, Result, Ok, Err, encode_utf8_all}
 use Rattle.std.specs.Char.{is_whitespace}
 use Rattle.std.specs.Str.{skip_leading_whitespace, bytes_eq}
@@ -58,6 +58,11 @@ join_with word first next = record {
 -- the run of characters that are no white space, and those behind it
 abbrev pub run_at : List ℕ → List ℕ × List ℕ
 run_at cs = cut_before is_whitespace cs
+
+-- a run ends before these characters: none is left, or white space stands first
+abbrev pub run_ends : List ℕ → Bool
+run_ends [] = true
+run_ends (c ∷ cs) = is_whitespace c
 
 -- whether the next run is the word, and what stands behind it
 abbrev pub is_next : Connective → List ℕ → Bool

@@ -1,14 +1,13 @@
 //! Words between the parts of a marker.
 
-ghost use Rattle.std.specs.Prelude.{◌≡◌, IfSome};
+ghost use Rattle.std.specs.Prelude.{◌≡◌, ◌≢◌, ℕ, List, ◌++◌, IfSome, MatchOption};
 ghost use Rattle.std.specs.Option.{is_some};
 ghost use Rattle.pep508_error.specs.Cursors.{IsBehind};
 ghost use Rattle.pep508_marker_comparison.specs.Outcome.{behind};
-ghost use Rattle.pep508_marker_read.specs.MarkerReading.{word_of, is_next, behind_run};
+ghost use Rattle.pep508_marker_read.specs.MarkerReading.{word_of, is_next, behind_run, run_ends};
 ghost use Rattle.pep508_marker_read.specs.TreeReading.{connective};
 
 use pep508_error::Cursor;
-use pep508_marker_comparison::cut_run;
 
 /// A word between the parts of a marker.
 #[derive(Clone, Copy)]
@@ -29,16 +28,41 @@ impl Word {
     }
 
     /// The place behind the word, where that is all of what follows up to white space or the end.
+    ///
+    /// Looks no further than one character behind the word.
     pub fn pass<'a>(self, place: Cursor<'a>) -> Option<Cursor<'a>>
         ensures next { is_some result ≡ is_next (connective self) (behind place.entry) }
         ensures later { IfSome result (λ later. behind later ≡ behind_run (behind place.entry)) }
         ensures stays { IfSome result (IsBehind place.entry) }
     {
-        let (run, later) = cut_run(place.after_whitespace());
-        if run == self.text() {
-            Some(later)
+        let Some(later) = self.strip(place.after_whitespace()) else {
+            return None;
+        };
+        if ends_run(later) { Some(later) } else { None }
+    }
+
+    /// The place behind the word's text, where that stands here.
+    fn strip<'a>(self, place: Cursor<'a>) -> Option<Cursor<'a>>
+        ensures found { MatchOption result
+            ((later : List ℕ) → behind place.entry ≢ word_of (connective self) ++ later)
+            (λ later. behind place.entry ≡ word_of (connective self) ++ behind later) }
+        ensures stays { IfSome result (IsBehind place.entry) }
+    {
+        let word = self.text();
+        if place.rest().starts_with(word) {
+            Some(place.after(word.len()))
         } else {
             None
         }
+    }
+}
+
+/// Whether a run of characters ends here, at white space or at the text's end.
+fn ends_run(place: Cursor<'_>) -> bool
+    ensures { result ≡ run_ends (behind place.entry) }
+{
+    match place.peek() {
+        Some(first) => first.is_whitespace(),
+        None => true,
     }
 }
