@@ -7,7 +7,7 @@
 ghost use Rattle.std.specs.Prelude.{◌≡◌, Some};
 ghost use Rattle.pep508_name.specs.Name.{refused_text, error_text};
 
-use std::alloc::AllocError;
+use std::alloc::{AllocError, Global};
 use std::error::Error;
 use std::fmt;
 
@@ -33,7 +33,20 @@ pub enum InvalidNameError {
 }
 
 impl InvalidNameError {
-    ghost use Rattle.pep508_name.specs.Name.{refused_text};
+    ghost use Rattle.std.specs.Prelude.{IfOk};
+    ghost use Rattle.pep508_name.specs.Name.{refused_text, told_name};
+
+    /// A copy, in memory of its own; that of `Memory` wants none.
+    pub fn try_clone(&self, alloc: Global) -> Result<Self, AllocError>
+        ensures { IfOk result (λ copy. told_name copy ≡ told_name self.now) }
+    {
+        match self {
+            InvalidNameError::Memory => Ok(InvalidNameError::Memory),
+            InvalidNameError::InvalidName(text) => Ok(InvalidNameError::InvalidName(
+                String::from_str(alloc, text.as_str())?,
+            )),
+        }
+    }
 
     /// The text that is no name, as it was given; empty where memory ran out.
     pub fn as_str(&self) -> &str

@@ -49,12 +49,13 @@ fn extra(alloc: Global, text: &str) -> Result<String, AllocError> {
     }
 }
 
-/// The text that is no name, and whether `is_name` takes it.
+/// The text that is no name, as a copy of the error keeps it, and whether `is_name` takes it.
 fn told_name(alloc: Global, error: InvalidNameError) -> Result<String, AllocError> {
-    match error {
+    let copy = error.try_clone(alloc)?;
+    match copy {
         InvalidNameError::Memory => Err(AllocError),
         InvalidNameError::InvalidName(_) => {
-            let text = error.as_str();
+            let text = copy.as_str();
             let is_name = is_name(text);
             format!(in alloc; "refused: {text}, a name {is_name}")
         }
