@@ -4,3 +4,4 @@ pub mod ExtrasSplits
 pub mod PathParts
 pub mod UrlLaws
 pub mod NormalPaths
+pub mod Places
