@@ -1,10 +1,9 @@
 //! Cuts of the text behind a place, and refusals there.
 
 ghost use Rattle.std.specs.Prelude.{◌≡◌, ◌==◌, ◌++◌, ◌∷◌, false, MatchResult};
-ghost use Rattle.std.specs.Char.{is_whitespace};
 ghost use Rattle.pep508_error.specs.Cursors.{rest_of, IsBehind};
 ghost use Rattle.pep508_marker_comparison.specs.SideReading.{Malformed, begins_by};
-ghost use Rattle.pep508_marker_comparison.specs.Stops.{cut_text, encoded_cut};
+ghost use Rattle.pep508_marker_comparison.specs.Stops.{cut_text};
 ghost use Rattle.pep508_marker_comparison.specs.Outcome.{behind, Fits, IsAt, IsOf};
 
 use crate::stop::{Stop, split};
@@ -27,14 +26,6 @@ pub(crate) fn cut<'a>(cursor: Cursor<'a>, stop: Stop) -> (&'a str, Cursor<'a>)
 {
     let (front, _) = split(cursor.rest(), stop);
     (front, pass(cursor, front))
-}
-
-/// The characters at the place that are no white space, and the place behind them.
-pub fn cut_run<'a>(cursor: Cursor<'a>) -> (&'a str, Cursor<'a>)
-    ensures parts { (result.0.now, behind result.1) ≡ encoded_cut is_whitespace (behind cursor.entry) }
-    ensures later { IsBehind cursor.entry result.1 }
-{
-    cut(cursor, Stop::Space)
 }
 
 /// That a text is malformed, or want of memory for the message.
