@@ -33,6 +33,12 @@ folds_append R p [] q ys u first second = subst (λ r. FoldsTo R r ys u) (sym fi
 folds_append R p (x ∷ xs) q ys u first second =
     (first.0, first.1, folds_append R first.0 xs q ys u first.2 second)
 
+-- where each leads from a state to the same state, so do all
+pub folds_nowhere : {P A : Type 0} (R : P → A → P → Type 0) (p : P) → ((x : A) → R p x p) → (xs : List A) →
+    FoldsTo R p xs p
+folds_nowhere R p stays [] = refl
+folds_nowhere R p stays (x ∷ xs) = (p, stays x, folds_nowhere R p stays xs)
+
 -- ---- a diagram that begins with another variable
 
 -- no diagram behind a question's place goes on with its node

@@ -70,11 +70,10 @@ pub trait MarkerTreeEvaluation {
 
     /// `evaluate`, which tells a reporter first of each old name of PEP 345 in the tree, one warning for
     /// each path to a node of it, and then of each bound that a text is compared with on the way to the
-    /// answer. The only refusal is want of memory, for a warning's text or the reporter's own. No text is
-    /// made for a reporter that wants none.
+    /// answer. The only refusal is want of memory, for a warning's text or the reporter's own.
     ///
     /// Goes over each path from the root, of which there can be many more than nodes, and recurses as deep as
-    /// a path is long.
+    /// a path is long. For a reporter that wants no warning it is `evaluate` alone.
     fn evaluate_reporter<R: Reporter>(
         self,
         alloc: Global,

@@ -13,7 +13,7 @@ ghost use Rattle.pep508_evaluation.specs.Warned.{key_names, old_names, edge, com
 ghost use Rattle.pep508_evaluation.specs.Edges.{text_edges, root_edges, root_names};
 ghost use Rattle.pep508_tree.specs.Roots.{root_of};
 
-use crate::chosen::{is_reached, step};
+use crate::chosen::{evaluate, is_reached, step};
 use crate::holding::{root_child, root_child_count};
 use pep508_diagram::{Branch, MarkerText};
 use pep508_environment::MarkerEnvironment;
@@ -237,7 +237,8 @@ fn report_old_names<R: Reporter>(
     Ok(())
 }
 
-/// Whether a tree holds in an environment with extras. Warns of old names, and of what is compared.
+/// Whether a tree holds in an environment with extras. Warns of old names, and of what is compared. For a
+/// reporter that wants nothing it walks one path alone.
 pub(crate) fn evaluate_reporter<R: Reporter>(
     alloc: Global,
     tree: MarkerTree,
@@ -255,8 +256,11 @@ pub(crate) fn evaluate_reporter<R: Reporter>(
         (warned (valuation_of environment.now extras.now) (diagram_of interner.now.nodes tree))
         reporter.new) }
 {
-    report_old_names(alloc, tree, interner, reporter)?;
-    report_compared(alloc, tree, interner, environment, extras, reporter)
+    if reporter.wants() {
+        report_old_names(alloc, tree, interner, reporter)?;
+        return report_compared(alloc, tree, interner, environment, extras, reporter);
+    }
+    Ok(evaluate(tree, interner, environment, extras))
 }
 
 /// Keeps each warning.

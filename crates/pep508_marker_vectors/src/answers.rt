@@ -32,7 +32,7 @@ pub fn answer(alloc: Global, environments: &str, question: &str) -> Result<Strin
 fn on_markers(alloc: Global, environments: &str, question: &Value) -> Result<String, Stop> {
     let mut interner = Interner::new(alloc);
     match text_at(question, 0) {
-        "evaluate" | "collected" | "called" | "logged" => {
+        "evaluate" | "collected" | "called" | "logged" | "silent" => {
             evaluated(alloc, &mut interner, environments, question)
         }
         "extras" => on_extras(alloc, &mut interner, question),

@@ -10,7 +10,7 @@ use crate::stop::{Stop, answered, said, truth};
 use crate::told::{Told, push_warning};
 use pep508_environment::MarkerEnvironment;
 use pep508_evaluation::MarkerTreeEvaluation;
-use pep508_marker::{ClosureReporter, MarkerWarningKind, TracingReporter};
+use pep508_marker::{ClosureReporter, MarkerWarningKind, Silent, TracingReporter};
 use pep508_name::ExtraName;
 use pep508_tree::{Interner, MarkerTree};
 use serde_json::Value;
@@ -50,6 +50,7 @@ fn evaluated_in(
         "evaluate" => told(alloc, interner, tree, &place),
         "collected" => collected(alloc, interner, tree, &place),
         "called" => called(alloc, interner, tree, &place),
+        "silent" => silent(alloc, interner, tree, &place),
         _ => logged(alloc, interner, tree, &place),
     }
 }
@@ -157,6 +158,20 @@ fn logged(
         &mut reporter,
     )?;
     log.behind(word(holds))
+}
+
+/// Whether a marker holds, asked with a reporter that wants no warning.
+fn silent(
+    alloc: Global,
+    interner: &Interner,
+    tree: MarkerTree,
+    place: &Place,
+) -> Result<String, Stop>
+    requires { IsTree interner.now.nodes tree }
+{
+    let (environment, extras) = (place.environment, place.extras);
+    let holds = tree.evaluate_reporter(alloc, interner, environment, extras, &mut Silent)?;
+    truth(alloc, holds)
 }
 
 /// Whether some environment with just these extras makes a marker hold.
