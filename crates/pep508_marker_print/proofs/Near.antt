@@ -1,32 +1,78 @@
--- Clauses that are not near a clause don't matter to it.
-use Rattle.std.proofs.Common.{◌≡◌, ℕ, ◌/◌, ◌%◌, ◌^◌, Bool, true, false, not, ◌&&◌, ◌||◌, cond, List, [], ◌∷◌, ◌++◌, refl, sym, ap, ◌∙◌, subst, true≢false}
+-- Clauses that are no candidates of a clause don't matter to it.
+use Rattle.std.proofs.Common.{◌≡◌, ℕ, ◌/◌, ◌%◌, ◌^◌, ◌<◌, ◌==◌, Bool, true, false, not, ◌&&◌, ◌||◌, cond, List, [], ◌∷◌, ◌++◌, length, refl, sym, ap, ◌∙◌, subst, true≢false, arith}
+use Rattle.std.specs.Cmp.{unsigned_Decides}
 use Rattle.std.specs.Int.Bits.{bit_or, or_self}
-use Rattle.std.specs.List.{list_all, filter}
-use Rattle.std.proofs.lemmas.List.Elements.{filter-append}
-use Rattle.std.proofs.lemmas.Map.Views.{any-filter_same}
+use Rattle.std.specs.List.{list_all, list_any}
+use Rattle.std.proofs.lemmas.List.Concat.{flat_map-append}
+use Rattle.std.proofs.lemmas.List.Folds.{list_any-append}
 use Rattle.pep508_marker_text.specs.Simplified.{sifted, has_some, spares, is_needless, stands_in}
 use Rattle.pep508_marker_text.proofs.Removals.{both, together, all_too}
 use Rattle.pep508_marker_print.proofs.Joined.{Within, is_so, so_is, within_all, left_within, right_within}
 use Rattle.pep508_marker_print.proofs.Joined.{first_within, joined_behind, joined_within, nothing_within}
 use Rattle.pep508_marker_print.proofs.OneMore.{within_but_one}
-use Rattle.pep508_marker_print.specs.declared.bits.Literals.{Literals}
-use Rattle.pep508_marker_print.specs.Near.{joined, is_within, is_within_but_one, have_literals, literals_of}
-use Rattle.pep508_marker_print.specs.Near.{with_literal, is_near, may_cover}
+use Rattle.pep508_marker_print.proofs.Straying.{either_true, or_left, or_right, all_words}
+use Rattle.pep508_marker_print.specs.declared.strays.Strays.{Strays}
+use Rattle.pep508_marker_print.specs.declared.strays.Strays.TheVariants.{None, One, Several}
+use Rattle.pep508_marker_print.specs.Near.{joined, is_within, is_within_but_one, is_near, may_cover}
+use Rattle.pep508_marker_print.specs.Sparing.{with_word, are_several, are_at_most, strays_of, candidate_of}
+use Rattle.pep508_marker_print.specs.Sparing.{candidates_of, is_needless_by, has, words_of}
 use Rattle.pep508_marker_print.specs.Words.{spread, value_bits, literal_bit}
 
-pub near_beside : {T : Type 0} (word literal : T → ℕ) (clause : List T) (front behind : List (List T)) →
-    filter (is_near word literal clause) (front ++ behind)
-    ≡ filter (is_near word literal clause) front ++ filter (is_near word literal clause) behind
-near_beside word literal clause front behind = filter-append (is_near word literal clause) front behind
+pub candidates_beside : {T : Type 0} (word literal : T → ℕ) (own : ℕ → Bool) (clause : List T)
+    (front behind : List (List T)) →
+    candidates_of literal own word clause (front ++ behind)
+    ≡ candidates_of literal own word clause front ++ candidates_of literal own word clause behind
+candidates_beside word literal own clause front behind =
+    flat_map-append (candidate_of literal own word clause) front behind
 
 implied : (a b : Bool) → (b ≡ true → a ≡ true) → (a && b) ≡ b
 implied a true from = ap (λ c. c && true) (from refl)
 implied true false from = refl
 implied false false from = refl
 
-either_true : (a b c : Bool) → (a ≡ true → c ≡ true) → (b ≡ true → c ≡ true) → (a || b) ≡ true → c ≡ true
-either_true true b c left right e = left refl
-either_true false b c left right e = right e
+-- ---- strays
+
+still_at_most : (held : Bool) (word negated : ℕ) (strays : Strays) → (held || word == negated) ≡ true →
+    are_at_most negated strays ≡ true → are_at_most negated (with_word held word strays) ≡ true
+still_at_most true word negated strays a e = e
+still_at_most false word negated None a e = a
+still_at_most false word negated (One other) a e =
+    let is = (unsigned_Decides word negated).0 a in
+    let other_is = (unsigned_Decides other negated).0 e in
+    ap (λ b. are_at_most negated (cond b (One other) Several))
+    ((unsigned_Decides other word).1 (other_is ∙ sym is)) ∙ e
+still_at_most false word negated Several a e = e
+
+few : (negated : ℕ) (strays : Strays) → are_at_most negated strays ≡ true → are_several strays ≡ false
+few negated None e = refl
+few negated (One word) e = refl
+few negated Several e = absurd (true≢false (sym e))
+
+module _ {A : Type 0} (p : A → Bool) (negated : ℕ) where
+  abbrev is_chosen : Strays × A → Bool
+  is_chosen candidate = are_at_most negated candidate.0 && p candidate.1
+
+  never : (a : Bool) → (a && false) ≡ false
+  never true = refl
+  never false = refl
+
+  chosen_few : (several : Bool) (strays : Strays) (x : A) (answer : Bool) → p x ≡ answer →
+      (answer ≡ true → several ≡ false) → (answer ≡ true → are_at_most negated strays ≡ true) →
+      list_any is_chosen (cond several [] ((strays, x) ∷ [])) ≡ answer
+  chosen_few true strays x true is few most = absurd (true≢false (few refl))
+  chosen_few true strays x false is few most = refl
+  chosen_few false strays x true is few most = (λ i. (most refl i && is i) || false)
+  chosen_few false strays x false is few most =
+      ap (λ b. (are_at_most negated strays && b) || false) is
+      ∙ ap (λ b. b || false) (never (are_at_most negated strays))
+
+  chosen : (near : Bool) (strays : Strays) (x : A) (answer : Bool) → p x ≡ answer → (answer ≡ true → near ≡ true) →
+      (answer ≡ true → are_at_most negated strays ≡ true) →
+      list_any is_chosen (cond near (cond (are_several strays) [] ((strays, x) ∷ [])) []) ≡ answer
+  chosen true strays x answer is from most =
+      chosen_few (are_several strays) strays x answer is (λ it. few negated strays (most it)) most
+  chosen false strays x true is from most = absurd (true≢false (sym (from refl)))
+  chosen false strays x false is from most = refl
 
 -- ---- what holds of all of some
 
@@ -45,13 +91,6 @@ module _ {T : Type 0} (p : T → Bool) where
   all_both (term ∷ front) behind x y =
       let parts = both (p term) _ x in
       together _ _ parts.0 (all_both front behind parts.1 y)
-
-  all_others : (front : List T) (term : T) (behind : List T) → list_all p (front ++ term ∷ behind) ≡ true →
-      list_all p (front ++ behind) ≡ true
-  all_others [] term behind e = (both (p term) _ e).1
-  all_others (first ∷ front) term behind e =
-      let parts = both (p first) _ e in
-      together _ _ parts.0 (all_others front term behind parts.1)
 
 module _ {T : Type 0} (same opposite : T → T → Bool) (word literal negation : T → ℕ)
     (word_of_same : (a b : T) → same a b ≡ true → word a ≡ word b)
@@ -190,27 +229,87 @@ module _ {T : Type 0} (same opposite : T → T → Bool) (word literal negation 
         (nearly_spared 58 _ term rest other (all_too is_own _ (λ it own. (bits it own).0) rest e) spared)
         (nearly_spared 52 _ term rest other (all_too is_own _ (λ it own. (bits it own).1) rest e) spared))
 
-    needless_alike : (others : List (List T)) (term : T) (rest : List T) → is_own term ≡ true →
-        list_all is_own rest ≡ true →
-        is_needless same opposite (filter (is_near word literal clause) others) term rest
-        ≡ is_needless same opposite others term rest
-    needless_alike others term rest held e =
-        ap (λ b. has_some rest && b)
-        (any-filter_same (spares same opposite term rest) (is_near word literal clause) true
-        (λ other spared. near_where_spares term rest other held e spared) others)
+    -- terms of which a set has the words
+    module _ (own : ℕ → Bool) where
+      abbrev has_word : T → Bool
+      has_word term = own (literal term)
 
-    sifted_alike : (others : List (List T)) (kept later : List T) → list_all is_own kept ≡ true →
-        list_all is_own later ≡ true →
-        sifted (is_needless same opposite (filter (is_near word literal clause) others)) kept later
-        ≡ sifted (is_needless same opposite others) kept later
-    sifted_alike others kept [] x y = refl
-    sifted_alike others kept (term ∷ later) x y =
-        let parts = both (is_own term) _ y in
-        let rest = all_both is_own kept later x parts.1 in
-        (λ i. cond (needless_alike others term (kept ++ later) parts.0 rest i)
-        (sifted_alike others kept later x parts.1 i)
-        (sifted_alike others (kept ++ term ∷ []) later
-        (all_both is_own kept (term ∷ []) x (together _ _ parts.0 refl)) parts.1 i))
+      abbrev is_held : T → Bool
+      is_held term = is_own term && has_word term
+
+      word_stands : (rest : List T) (term : T) → list_all has_word rest ≡ true →
+          stands_in same opposite rest term ≡ true → has_word term ≡ true
+      word_stands [] term e stands = absurd (true≢false (sym stands))
+      word_stands (other ∷ later) term e stands =
+          let parts = both (has_word other) (list_all has_word later) e in
+          either_true (same term other) _ _ (λ it. ap own (literal_of_same term other it) ∙ parts.0)
+          (λ it. word_stands later term parts.1 it) stands
+
+      abbrev is_allowed : ℕ → T → Bool
+      is_allowed negated term = has_word term || literal term == negated
+
+      spared_allowed : (term : T) (rest other : List T) → list_all has_word rest ≡ true →
+          spares same opposite term rest other ≡ true → list_all (is_allowed (negation term)) other ≡ true
+      spared_allowed term rest other e spared =
+          all_too (λ it. not (same term it) && (opposite term it || stands_in same opposite rest it))
+          (is_allowed (negation term))
+          (λ it is. either_true (opposite term it) _ _
+          (λ o. or_right (has_word it) _
+          ((unsigned_Decides (literal it) (negation term)).1 (sym (literal_of_opposite term it o))))
+          (λ s. or_left (has_word it) _ (word_stands rest it e s)) (both (not (same term it)) _ is).1)
+          other spared
+
+      at_most_one : (negated : ℕ) (other : List T) → list_all (is_allowed negated) other ≡ true →
+          are_at_most negated (strays_of literal own other) ≡ true
+      at_most_one negated [] e = refl
+      at_most_one negated (term ∷ later) e =
+          let parts = both (is_allowed negated term) _ e in
+          still_at_most (has_word term) (literal term) negated (strays_of literal own later) parts.0
+          (at_most_one negated later parts.1)
+
+      chosen_alike : (p : List T → Bool) (negated : ℕ) →
+          ((other : List T) → p other ≡ true → (is_near word literal clause other ≡ true)
+          × (are_at_most negated (strays_of literal own other) ≡ true)) → (others : List (List T)) →
+          list_any (λ candidate. are_at_most negated candidate.0 && p candidate.1)
+          (candidates_of literal own word clause others)
+          ≡ list_any p others
+      chosen_alike p negated may [] = refl
+      chosen_alike p negated may (other ∷ later) =
+          list_any-append (λ candidate. are_at_most negated candidate.0 && p candidate.1)
+          (candidate_of literal own word clause other) (candidates_of literal own word clause later)
+          ∙ (λ i. chosen p negated (is_near word literal clause other) (strays_of literal own other) other
+          (p other) refl (λ it. (may other it).0) (λ it. (may other it).1) i
+          || chosen_alike p negated may later i)
+
+      needless_alike : (others : List (List T)) (term : T) (rest : List T) → is_held term ≡ true →
+          list_all is_held rest ≡ true →
+          is_needless_by same opposite negation (candidates_of literal own word clause others) term rest
+          ≡ is_needless same opposite others term rest
+      needless_alike others term rest held e =
+          let near : list_all is_own rest ≡ true =
+          all_too is_held is_own (λ it h. (both (is_own it) (has_word it) h).0) rest e in
+          let have : list_all has_word rest ≡ true =
+          all_too is_held has_word (λ it h. (both (is_own it) (has_word it) h).1) rest e in
+          ap (λ b. has_some rest && b)
+          (chosen_alike (spares same opposite term rest) (negation term)
+          (λ other spared. (
+            near_where_spares term rest other (both (is_own term) (has_word term) held).0 near spared,
+            at_most_one (negation term) other (spared_allowed term rest other have spared),
+          ))
+          others)
+
+      sifted_alike : (others : List (List T)) (kept later : List T) → list_all is_held kept ≡ true →
+          list_all is_held later ≡ true →
+          sifted (is_needless_by same opposite negation (candidates_of literal own word clause others)) kept later
+          ≡ sifted (is_needless same opposite others) kept later
+      sifted_alike others kept [] x y = refl
+      sifted_alike others kept (term ∷ later) x y =
+          let parts = both (is_held term) _ y in
+          let rest = all_both is_held kept later x parts.1 in
+          (λ i. cond (needless_alike others term (kept ++ later) parts.0 rest i)
+          (sifted_alike others kept later x parts.1 i)
+          (sifted_alike others (kept ++ term ∷ []) later
+          (all_both is_held kept (term ∷ []) x (together _ _ parts.0 refl)) parts.1 i))
 
     stand_own : (bits : T → ℕ) (same_bits : (a b : T) → same a b ≡ true → bits a ≡ bits b) (other : List T) →
         list_all (stands_in same opposite clause) other ≡ true →
@@ -229,15 +328,25 @@ module _ {T : Type 0} (same opposite : T → T → Bool) (word literal negation 
         (stand_own (own_bit 58) (bit_same 58) other stand)
         (stand_own (own_bit 52) (bit_same 52) other stand))
 
-  -- of others, those that are near a clause shorten it as all do
-  pub shortened_by_near : (others near : List (List T)) (clause short : List T) →
-      near ≡ filter (is_near word literal clause) others →
-      short ≡ sifted (is_needless same opposite near) [] clause →
+  -- the candidates of others shorten a clause as all others do
+  pub shortened_by_candidates : (words : List ℕ) (others : List (List T))
+      (candidates : List (Strays × List T)) (clause short : List T) → words ≡ words_of literal clause →
+      candidates ≡ candidates_of literal (has words) word clause others →
+      short ≡ sifted (is_needless_by same opposite negation candidates) [] clause →
       short ≡ sifted (is_needless same opposite others) [] clause
-  shortened_by_near others near clause short found is =
+  shortened_by_candidates words others candidates clause short are found is =
       is
-      ∙ ap (λ those. sifted (is_needless same opposite those) [] clause) found
-      ∙ sifted_alike clause others [] clause refl (all_own clause)
+      ∙ ap (λ those. sifted (is_needless_by same opposite negation those) [] clause) found
+      ∙ sifted_alike clause (has words) others [] clause refl
+      (all_with (is_own clause) (λ term. has words (literal term)) clause (all_own clause)
+      (ap (λ those. list_all (λ term. has those (literal term)) clause) are ∙ all_words literal clause))
+
+  -- a term alone is not needless
+  pub alone : (others : List (List T)) (clause : List T) → length clause < 2 →
+      clause ≡ sifted (is_needless same opposite others) [] clause
+  alone others [] h = refl
+  alone others (term ∷ []) h = refl
+  alone others (term ∷ next ∷ later) h = absurd (omega (arith, h))
 
   -- a clause is covered only by one that may cover it
   pub far_covers : (clause other : List T) → may_cover word literal clause other ≡ false →
@@ -245,27 +354,3 @@ module _ {T : Type 0} (same opposite : T → T → Bool) (word literal negation 
   far_covers clause other far =
       ap (λ may. may && list_all (stands_in same opposite clause) other) (sym far)
       ∙ implied _ _ (may_where_all_stand clause other)
-
-  -- a term is spared only by clauses with no bits but its clause's and its negation's
-  module _ (term : T) (front behind : List T) where
-    spared_within : (from : ℕ) (other : List T) → spares same opposite term (front ++ behind) other ≡ true →
-        is_within
-        (bit_or (joined (own_bit from) (front ++ term ∷ behind)) (literal_bit (negation term) from))
-        (joined (own_bit from) other)
-        ≡ true
-    spared_within from other spared =
-        let clause = front ++ term ∷ behind in
-        let all = joined (own_bit from) clause in
-        is_so _ _ (bit_spared from all term (front ++ behind) other
-        (all_others (is_among (own_bit from) all) front term behind
-        (all_own_by clause (own_bit from) (bit_same from)))
-        spared)
-
-    pub far_spares : (bits : Literals) (other : List T) →
-        bits ≡ with_literal (literals_of literal (front ++ term ∷ behind)) (negation term) →
-        have_literals bits (literals_of literal other) ≡ false →
-        false ≡ spares same opposite term (front ++ behind) other
-    far_spares bits other are far =
-        ap (λ b. b && spares same opposite term (front ++ behind) other)
-        (sym far ∙ ap (λ own. have_literals own (literals_of literal other)) are)
-        ∙ implied _ _ (λ spared. together _ _ (spared_within 58 other spared) (spared_within 52 other spared))

@@ -2,6 +2,6 @@ pub mod Terms
 pub mod Words
 pub mod WordLaws
 pub mod Near
+pub mod Sparing
 pub mod Operators
-pub mod Places
 pub mod Texts

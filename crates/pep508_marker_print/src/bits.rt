@@ -10,13 +10,13 @@ use crate::term::{Term, spread};
 
 /// Two bits of each of some terms.
 #[derive(Clone, Copy)]
-pub(crate) struct Literals {
+struct Literals {
     first: u64,
     second: u64,
 }
 
 impl Literals {
-    pub(crate) fn of<T: Term>(terms: &[T]) -> Literals
+    fn of<T: Term>(terms: &[T]) -> Literals
         ensures { result ≡ literals_of T.literal terms.now }
     {
         let mut literals = Literals {
@@ -40,15 +40,8 @@ impl Literals {
         }
     }
 
-    /// These and the bits of a term's negations.
-    pub(crate) fn with_negation<T: Term>(self, term: &T) -> Literals
-        ensures { result ≡ with_literal self (T.negation term.now) }
-    {
-        self.with_word(term.negation())
-    }
-
     /// Whether all others are among these.
-    pub(crate) fn have(self, other: Literals) -> bool
+    fn have(self, other: Literals) -> bool
         ensures { result ≡ have_literals self other }
     {
         is_within(self.first, other.first) && is_within(self.second, other.second)
@@ -100,12 +93,6 @@ impl Bits {
         ensures { result ≡ may_stand_in self other }
     {
         self.have_values(other) && self.literals.have(other.literals)
-    }
-
-    pub(crate) fn literals(self) -> Literals
-        ensures { result ≡ self.literals }
-    {
-        self.literals
     }
 }
 

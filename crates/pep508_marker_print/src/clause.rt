@@ -1,9 +1,9 @@
 //! Clauses that tell quickly whether they can matter to another one.
 
 ghost use Rattle.std.specs.Prelude.{◌≡◌};
-ghost use Rattle.pep508_marker_print.specs.Near.{have_literals, literals_of, is_near, may_cover};
+ghost use Rattle.pep508_marker_print.specs.Near.{is_near, may_cover};
 
-use crate::bits::{Bits, Literals};
+use crate::bits::Bits;
 use crate::term::Term;
 use std::marker::Model;
 
@@ -57,12 +57,5 @@ impl<T: Term> Clause<T> {
         ensures { result ≡ may_cover T.word T.literal self.now other.now }
     {
         self.bits.may_stand_in(other.bits)
-    }
-
-    /// Whether all bits of the clause's terms are among given ones.
-    pub(crate) fn is_among(&self, literals: Literals) -> bool
-        ensures { result ≡ have_literals literals (literals_of T.literal self.now) }
-    {
-        literals.have(self.bits.literals())
     }
 }

@@ -15,14 +15,20 @@ use std::alloc::{AllocError, Global};
 /// The clauses without terms that the other clauses make needless, and then without those that others
 /// cover; no comparison is copied.
 ///
-/// For each clause it looks twice at each other one, at four numbers at most: the bits, by hashes, of its
-/// values, twice, and of its terms, in two kinds. It goes on where the other's bits are all the clause's own;
-/// the first time, where a term may be needless, one of each kind may be another. Then it looks, for each
-/// term of the clause, at two of the numbers again, and where they have no bits but those of the clause and
-/// of the term's negation, at the terms, up to the first that decides. The second time, where the clause may
-/// be covered, it goes on to the terms at once. Clauses of the same ten flags have all bits of each other's
-/// values: of these it goes on for one in 30 to 110, by the flags' names, where one in 100 matters. The more
-/// terms the clauses have, beyond some twenty, the less the bits tell.
+/// For each clause of several terms it looks at four numbers of each other one at most: the bits, by hashes,
+/// of its values, twice, and of its terms, in two kinds. Where the bits are all the clause's own, but for one
+/// of each kind of terms, it looks for the hashes of the other's terms among those of the clause, from the
+/// last term on, up to the second that isn't there. The others of which at most one isn't there are kept.
+/// For each term of the clause it looks at that one of each kept clause, and where it is the negation's, or
+/// where there is none, at the terms, up to the first that decides.
+///
+/// Then it looks at the four numbers of each other clause again, and at the terms at once where the bits are
+/// all the clause's own, so that the clause may be covered. Clauses of the same ten flags have all bits of
+/// each other's values: of these it goes on for one in 30 to 110, by the flags' names, where one in 100
+/// matters. The more terms the clauses have, beyond some twenty, the less the bits tell.
+///
+/// The clauses of n flags with `or` between them, of one to n terms, take some n * n looks for a hash, and
+/// n * n * n / 6 comparisons of two hashes.
 pub fn simplified_clauses(
     alloc: Global,
     clauses: Vec<Vec<MarkerExpression>>,

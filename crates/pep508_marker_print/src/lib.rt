@@ -7,6 +7,7 @@ mod clause;
 mod clause_text;
 mod clauses;
 mod simplify;
+mod strays;
 mod term;
 
 pub use clauses::{clauses_text, simplified_clauses};

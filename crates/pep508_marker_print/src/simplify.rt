@@ -1,17 +1,17 @@
 //! Clauses without needless terms, and without needless clauses.
 
-ghost use Rattle.std.specs.Prelude.{◌≡◌, [], ◌∷◌, ◌++◌, ◌&&◌, ◌||◌, not, length, ◌<◌, IfOk, OnOk};
-ghost use Rattle.std.specs.List.{list_any, list_all, filter};
-ghost use Rattle.pep508_marker_text.specs.Simplified.{sifted, stands_in, spares, is_needless, is_covered};
+ghost use Rattle.std.specs.Prelude.{◌≡◌, [], ◌++◌, ◌&&◌, ◌||◌, not, IfOk, OnOk};
+ghost use Rattle.std.specs.List.{list_any, list_all};
+ghost use Rattle.pep508_marker_text.specs.Simplified.{sifted, has_some, stands_in, spares, is_needless, is_covered};
 ghost use Rattle.pep508_marker_text.specs.Simplified.{shortened_behind, simplified};
-ghost use Rattle.pep508_marker_print.specs.Terms.{lists_of, lent_lists};
-ghost use Rattle.pep508_marker_print.specs.Places.{needless_at};
-ghost use Rattle.pep508_marker_print.specs.Near.{is_near, literals_of, with_literal};
+ghost use Rattle.pep508_marker_print.specs.Sparing.{has, candidates_of, is_spared_by, is_needless_by};
+ghost use Rattle.pep508_marker_print.specs.Terms.{lists_of};
 
-use crate::bits::Literals;
 use crate::clause::Clause;
+use crate::strays::{Candidate, add_candidate, words};
 use crate::term::Term;
 use std::alloc::{AllocError, Global};
+use std::collections::BTreeSet;
 
 /// Whether a term stands in a clause.
 fn stands_in<T: Term>(clause: &[T], term: &T) -> bool
@@ -54,109 +54,105 @@ fn spares<T: Term>(term: &T, front: &[T], behind: &[T], clause: &[T]) -> bool
     true
 }
 
-/// Whether a clause spares a term that stands among others, whose bits and that of its negation are given.
-fn spares_by_bits<T: Term>(
+/// Whether a candidate spares a term that stands among others, whose negation has a word.
+fn spares_by_words<T: Term>(
     term: &T,
     front: &[T],
     behind: &[T],
-    bits: Literals,
-    clause: &Clause<T>,
+    negation: u64,
+    candidate: &Candidate<T>,
 ) -> bool
-    requires { bits ≡ with_literal (literals_of T.literal (front.now ++ term.now ∷ behind.now))
-        (T.negation term.now) }
-    ensures { result ≡ spares T.same T.opposite term.now (front.now ++ behind.now) clause.now }
+    ensures { result ≡ is_spared_by T.same T.opposite term.now (front.now ++ behind.now) negation
+        candidate.now }
 {
-    clause.is_among(bits) && spares(term, front, behind, clause.terms())
+    candidate.may_spare(negation) && spares(term, front, behind, candidate.terms())
 }
 
-/// Whether one of some clauses spares a term that stands among others, whose bits are given.
-fn one_spares<T: Term>(
-    term: &T,
-    front: &[T],
-    behind: &[T],
-    own: Literals,
-    clauses: &[&Clause<T>],
-) -> bool
-    requires { own ≡ literals_of T.literal (front.now ++ term.now ∷ behind.now) }
-    ensures { result
-        ≡ list_any (spares T.same T.opposite term.now (front.now ++ behind.now)) (lent_lists clauses.now) }
+/// Whether one of some candidates spares a term that stands among others.
+fn one_spares<T: Term>(term: &T, front: &[T], behind: &[T], candidates: &[Candidate<T>]) -> bool
+    ensures { result ≡ list_any
+        (is_spared_by T.same T.opposite term.now (front.now ++ behind.now) (T.negation term.now))
+        candidates.now }
 {
-    let bits = own.with_negation(term);
-    for clause in clauses {
-        if spares_by_bits(term, front, behind, bits, clause) {
+    let negation = term.negation();
+    for candidate in candidates {
+        if spares_by_words(term, front, behind, negation, candidate) {
             return true;
         }
     }
     false
 }
 
-/// Whether the term at a place of a clause, whose bits are given, is needless beside other clauses.
-fn is_needless<T: Term>(clause: &[T], own: Literals, place: usize, others: &[&Clause<T>]) -> bool
-    requires inside { place < length clause.now }
-    requires bits { own ≡ literals_of T.literal clause.now }
-    ensures { result ≡ needless_at T.same T.opposite (lent_lists others.now) clause.now place }
+/// Whether some terms stand in front or behind.
+#[tactic(auto, using(crate::proofs::Sifting::some_beside))]
+fn have_some<T: Term>(front: &[T], behind: &[T]) -> bool
+    ensures { result ≡ has_some (front.now ++ behind.now) }
 {
-    let (front, from) = clause.split_at(place);
-    match from.split_first() {
-        None => false,
-        Some((term, behind)) => {
-            if front.is_empty() && behind.is_empty() {
-                return false;
-            }
-            one_spares(term, front, behind, own, others)
-        }
-    }
+    !front.is_empty() || !behind.is_empty()
 }
 
-/// Takes out of a clause what is needless beside other clauses.
-fn shorten<T: Term>(clause: &mut Vec<T>, others: &[&Clause<T>])
-    ensures { clause.new.items
-        ≡ sifted (is_needless T.same T.opposite (lent_lists others.now)) [] clause.old.items }
+/// Whether a term that stands among others is needless beside candidates.
+fn is_needless<T: Term>(term: &T, front: &[T], behind: &[T], candidates: &[Candidate<T>]) -> bool
+    ensures { result
+        ≡ is_needless_by T.same T.opposite T.negation candidates.now term.now (front.now ++ behind.now) }
 {
-    let mut own = Literals::of(clause);
-    let mut place = 0;
-    while place < clause.len() {
-        if is_needless(clause, own, place, others) {
-            clause.remove(place);
-            own = Literals::of(clause);
-        } else {
-            place += 1;
-        }
-    }
+    have_some(front, behind) && one_spares(term, front, behind, candidates)
 }
 
-/// Adds those of some clauses that are near a clause.
-fn add_near<'a, T: Term>(
-    near: &mut Vec<&'a Clause<T>>,
+/// Some terms without those that are needless beside candidates.
+fn shorten<T: Term>(
+    alloc: Global,
+    terms: Vec<T>,
+    candidates: &[Candidate<T>],
+) -> Result<Vec<T>, AllocError>
+    ensures { IfOk result (λ short. short.items
+        ≡ sifted (is_needless_by T.same T.opposite T.negation candidates.now) [] terms.items) }
+{
+    let mut later = terms;
+    later.reverse();
+    let mut kept = Vec::new(alloc);
+    while let Some(term) = later.pop() {
+        if !is_needless(&term, &kept, &later, candidates) {
+            kept.push(term)?;
+        }
+    }
+    Ok(kept)
+}
+
+/// Adds those of some clauses that can spare a term of a clause, whose words are given.
+fn add_candidates<'a, T: Term>(
+    candidates: &mut Vec<Candidate<'a, T>>,
+    words: &BTreeSet<u64>,
     clause: &Clause<T>,
     others: &'a [Clause<T>],
 ) -> Result<(), AllocError>
-    ensures { OnOk result (lent_lists near.new.items
-        ≡ lent_lists near.old.items ++ filter (is_near T.word T.literal clause.now) others.now) }
+    ensures { OnOk result (candidates.new.items ≡ candidates.old.items
+        ++ candidates_of T.literal (has words.now.keys) T.word clause.now others.now) }
 {
     for other in others {
         if clause.is_near(other) {
-            near.push(other)?;
+            add_candidate(candidates, words, other)?;
         }
     }
     Ok(())
 }
 
-/// The clauses that can matter to a clause.
-#[tactic(auto, using(crate::proofs::Near::near_beside))]
-fn near<'a, T: Term>(
+/// The clauses that can spare a term of a clause, whose words are given.
+#[tactic(auto, using(crate::proofs::Near::candidates_beside))]
+fn candidates<'a, T: Term>(
     alloc: Global,
+    words: &BTreeSet<u64>,
     clause: &Clause<T>,
     done: &'a [Clause<T>],
     later: &'a [Clause<T>],
-) -> Result<Vec<&'a Clause<T>>, AllocError>
-    ensures { IfOk result (λ near.
-        lent_lists near.items ≡ filter (is_near T.word T.literal clause.now) (done.now ++ later.now)) }
+) -> Result<Vec<Candidate<'a, T>>, AllocError>
+    ensures { IfOk result (λ candidates. candidates.items
+        ≡ candidates_of T.literal (has words.now.keys) T.word clause.now (done.now ++ later.now)) }
 {
-    let mut near = Vec::new(alloc);
-    add_near(&mut near, clause, done)?;
-    add_near(&mut near, clause, later)?;
-    Ok(near)
+    let mut candidates = Vec::new(alloc);
+    add_candidates(&mut candidates, words, clause, done)?;
+    add_candidates(&mut candidates, words, clause, later)?;
+    Ok(candidates)
 }
 
 /// A clause without what is needless beside other clauses.
@@ -169,10 +165,13 @@ fn shortened_clause<T: Term>(
     ensures { IfOk result (λ short.
         short ≡ sifted (is_needless T.same T.opposite (done.now ++ later.now)) [] clause) }
 {
-    let near = near(alloc, &clause, done, later)?;
-    let mut terms = clause.into_terms();
-    shorten(&mut terms, &near);
-    Ok(Clause::new(terms))
+    if clause.terms().len() < 2 {
+        return Ok(clause);
+    }
+    let words = words(alloc, clause.terms())?;
+    let candidates = candidates(alloc, &words, &clause, done, later)?;
+    let short = shorten(alloc, clause.into_terms(), &candidates)?;
+    Ok(Clause::new(short))
 }
 
 /// The clauses, one after another, without their needless terms.
@@ -269,11 +268,11 @@ fn as_lists<T: Term>(alloc: Global, clauses: Vec<Clause<T>>) -> Result<Vec<Vec<T
 
 /// The clauses without their needless terms, and then without those that others cover.
 ///
-/// Of each clause it looks at four numbers of each other one at most. Where the bits of its values are all
-/// the clause's own, and those of its terms but for one of each kind, it looks at these once for each term of
-/// the clause, and where they are the clause's own or the negation's, at the terms, up to the first that
-/// decides. Then it looks at four numbers of each other one again, and at the terms where all bits are the
-/// clause's.
+/// For a clause of several terms it looks at four numbers of each other one at most. Where the bits of its
+/// values are all the clause's own, and those of its terms but for one of each kind, it looks for the words of
+/// its terms among the clause's. The others of which at most one word isn't there are kept: each term of the
+/// clause looks at that word of each, and where it may be spared, at the terms, up to the first that decides.
+/// Then it looks at four numbers of each other one again, and at the terms where all bits are the clause's.
 pub(crate) fn simplified<T: Term>(
     alloc: Global,
     clauses: Vec<Vec<T>>,

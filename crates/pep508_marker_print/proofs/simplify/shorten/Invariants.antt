@@ -1,15 +1,14 @@
-use Rattle.std.proofs.Common.{◌≡◌, ◌-◌, [], take, drop, length}
-use Rattle.pep508_marker_text.specs.Simplified.{sifted, is_needless}
-use Rattle.pep508_marker_print.specs.Near.{literals_of}
-use Rattle.pep508_marker_print.specs.Terms.{lent_lists}
+use Rattle.std.proofs.Common.{◌≡◌, [], length}
+use Rattle.std.specs.Prelude.{reverse}
+use Rattle.pep508_marker_text.specs.Simplified.{sifted}
+use Rattle.pep508_marker_print.specs.Sparing.{is_needless_by}
 use Rattle.pep508_marker_print.proofs.simplify.shorten.Given as goal
 
-abbrev pub invariant-loop-place : goal.invariant-loop-place
-invariant-loop-place g l =
-    (sifted (is_needless g.T.Term.same g.T.Term.opposite (lent_lists l.others)) [] l.fn.clause.items
-    ≡ sifted (is_needless g.T.Term.same g.T.Term.opposite (lent_lists l.others))
-    (take l.place l.clause.items) (drop l.place l.clause.items))
-    × (l.own ≡ literals_of g.T.Term.literal l.clause.items)
+abbrev pub invariant-loop-term : goal.invariant-loop-term
+invariant-loop-term g l =
+    sifted (is_needless_by g.T.Term.same g.T.Term.opposite g.T.Term.negation l.candidates) [] l.fn.terms.items
+    ≡ sifted (is_needless_by g.T.Term.same g.T.Term.opposite g.T.Term.negation l.candidates) l.kept.items
+    (reverse l.later.items)
 
-abbrev pub decreases-loop-place : goal.decreases-loop-place
-decreases-loop-place g l = length l.clause.items - l.place
+abbrev pub decreases-loop-term : goal.decreases-loop-term
+decreases-loop-term g l = length l.later.items
