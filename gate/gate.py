@@ -6,8 +6,8 @@
     gate.py --wrong [CRATE..]  each wrong edit of these crates, or of all
     gate.py --faults           plants faults, and sees that the gate fails at each
 
-Each part closes with a line `N passed, M failed`. The last line is that of their sums; the status is 0 where M is 0,
-and 2 where the words are others.
+Each part closes with a line `N passed, M failed`, or with two. The last line is that of their sums; the status is 0 where
+M is 0, and 2 where the words are others. Parts that run programs are run side by side.
 """
 
 import hashlib
@@ -17,6 +17,7 @@ import shutil
 import subprocess
 import sys
 import time
+from concurrent.futures import ThreadPoolExecutor
 
 from crates import TOP, Crates, sum_of_files, toolchain_sum
 from store import Store
@@ -30,10 +31,11 @@ OF_REQS = ("cli.sh", "help.txt", "install.sh", "lists", "pages", "refuse.c", "re
 
 
 class Part:
-    """A part of the gate: its name, its words, and the programs and files that its verdict rests on, if it is kept."""
+    """A part of the gate: its name, its words, the programs and files that its verdict rests on, if it is kept, and how
+    many lines it closes with."""
 
-    def __init__(self, name, words, programs=(), rests_on=()):
-        self.name, self.words, self.programs, self.rests_on = name, words, programs, rests_on
+    def __init__(self, name, words, programs=(), rests_on=(), closings=1):
+        self.name, self.words, self.programs, self.rests_on, self.closings = name, words, programs, rests_on, closings
 
     def entry(self, crates):
         """The name of its verdict in the store, or None where it is tried each time."""
@@ -45,6 +47,7 @@ class Part:
 
 
 def parts(more):
+    """The parts that are run one after another, and those that are then run side by side."""
     python = [sys.executable]
     of_reqs = ("examples", "reqs", "build", "install", "share", "try", *(f"tests/{it}" for it in OF_REQS))
     asked = [f"crates/{it}/{of}" for it in QUESTIONS for of in ("data", "stdout")]
@@ -54,8 +57,8 @@ def parts(more):
         Part("calls and least counts", [*python, "gate/asked.py"]),
         Part("constants in definitions", [*python, "gate/constants.py"]),
         Part("lent calls", [*python, "gate/lent.py"]),
-        Part("proofs", [*python, "gate/prove.py", *more]),
-        Part("wrong edits", [*python, "gate/wrong.py", *more, "--gate"]),
+        Part("proofs and wrong edits", [*python, "gate/together.py", *more], closings=2),
+    ], [
         Part("command line", ["bash", "tests/cli.sh"], ["reqs_cli"], of_reqs),
         Part("a first answer", ["bash", "tests/try.sh"], ["reqs_cli"], of_reqs),
         Part("installing", ["bash", "tests/install.sh"], ["reqs_cli"], of_reqs),
@@ -64,46 +67,67 @@ def parts(more):
     ]
 
 
-def run(part):
+def run(part, show):
     """Runs a part and shows what it says. Returns what passed and failed."""
     said = []
     how = {"stdin": subprocess.DEVNULL, "stdout": subprocess.PIPE, "stderr": subprocess.STDOUT, "errors": "replace"}
     with subprocess.Popen(part.words, cwd=TOP, **how) as ran:
         for line in ran.stdout:
             said.append(line)
-            print(f"    {line}", end="", flush=True)
-    closing = CLOSING.findall("".join(said))
-    if not closing:
-        print(f"test: {part.name} ended with status {ran.returncode} and without its closing line")
+            show(f"    {line}")
+    closings = CLOSING.findall("".join(said))[-part.closings :]
+    if len(closings) < part.closings:
+        show(f"test: {part.name} ended with status {ran.returncode} and without its closing line\n")
         return 0, 1
-    good, bad = (int(it) for it in closing[-1])
-    if bad == 0 and (ran.returncode or good == 0):
-        print(f"test: {part.name} ended with status {ran.returncode}, {good} passed and none failed: that is no pass")
+    good, bad = (sum(int(it[at]) for it in closings) for at in (0, 1))
+    if bad == 0 and (ran.returncode or any(it[0] == "0" for it in closings)):
+        show(f"test: {part.name} ended with status {ran.returncode}, {good} passed and none failed: that is no pass\n")
         bad = 1
     return good, bad
 
 
-def judged(part, crates, store):
+def judged(part, crates, store, show):
     """What passed and failed of a part, which isn't run where the store has the verdict."""
+    began = time.monotonic()
+    show(f"test: {part.name}\n")
     entry = part.entry(crates)
     kept = re.fullmatch(r"(\d+) passed", store.verdict(entry) or "") if entry else None
     if kept:
-        print(f"    {kept[1]} passed, taken from the store", flush=True)
-        return int(kept[1]), 0
-    good, bad = run(part)
-    if entry and not bad and part.entry(Crates()) == entry:
-        store.keep_verdict(entry, f"{good} passed")
+        show(f"    {kept[1]} passed, taken from the store\n")
+        good, bad = int(kept[1]), 0
+    else:
+        good, bad = run(part, show)
+        if entry and not bad and part.entry(Crates()) == entry:
+            store.keep_verdict(entry, f"{good} passed")
+    show(f"test: {part.name}: {good} passed, {bad} failed in {time.monotonic() - began:.0f} s\n")
     return good, bad
 
 
+def judged_apart(part, crates, store):
+    """The same, but what the part says is shown once it has ended."""
+    said = []
+    counts = judged(part, crates, store, said.append)
+    print("".join(said), end="", flush=True)
+    return counts
+
+
+def are_built(programs):
+    """Has programs built, which is no work where they were proved; the parts that run them then find them there."""
+    words = [sys.executable, "gate/prove.py", "--program"]
+    return all(subprocess.run([*words, it], cwd=TOP).returncode == 0 for it in programs)
+
+
 def gate(more):
-    store, crates, passed, failed = Store(reads=not more), Crates(), 0, 0
-    for part in parts(more):
-        began = time.monotonic()
-        print(f"test: {part.name}", flush=True)
-        good, bad = judged(part, crates, store)
-        print(f"test: {part.name}: {good} passed, {bad} failed in {time.monotonic() - began:.0f} s", flush=True)
-        passed, failed = passed + good, failed + bad
+    store, crates = Store(reads=not more), Crates()
+    alone, together = parts(more)
+    counts = [judged(it, crates, store, lambda text: print(text, end="", flush=True)) for it in alone]
+    if are_built(["reqs_cli", *QUESTIONS]):
+        with ThreadPoolExecutor() as pool:
+            counts += pool.map(lambda part: judged_apart(part, crates, store), together)
+    else:
+        print("test: the programs were not built, so nothing that runs them was tried")
+        counts.append((0, len(together)))
+    passed, failed = (sum(it[at] for it in counts) for at in (0, 1))
     print(f"{passed} passed, {failed} failed")
     return 1 if failed else 0
 

@@ -16,11 +16,11 @@ BESIDE = 2
 
 
 class Task:
-    """What a task waits for, the seconds that it takes by one job, its memory in bytes, and a call that gets what
-    was given and how many jobs it may use."""
+    """What a task waits for, the seconds that it takes by one job, its memory in bytes, a call that gets what was given
+    and how many jobs it may use, and how many jobs are of use to it."""
 
-    def __init__(self, waits, seconds, memory, call):
-        self.waits, self.seconds, self.memory, self.call = waits, seconds, memory, call
+    def __init__(self, waits, seconds, memory, call, most_jobs=max(GAIN)):
+        self.waits, self.seconds, self.memory, self.call, self.most_jobs = waits, seconds, memory, call, most_jobs
         self.chain = seconds
 
     def takes(self, jobs):
@@ -50,7 +50,7 @@ class Lanes:
         task, work = self.tasks[key], sum(self.tasks[it].seconds for it in self.left)
         share = max(work / self.lanes, 1)
         wanted = next((it for it in GAIN if task.chain / GAIN[it] <= share), max(GAIN))
-        most = max(1, min(wanted, idle + BESIDE if task.chain > share else idle))
+        most = max(1, min(wanted, task.most_jobs, idle + BESIDE if task.chain > share else idle))
         room = self.memory - sum(self.tasks[it].takes(jobs) for it, jobs in self.running.values())
         fits = [it for it in range(1, most + 1) if task.takes(it) <= room]
         return max(fits) if fits else 0 if self.running else 1

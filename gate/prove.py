@@ -36,6 +36,8 @@ class Prover:
         self.rt, self.store, self.crates = rt, store, Crates()
         self.proves = rt.Crate.ci
         self.taken, self.proved = [], []
+        # makes more tasks, to be run beside those of the crates
+        self.more_tasks = dict
         self.turns = {it: threading.Lock() for it in self.crates}
 
     def kind(self, name, tests=False):
@@ -91,7 +93,12 @@ class Prover:
             name, tests = (key, False) if isinstance(key, str) else (key[0], key[1] == TESTS)
             is_kept = self.store.has(self.entry(name, tests))
             made[key] = Task(waits, 1 if is_kept or not lines else SECONDS + SECONDS_A_LINE * lines, memory, call)
-        return Lanes(made, self.rt.processors(), MEMORY * self.rt.free()).run()
+        made.update(self.more_tasks())
+        return self.run(made)
+
+    def run(self, tasks):
+        """Runs tasks, as many side by side as processors and memory allow."""
+        return Lanes(tasks, self.rt.processors(), MEMORY * self.rt.free()).run()
 
     def told(self):
         return f"{len(self.proved)} proved, {len(self.taken)} taken from the store"

@@ -35,12 +35,15 @@ import time
 import toolchain
 from crates import TOP, Crates, sum_of_files
 from edits import FLOORS, Misfit, edits_of, read_gate, strays
-from prove import LIBRARY, Chain, Prover
+from lanes import Task
+from prove import SECONDS, Chain, Prover
 from store import Store
 
 SCRIPTS = sum_of_files([os.path.join(TOP, "gate", it) for it in ("edits.py", "wrong.py")])
 # Where one of the edits in a check doesn't compile, the check tells of none.
 MOST_TOGETHER = 20
+# What an edit takes in its check, about.
+SECONDS_AN_EDIT = 15
 # What rattle says of a proof file that names what an edit took away, and of what rests on a refused part.
 LOST = re.compile(r"has no field|is not in scope|has no `|was not admitted|\(nearest: |were not checked")
 TOLD = re.compile(r"^fn (\S+): (proved|not proved.*|no proof.*)$", re.M)
@@ -222,12 +225,18 @@ class Trial:
             self.record(it, False, f"its control isn't proved, so the edit shows nothing: {why}")
 
     def run_check(self, call, kind, edits, texts):
-        before = time.monotonic()
-        call(edits, texts)
+        before, crate = time.monotonic(), edits[0].crate
+        below = [it.name for it in self.prover.crates.below(crate.name)]
+        lost = next((it for it in below if not self.prover.lay_out(it)), None)
+        if lost:
+            for it in edits:
+                self.record(it, False, f"not tried, since the library {lost} isn't in the store")
+        else:
+            call(edits, texts)
         with self.turn:
             self.ended += 1
             print(
-                f"wrong: {edits[0].crate.name}: {len(edits)} {kind} in {time.monotonic() - before:.0f} s"
+                f"wrong: {crate.name}: {len(edits)} {kind} in {time.monotonic() - before:.0f} s"
                 f" ({self.ended} of {self.checks} checks, {time.monotonic() - self.began:.0f} s)",
                 flush=True,
             )
@@ -245,24 +254,31 @@ class Trial:
             elif it not in at_functions:
                 self.record(it, False, "it changes no function, so the gate can't try it")
 
-    def run(self, edits):
-        """Tries edits, as many checks side by side as processors and memory allow."""
+    def tasks(self, edits, waits_of=lambda crate: []):
+        """The checks by which edits are tried, as tasks that wait for what a crate's wait for."""
         chain = Chain(self.prover, sorted({it.crate.name for it in edits}))
         self.rt_crates = {it.name: it for it in chain.crates}
-        tasks = {}
+        made = {}
         for crate in {it.crate.name: it.crate for it in edits}.values():
             for check in self.checks_of([it for it in edits if it.crate is crate]):
-                work = len(check[2]) * crate.memory()
+                seconds = SECONDS + SECONDS_AN_EDIT * len(check[2])
                 call = lambda _given, _jobs, check=check: self.run_check(*check)
-                tasks[crate.name, "edits", len(tasks)] = [], work, crate.memory(), call
-        self.checks, self.tried = len(tasks), len(edits)
-        self.prover.rt.in_lanes(tasks)
+                made[crate.name, "edits", len(made)] = Task(waits_of(crate), seconds, crate.memory(), call, most_jobs=1)
+        self.checks, self.tried = len(made), len(edits)
+        return made
 
+    def left_of(self, edits):
+        """Those edits that are to be tried: they fit, and the store has no verdict of them."""
+        left = []
+        for it in edits:
+            if it.why:
+                self.record(it, False, it.why)
+            elif not self.take(it):
+                left.append(it)
+        return left
 
-def lacking(prover, name):
-    """A library that is neither in the store nor laid out, of a crate or below it, or None."""
-    needed = [it.name for it in [*prover.crates.below(name), prover.crates[name]]]
-    return next((it for it in needed if prover.kind(it) == LIBRARY and not prover.lay_out(it)), None)
+    def summary(self):
+        return f"{self.tried} edits tried, {self.taken} verdicts taken from the store"
 
 
 def try_edits(edits, is_gate, is_from_nothing):
@@ -273,24 +289,13 @@ def try_edits(edits, is_gate, is_from_nothing):
         print(f"FAILED: gate/toolchain.py doesn't know this toolchain's rt ({error}), so no edit was tried")
         return 0, len(edits)
     trial = Trial(prover, Store(reads=not is_from_nothing), not is_gate)
-    left = []
-    for it in edits:
-        if it.why:
-            trial.record(it, False, it.why)
-        elif not trial.take(it):
-            left.append(it)
+    left = trial.left_of(edits)
     names = [it for it in prover.crates if it in {edit.crate.name for edit in left}]
     if names and not is_gate:
         Chain(prover, names).run()
-    lost = {it: lacking(prover, it) for it in names}
-    for it in left:
-        for _ in it.changes() if lost[it.crate.name] else []:
-            why = f"not tried, since the library {lost[it.crate.name]} isn't in the store"
-            trial.record(it, False, why)
-    ready = [it for it in left if not lost[it.crate.name]]
-    if ready:
-        trial.run(ready)
-    print(f"wrong: {trial.tried} edits tried, {trial.taken} verdicts taken from the store")
+    if left:
+        prover.run(trial.tasks(left))
+    print(f"wrong: {trial.summary()}")
     return trial.passed, trial.failed
 
 
@@ -324,6 +329,25 @@ def faults_of_gate(crates, chosen, floors, known):
                 yield f"tests/wrong/gate.txt: {floor}: {number} {what}, and not {wanted} or more"
 
 
+def read_edits(crates, names, is_gate):
+    """The edits of these crates, or of all, or those of them that the gate tries; and what is amiss with their files."""
+    found = {name: edits_of(crate) for name, crate in crates.items()}
+    known = {name: edits for name, (edits, _) in found.items()}
+    chosen, floors = read_gate()
+    told = [it for _, faults in found.values() for it in faults]
+    told += [f"tests/wrong/{it}: crates.txt names no such crate" for it in strays(crates)]
+    told += faults_of_gate(crates, chosen, floors, known)
+    for it in told:
+        print(f"FAILED: {it}")
+    tried = [it for edits in known.values() for it in edits.values() if not names or it.crate.name in names]
+    if is_gate:
+        tried = [it for it in tried if it.name in chosen.get(it.crate.name, [])]
+    if not tried:
+        told.append("no edit")
+        print("FAILED: there is no edit to try")
+    return tried, len(told)
+
+
 def end_on_signals():
     """Has all that is written while edits are tried in one folder, which a signal removes too."""
     room = tempfile.tempdir = tempfile.mkdtemp(prefix="fowlyore-wrong-")
@@ -347,27 +371,14 @@ def main(words):
     if unknown:
         print(f"wrong: crates.txt names no crate {unknown[0]}", file=sys.stderr)
         return 2
-    found = {name: edits_of(crate) for name, crate in crates.items()}
-    known = {name: edits for name, (edits, _) in found.items()}
-    chosen, floors = read_gate()
-    told = [it for _, faults in found.values() for it in faults]
-    told += [f"tests/wrong/{it}: crates.txt names no such crate" for it in strays(crates)]
-    told += faults_of_gate(crates, chosen, floors, known)
-    for it in told:
-        print(f"FAILED: {it}")
-    tried = [it for edits in known.values() for it in edits.values() if not names or it.crate.name in names]
-    if mode == "--gate":
-        tried = [it for it in tried if it.name in chosen.get(it.crate.name, [])]
+    tried, amiss = read_edits(crates, names, mode == "--gate")
     if mode == "--texts":
         good, bad = see_texts(tried)
     else:
         room = end_on_signals()
         good, bad = try_edits(tried, mode == "--gate", is_from_nothing)
         shutil.rmtree(room, ignore_errors=True)
-    if not good + bad:
-        told.append("no edit")
-        print("FAILED: there is no edit to try")
-    bad += len(told)
+    bad += amiss
     print(f"{good} passed, {bad} failed")
     return 1 if bad else 0
 
