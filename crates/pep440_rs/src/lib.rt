@@ -1,5 +1,13 @@
 //! Versions and version specifiers of Python packages, as PEP 440 has them.
 //!
+//! A specifier list takes a version or not:
+//!
+//! ```text
+//! let version = Version::from_str(alloc, "1.19")?;
+//! let wanted = VersionSpecifiers::from_str(alloc, ">=1.16, <2")?;
+//! let is_taken = wanted.contains(alloc, &version)?;
+//! ```
+//!
 //! The crates below hold the code; this one passes on what they offer.
 #![tactic(auto)]
 

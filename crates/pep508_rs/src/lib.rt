@@ -1,5 +1,15 @@
 //! Requirements of Python packages, as PEP 508 has them: names, extras, specifiers, URLs and markers.
 //!
+//! Trees of markers stand in an interner, which reads them and is asked with them:
+//!
+//! ```text
+//! let mut interner = Interner::new(alloc);
+//! let vars = Vars::new(alloc, &[], "/")?;
+//! let text = "requests[socks]>=2.8.1 ; python_version < '3.13'";
+//! let wanted = Requirement::<VerbatimUrl>::from_str(alloc, &mut interner, &vars, text)?;
+//! let applies = wanted.evaluate_markers(&interner, &environment, &[]);
+//! ```
+//!
 //! The crates below hold the code; this one passes on what they offer, and versions and specifiers as
 //! `pep440_rs`.
 #![tactic(auto)]

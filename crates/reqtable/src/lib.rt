@@ -1,6 +1,17 @@
 //! Requirement lists and candidate lists, and their judge: which packages an environment asks for, and the
 //! greatest candidate that each of them may have.
 //!
+//! Lists are read once, and judged for as many environments as are wanted:
+//!
+//! ```text
+//! let mut interner = Interner::new(alloc);
+//! let requirements = Requirements::parse(alloc, requirements_text, &mut interner, &vars)?;
+//! let candidates = Candidates::parse(alloc, candidates_text)?;
+//! let admission = Admission::new(|_, _| true);
+//! let answer = requirements.judge(alloc, &interner, &environment, &extras, &candidates, &admission)?;
+//! let text = answer.text(alloc, &candidates)?;
+//! ```
+//!
 //! The crates below hold the code; this one passes on what they offer, and requirements as `pep508_rs`.
 #![tactic(auto)]
 
