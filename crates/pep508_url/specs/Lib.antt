@@ -6,4 +6,5 @@ pub mod Splits
 pub mod UrlFaults
 pub mod Paths
 pub mod UrlTexts
+pub mod Hashing
 pub mod Lacking

@@ -1,12 +1,11 @@
 //! URLs print, compare and hash as their text.
 
 ghost use Rattle.std.specs.Prelude.{Some, refl};
-ghost use Rattle.std.proofs.Common.{rules};
 ghost use Rattle.std.specs.Hash as fed;
 ghost use Rattle.std.specs.Cmp.{on_equiv, on_total, on_po, on_per, partial_equiv_from_equiv};
 ghost use Rattle.std.specs.Cmp.Lexicographic.{nat_list_eq_equiv, nat_list_cmp_total, texts_ties, texts_po};
-ghost use Rattle.std.specs.Cmp.Rules.{hashing};
 ghost use Rattle.pep508_url.specs.UrlTexts.{url_text, url_eq, url_cmp};
+ghost use Rattle.pep508_url.specs.Hashing.{alike_urls};
 
 use crate::VerbatimUrl;
 use std::cmp::Ordering;
@@ -71,7 +70,7 @@ impl Ord for VerbatimUrl {
 impl Hash for VerbatimUrl {
     ghost hash_input = { λ v. fed.str (url_text v) };
 
-    ghost respects_eq = { Prim.search (hashing, rules) };
+    ghost respects_eq = { alike_urls };
 
     fn hash<H: Hasher>(&self, state: &mut H) {
         self.raw().as_str().hash(state);
