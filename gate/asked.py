@@ -39,7 +39,6 @@ RUN = ("reqs", "reqs_cli")
 # Calls that need no question, and why.
 LENT = "lent to the crates of trees, and public only since its type is"
 UNASKED = {
-    "Interner::pairs": LENT,
     "MarkerTree::place": LENT,
     "MarkerTree::is_negated": LENT,
 }

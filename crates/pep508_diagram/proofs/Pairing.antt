@@ -1,6 +1,7 @@
 -- One pass over two rising lists of branches: what it has still to write.
-use Rattle.std.proofs.Common.{◌≡◌, inl, inr, ◌+◌, ◌<◌, true, false, List, [], ◌∷◌, ◌++◌, length, refl, sym, ap, subst, ◌∙◌, arith, append_assoc, append-nil}
+use Rattle.std.proofs.Common.{◌≡◌, inl, inr, ◌+◌, ◌<◌, true, false, List, [], ◌∷◌, ◌++◌, length, map, refl, sym, ap, subst, ◌∙◌, arith, append_assoc, append-nil}
 use Rattle.std.proofs.lemmas.Bool.{cases_Bool}
+use Rattle.std.proofs.lemmas.List.{map-append}
 use Rattle.std.specs.Cmp.{IsTotalOrder, tied_itself, tied_back, alike_right}
 use Rattle.std.specs.Ordering.{ordering_reverse}
 use Rattle.std.specs.declared.cmp.Ordering.{Ordering}
@@ -14,7 +15,7 @@ use Rattle.version_ranges.proofs.Membership.{like}
 use Rattle.pep508_diagram.specs.declared.branch.Branch.{Branch}
 use Rattle.pep508_diagram.specs.Branches.{RisingBranches, branch_at, AllBranches}
 use Rattle.pep508_diagram.specs.Chains.{IsChild}
-use Rattle.pep508_diagram.specs.Pairing.{GoesOn, IsNext}
+use Rattle.pep508_diagram.specs.Pairing.{GoesOn, IsNext, AreChildPairs}
 use Rattle.pep508_diagram.proofs.Branching.{Before, before_unreached, before_earlier, before_equal}
 
 -- all children are the first's or the others'
@@ -203,6 +204,62 @@ module _ {T C : Type 0} {cmp : T → T → Ordering} (o : IsTotalOrder cmp) {fir
         before = λ t a b. tt;
       }) in
       subst (Pairs cmp first later other_first other_later) (append-nil pairs) (w.continues [] none)
+
+-- a pass that writes the children alone
+pub record ChildPassing {T C : Type 0} (cmp : T → T → Ordering) (first : C) (later : List (Branch T C))
+    (other_first : C)
+    (other_later : List (Branch T C)) (child : C) (left : List (Branch T C)) (other_child : C)
+    (other_left : List (Branch T C)) (pairs : List (C × C)) : Type 0 where
+  pub branches : List (Branch T (C × C))
+  pub pairs_are : pairs ≡ (first, other_first) ∷ map (λ branch. branch.child) branches
+  pub passing : Passing cmp first later other_first other_later child left other_child other_left branches
+
+module _ {T C : Type 0} {cmp : T → T → Ordering} (o : IsTotalOrder cmp) {first : C}
+    {later : List (Branch T C)}
+    {other_first : C} {other_later : List (Branch T C)} where
+  pub children_none : (pairs : List (C × C)) → pairs ≡ (first, other_first) ∷ [] → RisingBranches cmp later →
+      RisingBranches cmp other_later →
+      ChildPassing cmp first later other_first other_later first later other_first other_later pairs
+  children_none pairs e rises other_rises = record {
+    branches = [];
+    pairs_are = e;
+    passing = passing_none o [] refl rises other_rises;
+  }
+
+  pub children_more : (t : Boundary T) (child : C) (left : List (Branch T C)) (next : C)
+      (behind : List (Branch T C))
+      (other_child : C) (other_left : List (Branch T C)) (other_next : C) (other_behind : List (Branch T C))
+      (pairs more : List (C × C)) →
+      ChildPassing cmp first later other_first other_later child left other_child other_left pairs →
+      IsNext cmp t child left next behind other_child other_left other_next other_behind →
+      more ≡ pairs ++ ((next, other_next) ∷ []) →
+      ChildPassing cmp first later other_first other_later next behind other_next other_behind more
+  children_more t child left next behind other_child other_left other_next other_behind pairs more w n e =
+      let pair : Branch T (C × C) = record { boundary = t; child = (next, other_next) } in
+      record {
+        branches = w.branches ++ (pair ∷ []);
+        pairs_are =
+            e
+            ∙ ap (λ ps. ps ++ ((next, other_next) ∷ [])) w.pairs_are
+            ∙ ap (λ ps. (first, other_first) ∷ ps)
+            (sym (map-append (λ (b : Branch T (C × C)). b.child) w.branches (pair ∷ [])));
+        passing = passing_more o t child left next behind other_child other_left other_next other_behind
+            w.branches (w.branches ++ (pair ∷ [])) t w.passing n refl refl;
+      }
+
+  pub children_all : (child : C) (left : List (Branch T C)) (other_child : C) (other_left : List (Branch T C))
+      (pairs : List (C × C)) →
+      ChildPassing cmp first later other_first other_later child left other_child other_left pairs →
+      left ≡ [] → other_left ≡ [] → AreChildPairs cmp first later other_first other_later pairs
+  children_all child left other_child other_left pairs w e f =
+      let all = passing_all o child left other_child other_left w.branches w.passing e f in
+      record {
+        branches = w.branches;
+        pairs_are = w.pairs_are;
+        points = all.points;
+        rises = all.rises;
+        children = all.children;
+      }
 
 -- the next boundary of two lists
 module _ {T C : Type 0} {cmp : T → T → Ordering} (o : IsTotalOrder cmp) (first other_first : C)

@@ -6,8 +6,10 @@ use Rattle.std.specs.declared.cmp.Ordering.{Ordering}
 use Rattle.std.specs.declared.cmp.Ordering.TheVariants.{Less, Equal}
 use Rattle.version_ranges.specs.declared.boundary.Boundary.{Boundary}
 use Rattle.version_ranges.specs.Boundaries.{boundary_cmp}
+use Rattle.version_ranges.specs.Point.{Point}
 use Rattle.pep508_diagram.specs.declared.branch.Branch.{Branch}
-use Rattle.pep508_diagram.specs.Branches.{RisingBranches}
+use Rattle.pep508_diagram.specs.Branches.{RisingBranches, branch_at, AllBranches}
+use Rattle.pep508_diagram.specs.Chains.{IsChild}
 
 module _ {T C : Type 0} (cmp : T → T → Ordering) where
   -- at a boundary a list goes on to its first branch, whose boundary equals that one, or stays as it is
@@ -33,3 +35,15 @@ module _ {T C : Type 0} (cmp : T → T → Ordering) where
     pub before : RisingBranches cmp later → RisingBranches cmp other_later → ComesBefore t left
     pub other_before : RisingBranches cmp later → RisingBranches cmp other_later → ComesBefore t other_left
     pub taken : length left + length other_left < length later + length other_later
+
+  -- pairs of children of two lists, in turn, which are those of branches: at each point of these stands what
+  -- stands there in the first and in the second
+  pub record AreChildPairs (first : C) (later : List (Branch T C)) (other_first : C)
+      (other_later : List (Branch T C)) (pairs : List (C × C)) : Type 0 where
+    pub branches : List (Branch T (C × C))
+    pub pairs_are : pairs ≡ (first, other_first) ∷ map (λ branch. branch.child) branches
+    pub points : (p : Point T) → branch_at cmp (first, other_first) branches p
+        ≡ (branch_at cmp first later p, branch_at cmp other_first other_later p)
+    pub rises : RisingBranches cmp branches
+    pub children : AllBranches (λ pair. IsChild pair.0 first later × IsChild pair.1 other_first other_later)
+        (first, other_first) branches

@@ -4,7 +4,7 @@ ghost use Rattle.std.specs.Prelude.{◌≡◌, [], IfOk, MatchOption};
 ghost use Rattle.version_ranges.specs.Point.{Point, At};
 ghost use Rattle.pep508_diagram.specs.Branches.{RisingBranches, branch_at, AllBranches};
 ghost use Rattle.pep508_diagram.specs.Chains.{IsChild};
-ghost use Rattle.pep508_diagram.specs.Pairing.{IsNext};
+ghost use Rattle.pep508_diagram.specs.Pairing.{IsNext, AreChildPairs};
 
 use crate::value::NodeValue;
 use std::alloc::{AllocError, Global};
@@ -113,6 +113,32 @@ pub fn paired<T: NodeValue, C: Copy>(
             boundary: copy_of(alloc, boundary)?,
             child: (child, other_child),
         })?;
+    }
+    Ok(pairs)
+}
+
+/// The pairs of what stands in two lists of branches, in turn: the children of what `paired` gives. One pass
+/// over both, which copies no boundary.
+pub fn paired_children<T: Ord, C: Copy>(
+    alloc: Global,
+    first: C,
+    later: &[Branch<T, C>],
+    other_first: C,
+    other_later: &[Branch<T, C>],
+) -> Result<Vec<(C, C)>, AllocError>
+    requires rising { RisingBranches T.cmp later.now }
+    requires other_rising { RisingBranches T.cmp other_later.now }
+    ensures { IfOk result (λ pairs.
+        AreChildPairs T.cmp first later.now other_first other_later.now pairs.items) }
+{
+    let (mut child, mut left) = (first, later);
+    let (mut other_child, mut other_left) = (other_first, other_later);
+    let mut pairs = Vec::new(alloc);
+    pairs.push((first, other_first))?;
+    while let Some((_, next, other_next)) = next_branch(child, left, other_child, other_left) {
+        (child, left) = next;
+        (other_child, other_left) = other_next;
+        pairs.push((child, other_child))?;
     }
     Ok(pairs)
 }

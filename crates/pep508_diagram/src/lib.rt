@@ -8,7 +8,7 @@ mod text;
 mod value;
 mod variable;
 
-pub use branch::{Branch, branch_at, paired};
+pub use branch::{Branch, branch_at, paired, paired_children};
 pub use by_turns::{shortened_branches, turned_branches};
 pub use text::MarkerText;
 pub use value::NodeValue;

@@ -4,9 +4,10 @@ use Rattle.std.specs.declared.cmp.Ordering.TheVariants.{Less}
 use Rattle.std.specs.List.{AllByRecursion, All}
 use Rattle.pep508_tree.specs.Tree.{Tree}
 use Rattle.pep508_tree.specs.Meaning.{NodeRecord}
-use Rattle.pep508_tree.specs.Disjoint.{AreDisjoint, ArePaired}
+use Rattle.pep508_tree.specs.Disjoint.{AreDisjoint}
 use Rattle.pep508_disjointness.specs.declared.asked.Asked.{Asked}
 use Rattle.pep508_disjointness.specs.Asked.{asked_cmp}
+use Rattle.pep508_disjointness.specs.Pairs.{ArePaired}
 use Rattle.pep508_disjointness.specs.Left.{IsAsked, IsApart, Replaced, with_pairs}
 use Rattle.pep508_disjointness.proofs.Ranks.{less_places, top, top_last, top_below}
 use Rattle.pep508_disjointness.proofs.Putting.{with_all, from_with, before_last, to_last, all_to}

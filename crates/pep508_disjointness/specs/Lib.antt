@@ -1,3 +1,5 @@
 pub mod Asked
 pub mod AskedLaws
 pub mod Left
+pub mod Pairs
+pub mod Sides

@@ -8,6 +8,7 @@ ghost use Rattle.pep508_tree.specs.Disjoint.{AreDisjoint};
 ghost use Rattle.pep508_disjointness.specs.Left.{IsAsked, IsApart, Replaced, with_pairs};
 
 use crate::asked::Asked;
+use crate::pairing::{Pair, pairs};
 use pep508_tree::{Interner, MarkerTree};
 use std::alloc::{AllocError, Global};
 use std::collections::BTreeSet;
@@ -30,10 +31,7 @@ fn plain_disjointness(a: MarkerTree, b: MarkerTree) -> Option<bool>
 }
 
 /// Puts pairs among those that are left.
-fn add_pairs(
-    left: &mut BTreeSet<Asked>,
-    pairs: &[(MarkerTree, MarkerTree)],
-) -> Result<(), AllocError>
+fn add_pairs(left: &mut BTreeSet<Asked>, pairs: &[Pair]) -> Result<(), AllocError>
     ensures { OnOk result (left.new.keys ≡ with_pairs left.old.keys pairs.now) }
 {
     for pair in pairs {
@@ -58,7 +56,7 @@ fn look_at(
     match plain_disjointness(asked.first, asked.second) {
         Some(apart) => Ok(apart),
         None => {
-            let pairs = interner.pairs(alloc, asked.first, asked.second)?;
+            let pairs = pairs(alloc, interner, asked.first, asked.second)?;
             add_pairs(left, &pairs)?;
             Ok(true)
         }

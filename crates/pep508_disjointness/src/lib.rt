@@ -3,5 +3,6 @@
 
 mod asked;
 mod disjointness;
+mod pairing;
 
 pub use disjointness::MarkerTreeDisjointness;

@@ -19,4 +19,3 @@ pub mod Roots
 pub mod Leaves
 pub mod Knowing
 pub mod Plain
-pub mod Disjoining

@@ -151,7 +151,7 @@ module _ (nodes : List NodeRecord) (sound : AreSound nodes) where
       (node_first a some made)
 
   -- a tree that asks only for later variables than a node, as a node of that variable
-  alone_in : (n : NodeRecord) (u c : Tree) → IsChildIn c (counterpart n u [] [] u) → c ≡ u
+  pub alone_in : (n : NodeRecord) (u c : Tree) → IsChildIn c (counterpart n u [] [] u) → c ≡ u
   alone_in (Versions key first later) u c is = is
   alone_in (Texts key first later) u c is = is
   alone_in (Flagged flag set unset) u c (inl is) = is
@@ -164,7 +164,7 @@ module _ (nodes : List NodeRecord) (sound : AreSound nodes) where
   unfolding Above
   above_sign place s t above = above
 
-  above_later : (place : List ℕ) (t : Tree) → 0 < t.place →
+  pub above_later : (place : List ℕ) (t : Tree) → 0 < t.place →
       text_cmp place (node_place (node_at nodes (t.place - 1))) ≡ Less → Above nodes place t
   unfolding Above
   above_later place t some less k e =

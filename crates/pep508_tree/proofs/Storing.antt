@@ -275,7 +275,7 @@ module _ (P : Tree → Type 0) (stable : (t : Tree) → P t → P (negation t)) 
   signed_children true (Flagged flag set unset) all = (stable set all.0, stable unset all.1)
   signed_children false n all = all
 
-same_boundaries : {T : Type 0} (later : List (Branch T Tree)) →
+pub same_boundaries : {T : Type 0} (later : List (Branch T Tree)) →
     map (λ branch. branch.boundary) (map turned_branch later) ≡ map (λ branch. branch.boundary) later
 same_boundaries [] = refl
 same_boundaries (branch ∷ later) = ap (λ bs. branch.boundary ∷ bs) (same_boundaries later)

@@ -3,14 +3,13 @@
 ghost use Rattle.std.specs.Prelude.{◌≡◌, ◌<◌, ◌-◌, [], ◌&&◌, IfOk};
 ghost use Rattle.pep508_diagram.specs.Question.{Valuation};
 ghost use Rattle.pep508_tree.specs.Meaning.{IsTree, Extends, holds};
-ghost use Rattle.pep508_tree.specs.Disjoint.{ArePaired};
 ghost use Rattle.pep508_tree.specs.Interning.{counted};
 ghost use Rattle.pep508_tree.specs.Forms.{record_of};
 ghost use Rattle.pep508_tree.specs.Nodes.{AreSound, IsRising, IsJoined, chosen, node_at, Above, AllChildren, Made, node_place};
 
 use crate::conjoiner::Conjoiner;
 use crate::leaf::with_constants;
-use crate::node::{Form, Node, turned_pairs};
+use crate::node::{Form, Node};
 use crate::tree::MarkerTree;
 use std::alloc::{AllocError, Global};
 use std::marker::Model;
@@ -124,28 +123,6 @@ impl Interner {
         ensures sound { AreSound self.now.nodes }
     {
         self.conjoiner.node_of(tree)
-    }
-
-    /// The pairs of what stands in two trees for each answer about the variable that comes first in them,
-    /// each with a tree of the one and a tree of the other. The only refusal is want of memory. Takes as many
-    /// steps as the two trees' nodes have boundaries, which it copies.
-    pub fn pairs(
-        &self,
-        alloc: Global,
-        a: MarkerTree,
-        b: MarkerTree,
-    ) -> Result<Vec<(MarkerTree, MarkerTree)>, AllocError>
-        requires a { IsTree self.now.nodes a }
-        requires b { IsTree self.now.nodes b }
-        requires a_node { 0 < a.place }
-        requires b_node { 0 < b.place }
-        ensures { IfOk result (λ pairs. ArePaired self.now.nodes a b pairs.items) }
-    {
-        self.conjoiner.are_sound();
-        let (first, second) = self.conjoiner.in_order(a, b);
-        let form = self.conjoiner.split(first, second)?;
-        let pairs = form.children(alloc)?;
-        Ok(turned_pairs(pairs, first.is_negated(), second.is_negated()))
     }
 }
 

@@ -10,7 +10,6 @@ ghost use Rattle.pep508_tree.specs.Forms.{record_of};
 ghost use Rattle.pep508_tree.specs.Joining.{children, joined, node_joined, head, tail};
 ghost use Rattle.pep508_tree.specs.Nodes.{node_rank, node_text, node_place, version_branches, text_branches};
 ghost use Rattle.pep508_tree.specs.Nodes.{first_child, second_child, counterpart, IsRising, Paired, signed, branch_cmp, node_cmp};
-ghost use Rattle.pep508_tree.specs.Disjoint.{turned_pair};
 ghost use Rattle.pep508_tree.specs.Roots.{shown};
 ghost use Rattle.pep508_tree.specs.NodeLaws.{nodes_total};
 
@@ -86,23 +85,6 @@ fn first_and_others(trees: &[MarkerTree]) -> (MarkerTree, &[MarkerTree])
         Some((first, others)) => (*first, others),
         None => (MarkerTree::TRUE, trees),
     }
-}
-
-fn turn_pairs(pairs: &mut [Pair], first: bool, second: bool)
-    ensures { pairs.new ≡ map (turned_pair first second) pairs.old }
-{
-    for pair in pairs.iter_mut() {
-        *pair = (pair.0.turned(first), pair.1.turned(second));
-    }
-}
-
-/// Pairs, with the signs of two trees put on them.
-pub(crate) fn turned_pairs(pairs: Vec<Pair>, first: bool, second: bool) -> Vec<Pair>
-    ensures { result.items ≡ map (turned_pair first second) pairs.items }
-{
-    let mut pairs = pairs;
-    turn_pairs(&mut pairs, first, second);
-    pairs
 }
 
 impl Form<Pair> {

@@ -1,7 +1,7 @@
 use Rattle.std.proofs.Common.{◌∙◌, ap₂, set}
-use Rattle.pep508_tree.specs.Disjoint.{turned_pair}
+use Rattle.pep508_disjointness.specs.Pairs.{turned_pair}
 use Rattle.pep508_tree.proofs.Joins.{change_more}
-use Rattle.pep508_tree.proofs.node.turn_pairs.Goals as goal
+use Rattle.pep508_disjointness.proofs.pairing.turn_pairs.Goals as goal
 
 pub loop-pair-preserved : goal.loop-pair-preserved
 loop-pair-preserved c =

@@ -1,6 +1,6 @@
 use Rattle.std.proofs.Common.{◌≡◌, ◌++◌, map, take, drop}
-use Rattle.pep508_tree.specs.Disjoint.{turned_pair}
-use Rattle.pep508_tree.proofs.node.turn_pairs.Given as goal
+use Rattle.pep508_disjointness.specs.Pairs.{turned_pair}
+use Rattle.pep508_disjointness.proofs.pairing.turn_pairs.Given as goal
 
 abbrev pub invariant-loop-pair : goal.invariant-loop-pair
 invariant-loop-pair l =
