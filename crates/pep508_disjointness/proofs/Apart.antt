@@ -1,5 +1,5 @@
 -- The pairs of what stands in two trees tell whether these are disjoint.
-use Rattle.std.proofs.Common.{◌≡◌, ◌↔◌, ℕ, ◌+◌, ◌-◌, ◌<◌, ◌≤◌, Bool, false, ◌&&◌, List, [], ◌∷◌, map, refl, ap, ap₂, sym, subst, ◌∙◌, arith}
+use Rattle.std.proofs.Common.{◌≡◌, ℕ, ◌+◌, ◌<◌, ◌≤◌, Bool, ◌&&◌, List, [], ◌∷◌, map, ap, ap₂, sym, subst, ◌∙◌, arith}
 use Rattle.std.specs.List.{AllByRecursion}
 use Rattle.version_ranges.specs.Turns.{flips}
 use Rattle.pep508_diagram.specs.declared.branch.Branch.{Branch}
@@ -88,7 +88,7 @@ module _ (nodes : List NodeRecord) (sound : AreSound nodes) (a b : Tree) (turns 
       (two.holds_is v
       ∙ ap (λ (c : Tree × Tree). holds nodes (turned other_turns c.1) v) (sym (paired.chosen_is v)))
 
-  behind : Tree × Tree → Type 0
+  abbrev behind : Tree × Tree → Type 0
   behind p = (IsTree nodes p.0 × IsTree nodes p.1)
       × (Above nodes (node_place node) p.0 × Above nodes (node_place node) p.1)
 

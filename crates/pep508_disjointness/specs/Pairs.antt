@@ -1,24 +1,14 @@
 -- Pairs of what stands in two trees.
-use Rattle.std.specs.Prelude.{◌≡◌, ◌↔◌, ◌+◌, ◌<◌, Bool, List, map}
+use Rattle.std.specs.Prelude.{◌↔◌, ◌+◌, ◌<◌, Bool, List}
 use Rattle.std.specs.List.{AllByRecursion}
 use Rattle.pep508_tree.specs.Tree.{Tree}
-use Rattle.pep508_tree.specs.Meaning.{NodeOf, NodeRecord, IsTree}
+use Rattle.pep508_tree.specs.Meaning.{NodeRecord, IsTree}
 use Rattle.pep508_tree.specs.Nodes.{turned}
-use Rattle.pep508_tree.specs.Joining.{children}
 use Rattle.pep508_tree.specs.Disjoint.{AreDisjoint}
 
 -- the trees of a pair, each negated where its flag is set
 abbrev pub turned_pair : Bool → Bool → Tree × Tree → Tree × Tree
 turned_pair first second pair = (turned first pair.0, turned second pair.1)
-
--- the pairs are the children of a node that meets the condition
-abbrev pub HavePairs : (NodeOf (Tree × Tree) → Type 0) → List (Tree × Tree) → Type 0
-HavePairs P pairs = (node : NodeOf (Tree × Tree)) × (pairs ≡ children node) × P node
-
--- they are so with signs
-abbrev pub AreTurned : Bool → Bool → (NodeOf (Tree × Tree) → Type 0) → List (Tree × Tree) → Type 0
-AreTurned first second P pairs =
-    (node : NodeOf (Tree × Tree)) × (pairs ≡ map (turned_pair first second) (children node)) × P node
 
 -- pairs of what stands in two trees: they are trees that were made earlier, and the two trees are disjoint
 -- exactly where those of each pair are

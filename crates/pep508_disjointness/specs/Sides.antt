@@ -1,32 +1,32 @@
--- Nodes as they are lent, and what stands in a tree for each answer about a node's variable.
-use Rattle.std.specs.Prelude.{Bool, false}
-use Rattle.pep508_tree.specs.declared.root.TreeNode.{TreeNode}
-use Rattle.pep508_tree.specs.declared.root.TreeNode.TheVariants as lent
-use Rattle.pep508_tree.specs.Meaning.{NodeRecord, Versions, Texts, Flagged}
-use Rattle.pep508_tree.specs.Nodes.{counterpart, no_node}
+-- What stands in a tree for each answer about a variable, and its pairs with what stands in a node.
+use Rattle.std.specs.Prelude.{◌≡◌, Bool, List, map}
+use Rattle.pep508_tree.specs.Tree.{Tree}
+use Rattle.pep508_tree.specs.Meaning.{NodeOf, NodeRecord}
+use Rattle.pep508_tree.specs.Nodes.{Paired, counterpart, signed, first_child, second_child, version_branches, text_branches}
+use Rattle.pep508_tree.specs.Joining.{children}
+use Rattle.pep508_tree.specs.Roots.{IsRoot}
 use Rattle.pep508_disjointness.specs.declared.pairing.Side.{Side}
-
--- something is asked
-abbrev pub IsAsking : TreeNode → Type 0
-IsAsking (lent.Constant truth) = ⊥
-IsAsking (lent.Versions key children) = Unit {0}
-IsAsking (lent.Texts key children) = Unit {0}
-IsAsking (lent.Flagged flag set unset) = Unit {0}
-
--- the node without its sign; of a constant the node that no tree has
-abbrev pub plain : TreeNode → NodeRecord
-plain (lent.Constant truth) = no_node
-plain (lent.Versions key children) = Versions key children.first children.later.now
-plain (lent.Texts key children) = Texts key children.first children.later.now
-plain (lent.Flagged flag set unset) = Flagged flag.now set unset
-
--- whether its children are to be negated
-abbrev pub sign : TreeNode → Bool
-sign (lent.Constant truth) = false
-sign (lent.Versions key children) = children.negated
-sign (lent.Texts key children) = children.negated
-sign (lent.Flagged flag set unset) = false
+use Rattle.pep508_disjointness.specs.Pairs.{turned_pair}
 
 -- a node of the variable, with what stands in the side
 abbrev pub with_side : NodeRecord → Side → NodeRecord
 with_side node side = counterpart node side.first side.versions.now side.texts.now side.second
+
+-- the side has what stands in a node, which with the side's sign is the tree's
+pub record ShowsNode (nodes : List NodeRecord) (tree : Tree) (side : Side) : Type 0 where
+  pub node : NodeRecord
+  pub root : IsRoot nodes tree (signed side.negated node)
+  pub first_is : side.first ≡ first_child node
+  pub versions_are : side.versions.now ≡ version_branches node
+  pub texts_are : side.texts.now ≡ text_branches node
+  pub second_is : side.second ≡ second_child node
+
+-- the pairs are, with signs, those of what stands in a node, which with its sign is the tree's, and in the side
+pub record AreSidePairs (nodes : List NodeRecord) (tree : Tree) (side : Side) (pairs : List (Tree × Tree))
+    : Type 0 where
+  pub negated : Bool
+  pub node : NodeRecord
+  pub root : IsRoot nodes tree (signed negated node)
+  pub plain : NodeOf (Tree × Tree)
+  pub pairs_are : pairs ≡ map (turned_pair negated side.negated) (children plain)
+  pub paired : Paired node (with_side node side) plain

@@ -1,12 +1,13 @@
 //! Pairs of what stands in two trees.
 
-ghost use Rattle.std.specs.Prelude.{◌≡◌, ◌<◌, [], false, map, IfOk};
+ghost use Rattle.std.specs.Prelude.{◌≡◌, ◌<◌, [], ◌∷◌, false, map, IfOk};
+ghost use Rattle.pep440_version.specs.Order.{version_cmp};
 ghost use Rattle.pep508_diagram.specs.Text.{text_cmp};
-ghost use Rattle.pep508_tree.specs.Meaning.{NodeRecord, IsTree};
-ghost use Rattle.pep508_tree.specs.Nodes.{IsRising, Paired, turned, node_rank, node_text, node_place};
-ghost use Rattle.pep508_tree.specs.Nodes.{first_child, second_child, version_branches, text_branches};
-ghost use Rattle.pep508_disjointness.specs.Sides.{IsAsking, plain, sign, with_side};
-ghost use Rattle.pep508_disjointness.specs.Pairs.{turned_pair, HavePairs, AreTurned, ArePaired};
+ghost use Rattle.pep508_diagram.specs.Branches.{RisingBranches};
+ghost use Rattle.pep508_tree.specs.Meaning.{IsTree};
+ghost use Rattle.pep508_tree.specs.Nodes.{turned, first_place};
+ghost use Rattle.pep508_disjointness.specs.Sides.{ShowsNode, AreSidePairs};
+ghost use Rattle.pep508_disjointness.specs.Pairs.{turned_pair, ArePaired};
 
 use pep440_version::Version;
 use pep508_diagram::{Branch, MarkerText, VersionVariable, paired_children, text_rank};
@@ -41,34 +42,34 @@ fn turned_pairs(pairs: Vec<Pair>, first: bool, second: bool) -> Vec<Pair>
     pairs
 }
 
-/// The place of what is asked first among the kinds of variables and their keys.
-fn rank(node: TreeNode<'_>) -> u8
-    ensures { result ≡ node_rank (plain node.entry) }
+/// The place of a tree's first variable among the kinds of variables and their keys, and the text that it is
+/// about.
+fn variable<'a>(interner: &'a Interner, tree: MarkerTree) -> (u8, &'a str)
+    requires made { IsTree interner.now.nodes tree }
+    requires some { 0 < tree.place }
+    ensures { result.0 ∷ result.1.now ≡ first_place interner.now.nodes tree }
 {
-    match node {
-        TreeNode::Constant(_) => 0,
-        TreeNode::Versions(VersionVariable::ImplementationVersion, _) => 0,
-        TreeNode::Versions(VersionVariable::PythonFullVersion, _) => 1,
-        TreeNode::Texts(key, _) => text_rank(key),
-        TreeNode::Flagged(flag, _, _) => flag.rank(),
-    }
-}
-
-/// The text that is asked for first, if a flag is.
-fn text<'a>(node: TreeNode<'a>) -> &'a str
-    ensures { result.now ≡ node_text (plain node.entry) }
-{
-    match node {
-        TreeNode::Flagged(flag, _, _) => flag.text(),
-        _ => "",
+    match tree.node(interner) {
+        TreeNode::Constant(_) => (0, ""),
+        TreeNode::Versions(VersionVariable::ImplementationVersion, _) => (0, ""),
+        TreeNode::Versions(VersionVariable::PythonFullVersion, _) => (1, ""),
+        TreeNode::Texts(key, _) => (text_rank(key), ""),
+        TreeNode::Flagged(flag, _, _) => (flag.rank(), flag.text()),
     }
 }
 
 /// By the variables that are asked first.
-fn cmp_variables(a: TreeNode<'_>, b: TreeNode<'_>) -> Ordering
-    ensures { result ≡ text_cmp (node_place (plain a.entry)) (node_place (plain b.entry)) }
+fn cmp_variables(interner: &Interner, a: MarkerTree, b: MarkerTree) -> Ordering
+    requires a { IsTree interner.now.nodes a }
+    requires b { IsTree interner.now.nodes b }
+    requires a_node { 0 < a.place }
+    requires b_node { 0 < b.place }
+    ensures { result
+        ≡ text_cmp (first_place interner.now.nodes a) (first_place interner.now.nodes b) }
 {
-    rank(a).cmp(&rank(b)).then(text(a).cmp(text(b)))
+    let (rank, text) = variable(interner, a);
+    let (other_rank, other_text) = variable(interner, b);
+    rank.cmp(&other_rank).then(text.cmp(other_text))
 }
 
 /// What stands in a tree for each answer about a variable, and whether it is to be negated.
@@ -81,113 +82,95 @@ pub(crate) struct Side<'a> {
     negated: bool,
 }
 
-impl<'a> Side<'a> {
-    /// Of a tree that does not ask for the variable.
-    fn of_tree(tree: MarkerTree) -> Side<'a>
-        ensures first { result.first ≡ tree }
-        ensures versions { result.versions.now ≡ [] }
-        ensures texts { result.texts.now ≡ [] }
-        ensures second { result.second ≡ tree }
-        ensures negated { result.negated ≡ false }
-    {
-        Side {
-            first: tree,
-            versions: &[],
-            texts: &[],
-            second: tree,
-            negated: false,
-        }
-    }
-
-    /// Of a tree that asks for it first.
-    fn of_node(node: TreeNode<'a>) -> Side<'a>
-        ensures first { result.first ≡ first_child (plain node.entry) }
-        ensures versions { result.versions.now ≡ version_branches (plain node.entry) }
-        ensures texts { result.texts.now ≡ text_branches (plain node.entry) }
-        ensures second { result.second ≡ second_child (plain node.entry) }
-        ensures negated { result.negated ≡ sign node.entry }
-    {
-        match node {
-            TreeNode::Constant(_) => Side::of_tree(MarkerTree::TRUE),
-            TreeNode::Versions(_, children) => Side {
-                first: children.first,
-                versions: children.later,
-                texts: &[],
-                second: children.first,
-                negated: children.negated,
-            },
-            TreeNode::Texts(_, children) => Side {
-                first: children.first,
-                versions: &[],
-                texts: children.later,
-                second: children.first,
-                negated: children.negated,
-            },
-            TreeNode::Flagged(_, set, unset) => Side {
-                first: set,
-                versions: &[],
-                texts: &[],
-                second: unset,
-                negated: false,
-            },
-        }
+/// The side of a tree that does not ask for the variable.
+fn side_of_tree<'a>(tree: MarkerTree) -> Side<'a>
+    ensures first { result.first ≡ tree }
+    ensures versions { result.versions.now ≡ [] }
+    ensures texts { result.texts.now ≡ [] }
+    ensures second { result.second ≡ tree }
+    ensures negated { result.negated ≡ false }
+{
+    Side {
+        first: tree,
+        versions: &[],
+        texts: &[],
+        second: tree,
+        negated: false,
     }
 }
 
-/// The pairs of what stands in a node and in a side of the same variable, in turn, without signs.
-fn plain_pairs(alloc: Global, node: TreeNode<'_>, side: Side<'_>) -> Result<Vec<Pair>, AllocError>
-    requires rising { IsRising (plain node) }
-    requires side_rising { IsRising (with_side (plain node) side) }
-    ensures { IfOk result (λ pairs. IsAsking node.entry →
-        HavePairs (Paired (plain node.entry) (with_side (plain node.entry) side.entry)) pairs.items) }
+/// The side of a tree that asks for it first.
+fn side_of_node<'a>(interner: &'a Interner, tree: MarkerTree) -> Side<'a>
+    requires made { IsTree interner.now.nodes tree }
+    requires some { 0 < tree.place }
+    ensures { ShowsNode interner.now.nodes tree result }
 {
-    match node {
+    match tree.node(interner) {
+        TreeNode::Constant(_) => side_of_tree(tree),
+        TreeNode::Versions(_, children) => Side {
+            first: children.first,
+            versions: children.later,
+            texts: &[],
+            second: children.first,
+            negated: children.negated,
+        },
+        TreeNode::Texts(_, children) => Side {
+            first: children.first,
+            versions: &[],
+            texts: children.later,
+            second: children.first,
+            negated: children.negated,
+        },
+        TreeNode::Flagged(_, set, unset) => Side {
+            first: set,
+            versions: &[],
+            texts: &[],
+            second: unset,
+            negated: false,
+        },
+    }
+}
+
+/// The pairs of what stands in a tree's node and in a side of the same variable, in turn.
+fn pairs_with(
+    alloc: Global,
+    interner: &Interner,
+    tree: MarkerTree,
+    side: Side<'_>,
+) -> Result<Vec<Pair>, AllocError>
+    requires made { IsTree interner.now.nodes tree }
+    requires some { 0 < tree.place }
+    requires versions { RisingBranches version_cmp side.versions.now }
+    requires texts { RisingBranches text_cmp side.texts.now }
+    ensures { IfOk result (λ pairs. AreSidePairs interner.now.nodes tree side.entry pairs.items) }
+{
+    match tree.node(interner) {
         TreeNode::Constant(_) => Ok(Vec::new(alloc)),
         TreeNode::Versions(_, children) => {
-            paired_children(
+            let pairs = paired_children(
                 alloc,
                 children.first,
                 children.later,
                 side.first,
                 side.versions,
-            )
+            )?;
+            Ok(turned_pairs(pairs, children.negated, side.negated))
         }
         TreeNode::Texts(_, children) => {
-            paired_children(
+            let pairs = paired_children(
                 alloc,
                 children.first,
                 children.later,
                 side.first,
                 side.texts,
-            )
+            )?;
+            Ok(turned_pairs(pairs, children.negated, side.negated))
         }
         TreeNode::Flagged(_, set, unset) => {
-            Ok(vec![in alloc; (set, side.first), (unset, side.second)]?)
+            let pairs = vec![in alloc; (set, side.first), (unset, side.second)]?;
+            Ok(turned_pairs(pairs, false, side.negated))
         }
     }
-}
-
-/// Whether what is asked first is negated.
-fn is_negated(node: TreeNode<'_>) -> bool
-    ensures { result ≡ sign node.entry }
-{
-    match node {
-        TreeNode::Versions(_, children) => children.negated,
-        TreeNode::Texts(_, children) => children.negated,
-        _ => false,
-    }
-}
-
-/// The same pairs, with signs.
-fn pairs_with(alloc: Global, node: TreeNode<'_>, side: Side<'_>) -> Result<Vec<Pair>, AllocError>
-    requires rising { IsRising (plain node) }
-    requires side_rising { IsRising (with_side (plain node) side) }
-    ensures { IfOk result (λ pairs. IsAsking node.entry →
-        AreTurned (sign node.entry) side.entry.negated
-        (Paired (plain node.entry) (with_side (plain node.entry) side.entry)) pairs.items) }
-{
-    let pairs = plain_pairs(alloc, node, side)?;
-    Ok(turned_pairs(pairs, is_negated(node), side.negated))
 }
 
 /// The pairs of what stands in two trees for each answer about the variable that comes first in them, each with
@@ -206,10 +189,9 @@ pub(crate) fn pairs(
     ensures { IfOk result (λ pairs. ArePaired interner.now.nodes a b pairs.items) }
 {
     interner.are_sound();
-    let (one, other) = (a.node(interner), b.node(interner));
-    match cmp_variables(one, other) {
-        Ordering::Less => pairs_with(alloc, one, Side::of_tree(b)),
-        Ordering::Equal => pairs_with(alloc, one, Side::of_node(other)),
-        Ordering::Greater => pairs_with(alloc, other, Side::of_tree(a)),
+    match cmp_variables(interner, a, b) {
+        Ordering::Less => pairs_with(alloc, interner, a, side_of_tree(b)),
+        Ordering::Equal => pairs_with(alloc, interner, a, side_of_node(interner, b)),
+        Ordering::Greater => pairs_with(alloc, interner, b, side_of_tree(a)),
     }
 }
