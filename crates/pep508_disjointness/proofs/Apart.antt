@@ -45,7 +45,8 @@ pub paired_back : (nodes : List NodeRecord) (a b : Tree) (pairs : List (Tree × 
 paired_back nodes a b pairs are = record {
   made = are.made;
   falls = all_to {P = λ (p : Tree × Tree). p.0.place + p.1.place < b.place + a.place}
-      {Q = λ (p : Tree × Tree). p.0.place + p.1.place < a.place + b.place} (λ p less. omega (arith, less)) pairs
+      {Q = λ (p : Tree × Tree). p.0.place + p.1.place < a.place + b.place} (λ p less. omega (arith, less))
+      pairs
       are.falls;
   apart = (
     λ d. are.apart.0 (disjoint_back nodes a b d),
@@ -110,12 +111,14 @@ module _ (nodes : List NodeRecord) (sound : AreSound nodes) (a b : Tree) (turns 
       let first = still_turned nodes turns pair.0 v w (at.still pair.0 they.0.0 they.1.0) in
       let second = still_turned nodes other_turns pair.1 v w (at.still pair.1 they.0.1 they.1.1) in
       sym (ap₂ (λ x y. x && y) first second)
-      ∙ sym (ap (λ (c : Tree × Tree). holds nodes (turned turns c.0) w && holds nodes (turned other_turns c.1) w)
+      ∙ sym (ap (λ (c : Tree × Tree).
+      holds nodes (turned turns c.0) w && holds nodes (turned other_turns c.1) w)
       at.stands)
       ∙ sym (together w) ∙ apart w
 
   -- trees are disjoint exactly where all their paired children are
-  pub are_paired : (pairs : List (Tree × Tree)) → pairs ≡ map (turned_pair turns other_turns) (children node) →
+  pub are_paired : (pairs : List (Tree × Tree)) →
+      pairs ≡ map (turned_pair turns other_turns) (children node) →
       ArePaired nodes a b pairs
   are_paired pairs same =
       let turn = turned_pair turns other_turns in

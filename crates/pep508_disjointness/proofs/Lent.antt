@@ -107,8 +107,8 @@ shown_texts nodes t side shows =
     subst (RisingBranches text_cmp) (sym shows.texts_are)
     (texts_rise shows.node (own_rises nodes t side.negated shows.node shows.root))
 
-module _ (nodes : List NodeRecord) (sound : AreSound nodes) (a b : Tree) (made : IsTree nodes b) (some : 0 < b.place)
-    (side : Side) (pairs : List (Tree × Tree)) (are : AreSidePairs nodes a side pairs) where
+module _ (nodes : List NodeRecord) (sound : AreSound nodes) (a b : Tree) (made : IsTree nodes b)
+    (some : 0 < b.place) (side : Side) (pairs : List (Tree × Tree)) (are : AreSidePairs nodes a side pairs) where
   -- the first asks for an earlier variable
   pub before_paired : text_cmp (first_place nodes a) (first_place nodes b) ≡ Less → side.first ≡ b →
       side.versions.now ≡ [] → side.texts.now ≡ [] → side.second ≡ b → side.negated ≡ false →

@@ -49,12 +49,14 @@ module _ (nodes : List NodeRecord) (tree : Tree) (side : Side) (negated : Bool)
         side.second are.branches refl are.points are.rises are.children;
   }
 
-  either : (b : Bool) (set unset : Tree) → ◌≡◌ {A = Tree × Tree} (cond b (set, side.first) (unset, side.second))
+  either : (b : Bool) (set unset : Tree) →
+      ◌≡◌ {A = Tree × Tree} (cond b (set, side.first) (unset, side.second))
       (cond b set unset, cond b side.first side.second)
   either true set unset = refl
   either false set unset = refl
 
-  pub flag_pairs : (flag : Flag) (set unset : Tree) → IsRoot nodes tree (signed negated (Flagged flag set unset)) →
+  pub flag_pairs : (flag : Flag) (set unset : Tree) →
+      IsRoot nodes tree (signed negated (Flagged flag set unset)) →
       pairs ≡ (set, side.first) ∷ (unset, side.second) ∷ [] → AreSidePairs nodes tree side turned
   flag_pairs flag set unset root are = record {
     negated = negated;

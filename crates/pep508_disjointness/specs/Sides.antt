@@ -21,7 +21,8 @@ pub record ShowsNode (nodes : List NodeRecord) (tree : Tree) (side : Side) : Typ
   pub texts_are : side.texts.now ≡ text_branches node
   pub second_is : side.second ≡ second_child node
 
--- the pairs are, with signs, those of what stands in a node, which with its sign is the tree's, and in the side
+-- the pairs are, with signs, those of what stands in a node, which with its sign is the tree's, and in the
+-- side
 pub record AreSidePairs (nodes : List NodeRecord) (tree : Tree) (side : Side) (pairs : List (Tree × Tree))
     : Type 0 where
   pub negated : Bool

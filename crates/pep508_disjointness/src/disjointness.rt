@@ -96,7 +96,8 @@ pub trait MarkerTreeDisjointness {
     /// refusal is want of memory for the pairs that were looked at.
     ///
     /// Looks at each pair of a node of the one and a node of the other at most once, the pairs of the highest
-    /// places first, and ends at the first that meets. No recursion, however deep the trees are.
+    /// places first, and ends at the first that meets. A pair takes as many steps as its two nodes have
+    /// boundaries, of which none is copied. No recursion, however deep the trees are.
     fn is_disjoint(
         self,
         alloc: Global,

@@ -173,9 +173,9 @@ fn pairs_with(
     }
 }
 
-/// The pairs of what stands in two trees for each answer about the variable that comes first in them, each with
-/// a tree of the one and a tree of the other. The only refusal is want of memory. Takes as many steps as the
-/// two trees' nodes have boundaries, of which it copies none.
+/// The pairs of what stands in two trees for each answer about the variable that comes first in them, each
+/// with a tree of the one and a tree of the other. The only refusal is want of memory. Takes as many steps as
+/// the two trees' nodes have boundaries, of which it copies none.
 pub(crate) fn pairs(
     alloc: Global,
     interner: &Interner,
