@@ -42,6 +42,19 @@ class Fault:
 
 PROVE, WRONG = ["gate/prove.py"], ["gate/wrong.py"]
 LOW = "crates/underline"
+LAST_USE = "use unicode_width::UnicodeWidthChar;\n"
+FAILING_TEST = """
+#[cfg(test)]
+mod tests {
+    use std::test::Fail;
+
+    #[test]
+    fn a_letter_takes_two_columns(rt: HostRuntime) -> Result<(), Fail> {
+        assert_eq!(rt; crate::columns("a"), 2);
+        Ok(())
+    }
+}
+"""
 FAULTS = [
     Fault("a body", "underline", PROVE, f"{LOW}/src/lib.rt", "c.width().unwrap_or(0)", "c.width().unwrap_or(1)"),
     Fault("a body, two crates below the one that is left out", "pep508_error", PROVE,
@@ -53,8 +66,7 @@ FAULTS = [
     Fault("a proof", "pep440_operator", PROVE,
           "crates/pep440_operator/proofs/Operators.antt", "", "-- nothing is proved here\n"),
     Fault("a line of crates.txt", "underline", PROVE, "crates.txt", "underline: unicode_width", "underline:"),
-    Fault("a test", "pep508_url_tests", PROVE,
-          "crates/pep508_url_tests/src/urls.rt", 'vars.project_root(), "/w"', 'vars.project_root(), "/v"'),
+    Fault("a test that fails", "underline", PROVE, f"{LOW}/src/lib.rt", LAST_USE, LAST_USE + FAILING_TEST),
     Fault("an answer to a question", "pep440_vectors", PROVE, "crates/pep440_vectors/stdout", "", "none\n"),
     Fault("an edit that is right", None, [*WRONG, "--gate", "underline"],
           "tests/wrong/underline/marks_are_the_blanks.edit", "",
