@@ -23,8 +23,9 @@ from store import Store
 LIBRARY, PROGRAM, TESTS = "library", "program", "tests"
 # A file in out/, or in out/rlib/, that says by its sum what lies there.
 MARK = "sum"
-# What a proof takes by one job, as measured: a crate is loaded, and then so much for a line.
-SECONDS, SECONDS_A_LINE = 7, 0.13
+# What a proof takes by one job, as measured: a crate is loaded, and then so much for a line. Functions of programs and of
+# tests own more values.
+SECONDS, SECONDS_A_LINE = 7, {LIBRARY: 0.13, PROGRAM: 0.6, TESTS: 0.6}
 # Some checks take a fifth more memory than is reckoned.
 MEMORY = 0.85
 
@@ -92,7 +93,8 @@ class Prover:
         for key, (waits, lines, memory, call) in tasks.items():
             name, tests = (key, False) if isinstance(key, str) else (key[0], key[1] == TESTS)
             is_kept = self.store.has(self.entry(name, tests))
-            made[key] = Task(waits, 1 if is_kept or not lines else SECONDS + SECONDS_A_LINE * lines, memory, call)
+            seconds = SECONDS + SECONDS_A_LINE[self.kind(name, tests)] * lines
+            made[key] = Task(waits, 1 if is_kept or not lines else seconds, memory, call)
         made.update(self.more_tasks())
         return self.run(made)
 
