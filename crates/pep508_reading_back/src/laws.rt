@@ -46,8 +46,8 @@ use pep508_requirement_ref::RequirementRef;
 use pep508_url::Pep508Url;
 use std::fmt;
 
-/// A printed comparison that a text can have is read as that very comparison; a warning tells of an extra whose
-/// text is no name, and of nothing else.
+/// A printed comparison that a text can have is read as that very comparison; a warning tells of an extra
+/// whose text is no name, and of nothing else.
 pub fn a_printed_comparison_is_read()
     ensures { (term : ExpressionRecord) → IsReadable term
         → IsMarkerText (chars (expression_text term)) (marker_of term) }
@@ -69,8 +69,8 @@ pub fn a_printed_marker_means_its_diagram()
 {}
 
 /// A printed requirement without a URL, whose names are normal and whose specifiers a text can have, is read
-/// with its name, its extras and its specifiers: without a marker, and with whatever marker is read of the text
-/// behind the `;`.
+/// with its name, its extras and its specifiers: without a marker, and with whatever marker is read of the
+/// text behind the `;`.
 pub fn a_printed_requirement_is_read()
     ensures plain { (front : Front) → IsReadableFront front
         → IsMarkedText (requirement_text front None) front no_marker }
@@ -122,8 +122,8 @@ pub fn a_printed_marker_is_a_marker()
         → marker_text diagram ≡ Some text → (marker : Marker) × IsMarkerText (chars text) marker }
 {}
 
-/// The diagram of a marker whose truth some questions settle asks these questions alone, up to the spelling of
-/// equal versions.
+/// The diagram of a marker whose truth some questions settle asks these questions alone, up to the spelling
+/// of equal versions.
 pub fn a_marker_asks_what_its_meaning_asks()
     ensures { (asked : List Question) (diagram : Diagram Question) → IsCanonical diagram
         → ((v w : Valuation) → AnswerAlike asked v w → truth diagram v ≡ truth diagram w)
@@ -136,8 +136,8 @@ pub fn a_formula_hangs_on_its_questions()
         formula_holds (λ t. expression_holds t v) f ≡ formula_holds (λ t. expression_holds t w) f }
 {}
 
-/// The diagram of a marker that was read of a text, as interners keep it, asks for what texts can say alone: for
-/// versions and texts that could stand in it, and for extras by their normal names.
+/// The diagram of a marker that was read of a text, as interners keep it, asks for what texts can say alone:
+/// for versions and texts that could stand in it, and for extras by their normal names.
 pub fn a_read_marker_asks_what_texts_say()
     ensures { (text : List ℕ) (front : Front) (marker : Marker) (diagram : Diagram Question) → IsUtf8 text
         → IsMarkedText text front marker → IsCanonical diagram

@@ -8,11 +8,11 @@ use Rattle.reqs.specs.declared.fault.RunFault.{RunFault}
 use Rattle.reqs.specs.declared.fault.RunFault.TheVariants.{Memory}
 use Rattle.reqs.specs.declared.fault.Status.{Status}
 
--- the three inputs as they were opened, and `check` ends so with the first as the requirements, the second as the
--- environment and the third as the candidates
-pub record ChecksAll {S W : Type 0} (gives : Input → Result S RunFault → Type 0) (remaining : S → Option (List ℕ))
-    (vars : Variables) (extras : List (List ℕ)) (contents : W → Option (List ℕ)) (old new : W)
-    (result : Result Status RunFault) : Type 0 where
+-- the three inputs as they were opened, and `check` ends so with the first as the requirements, the second as
+-- the environment and the third as the candidates
+pub record ChecksAll {S W : Type 0} (gives : Input → Result S RunFault → Type 0)
+    (remaining : S → Option (List ℕ)) (vars : Variables) (extras : List (List ℕ))
+    (contents : W → Option (List ℕ)) (old new : W) (result : Result Status RunFault) : Type 0 where
   pub requirements : S
   pub environment : S
   pub candidates : S

@@ -1,5 +1,6 @@
 -- The variables of the program's environment, and the project's directory by them.
-use Rattle.std.specs.Prelude.{◌&&◌, ℕ, Bool, List, [], ◌∷◌, codes, bytes_eq, if◌then◌else◌, Option, Some, None}
+use Rattle.std.specs.Prelude.{◌&&◌, ℕ, Bool, List, [], ◌∷◌, codes, bytes_eq, if◌then◌else◌, Option}
+use Rattle.std.specs.Prelude.{Some, None}
 use Rattle.pep508_url.specs.Cuts.{cut, is_absolute}
 use Rattle.pep508_url.specs.Vars.{Variables}
 

@@ -170,7 +170,8 @@ where
     exit_after(rt, &ended, paths)
 }
 
-/// Opens all inputs, in the order of the command line, and judges them with the variables that stand in entries.
+/// Opens all inputs, in the order of the command line, and judges them with the variables that stand in
+/// entries.
 fn check_opened<S, F, W>(
     alloc: Global,
     extras: &[&str],

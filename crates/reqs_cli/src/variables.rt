@@ -13,8 +13,8 @@ use std::env::Env;
 /// The project's directory where the environment tells none.
 const ROOT: &str = "/";
 
-/// The variables that stand in entries. The project's directory is the value of `PWD`, where that is an absolute
-/// path.
+/// The variables that stand in entries. The project's directory is the value of `PWD`, where that is an
+/// absolute path.
 pub fn variables(alloc: Global, entries: &[String]) -> Result<Vars, AllocError>
     ensures { IfOk result (λ vars. vars ≡ variables_in (map string_bytes entries.now)) }
 {

@@ -34,11 +34,11 @@ use std::alloc::{AllocError, Global};
 /// Candidates of other packages are left out, and one is tested, against its own package's requirements,
 /// where it lies above the best before it. The order of the requirements doesn't count.
 ///
-/// With n specifiers and m candidates of a package that are O((n + m) log n) comparisons of versions, or n times
-/// m where that is at most 1,024. Beside these each candidate that is tested is asked of each specifier of which
-/// no range tells: a `===`, `<` or `>` beside a post-release, one that would need a number past 64 bits; and where
-/// the candidate has a local part or a post-release, also one with a local part, or with a pre- or developmental
-/// release beside `>`. So m times n is reached only where most specifiers are such.
+/// With n specifiers and m candidates of a package that are O((n + m) log n) comparisons of versions, or n
+/// times m where that is at most 1,024. Beside these each candidate that is tested is asked of each specifier
+/// of which no range tells: a `===`, `<` or `>` beside a post-release, one that would need a number past 64
+/// bits; and where the candidate has a local part or a post-release, also one with a local part, or with a
+/// pre- or developmental release beside `>`. So m times n is reached only where most specifiers are such.
 pub fn answer_to<F: Fn(&Version, bool) -> bool>(
     alloc: Global,
     asks: &[&Requirement<VerbatimUrl>],

@@ -22,9 +22,9 @@ const FEW_QUESTIONS: usize = 1024;
 
 /// A range that tells what the asks take, where members times candidates are many.
 ///
-/// Takes the O(n log n) comparisons of versions of `one_range` for n members, and memory for as many places as
-/// there are lists. Where it gives none, fewer than 16 candidates are asked of n members each, or all of them
-/// together at most 1,024 questions.
+/// Takes the O(n log n) comparisons of versions of `one_range` for n members, and memory for as many places
+/// as there are lists. Where it gives none, fewer than 16 candidates are asked of n members each, or all of
+/// them together at most 1,024 questions.
 pub fn range_of<'a>(
     alloc: Global,
     asks: &[&'a Requirement<VerbatimUrl>],

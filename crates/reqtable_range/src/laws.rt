@@ -27,8 +27,8 @@ pub fn range_tells_what_all_take()
     ranges_agree_beside_posts();
 }
 
-/// Each list takes a version as texts say it exactly where the range of the simple members holds it without its
-/// local part and each member beside these takes it.
+/// Each list takes a version as texts say it exactly where the range of the simple members holds it without
+/// its local part and each member beside these takes it.
 pub fn simple_range_tells_what_all_take()
     ensures { (lists : List (List SpecifierRecord)) (one : OneRange) (candidate : VersionRecord) →
         FindsOne (members_of lists) one → IsSaid candidate →

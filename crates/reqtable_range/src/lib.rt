@@ -1,4 +1,5 @@
-//! What many lists of specifiers take together: asked of one range, and of the few members that it can't tell.
+//! What many lists of specifiers take together: asked of one range, and of the few members that it can't
+//! tell.
 #![tactic(auto)]
 
 pub mod laws;

@@ -31,7 +31,8 @@ pub struct OneRange<'a> {
     pub plain: Ranges<Version>,
     /// These members themselves, which are asked of the versions that aren't plain.
     pub beside: Vec<&'a VersionSpecifier>,
-    /// The members of which no range tells: each `===`, `<` or `>` beside a post-release, and what has no range.
+    /// The members of which no range tells: each `===`, `<` or `>` beside a post-release, and what has no
+    /// range.
     pub single: Vec<&'a VersionSpecifier>,
 }
 
@@ -86,7 +87,8 @@ impl<'a> OneRange<'a> {
 
 /// The one range of the lists.
 ///
-/// Takes O(n log n) comparisons of versions for n members, and memory for the bounds and for places of members.
+/// Takes O(n log n) comparisons of versions for n members, and memory for the bounds and for places of
+/// members.
 pub fn one_range<'a>(
     alloc: Global,
     lists: &[&'a VersionSpecifiers],
