@@ -8,6 +8,7 @@ on processors that no proof wants. With --from-nothing nothing is taken from the
 passed, M failed` of the proofs and `edits: N passed, M failed`.
 """
 
+import os
 import shutil
 import subprocess
 import sys
@@ -32,6 +33,8 @@ def main(words):
         print("edits: 0 passed, 1 failed")
         return 1
     room = end_on_signals()
+    # (`rt` runs tests as another user, who has to come to what it writes there)
+    os.chmod(room, 0o711)
     edits, amiss = read_edits(prover.crates, [], True)
     trial = Trial(prover, store, False)
     left = trial.left_of(edits)
