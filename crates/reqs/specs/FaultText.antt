@@ -1,4 +1,4 @@
--- What is said of a fault, by the paths of the inputs.
+-- What is said of a fault.
 use Rattle.std.specs.Prelude.{ℕ, List, ◌++◌, codes, Option, Some}
 use Rattle.std.specs.Fmt.{◌++?◌, decimal}
 use Rattle.std.specs.Io.{StartsWith}
@@ -8,21 +8,21 @@ use Rattle.pep508_url.specs.UrlTexts.{Verbatim}
 use Rattle.pep508_url.specs.declared.error.VerbatimUrlError.{VerbatimUrlError}
 use Rattle.pep508_error.specs.declared.error.Pep508Error.{Pep508Error}
 use Rattle.pep508_error.specs.Errors.{error_text}
-use Rattle.reqtable_text.specs.declared.candidates.CandidateFault.{CandidateFault}
-use Rattle.reqtable_text.specs.declared.candidates.CandidateFault.TheVariants as causes
+use Rattle.reqtable_text.specs.Errors.{cause_text}
+use Rattle.reqs.specs.declared.fault.Input.{Input}
+use Rattle.reqs.specs.declared.fault.Input.TheVariants.{First, Second, Third}
 use Rattle.reqs.specs.declared.fault.JsonShape.{JsonShape}
 use Rattle.reqs.specs.declared.fault.JsonShape.TheVariants as shapes
 use Rattle.reqs.specs.declared.fault.RunFault.{RunFault}
 use Rattle.reqs.specs.declared.fault.RunFault.TheVariants.{Read, Write, Memory, TooLong, NotText, Extra}
 use Rattle.reqs.specs.declared.fault.RunFault.TheVariants.{Requirement, NumberAtEnd, Json, Float, Shape}
 use Rattle.reqs.specs.declared.fault.RunFault.TheVariants.{Member, Version, Candidate}
-use Rattle.reqs.specs.Ends.{of_input}
 
--- what is wrong with a candidate line, in a word
-abbrev pub cause_text : CandidateFault → List ℕ
-cause_text causes.Shape = codes "shape"
-cause_text causes.Name = codes "name"
-cause_text causes.Version = codes "version"
+-- an input, by its place on the command line
+abbrev pub input_words : Input → List ℕ
+input_words First = codes "first input"
+input_words Second = codes "second input"
+input_words Third = codes "third input"
 
 -- that a JSON value has not the shape that is wanted
 abbrev pub shape_text : JsonShape → List ℕ
@@ -53,31 +53,31 @@ abbrev pub requirement_text : List ℕ → ℕ → Pep508Error Verbatim Verbatim
 requirement_text path number error =
     Some (requirement_front path number error) ++? error_text url_error_text error
 
--- what is said of a fault
-abbrev pub fault_text : List (List ℕ) → RunFault → Option (List ℕ)
-fault_text paths (Read input) = Some (input_text (of_input paths input) (codes "read fault"))
-fault_text paths Write = Some (codes "write fault")
-fault_text paths Memory = Some (codes "out of memory")
-fault_text paths (TooLong input) =
-    Some (input_text (of_input paths input) (codes "longer than 16777216 bytes"))
-fault_text paths (NotText input offset) =
-    Some (of_input paths input ++ codes ": not UTF-8 at byte " ++ decimal offset)
-fault_text paths (Extra word) = Some (codes "extra " ++ word ++ codes " is no name")
-fault_text paths (Requirement input number error) = requirement_text (of_input paths input) number error
-fault_text paths (NumberAtEnd input number) =
-    Some (line_text (of_input paths input) number (codes "a version number can't be raised"))
-fault_text paths (Json input) = Some (input_text (of_input paths input) (codes "not JSON"))
-fault_text paths (Float input) = Some (input_text (of_input paths input) (codes "a number is a float"))
-fault_text paths (Shape input wanted) = Some (input_text (of_input paths input) (shape_text wanted))
-fault_text paths (Member input index name) =
-    Some (member_text (of_input paths input) index (member_name name) (codes "missing or no text"))
-fault_text paths (Version input index name) =
-    Some (member_text (of_input paths input) index (member_name name) (codes "no version"))
-fault_text paths (Candidate input number cause) =
-    Some (line_text (of_input paths input) number (cause_text cause))
+-- what is said of a fault, by what is said of its input: that input's path, or its place
+abbrev pub fault_text : (Input → List ℕ) → RunFault → Option (List ℕ)
+fault_text said (Read input) = Some (input_text (said input) (codes "read fault"))
+fault_text said Write = Some (codes "write fault")
+fault_text said Memory = Some (codes "out of memory")
+fault_text said (TooLong input) =
+    Some (input_text (said input) (codes "longer than 16777216 bytes"))
+fault_text said (NotText input offset) =
+    Some (said input ++ codes ": not UTF-8 at byte " ++ decimal offset)
+fault_text said (Extra word) = Some (codes "extra " ++ word ++ codes " is no name")
+fault_text said (Requirement input number error) = requirement_text (said input) number error
+fault_text said (NumberAtEnd input number) =
+    Some (line_text (said input) number (codes "a version number can't be raised"))
+fault_text said (Json input) = Some (input_text (said input) (codes "not JSON"))
+fault_text said (Float input) = Some (input_text (said input) (codes "a number is a float"))
+fault_text said (Shape input wanted) = Some (input_text (said input) (shape_text wanted))
+fault_text said (Member input index name) =
+    Some (member_text (said input) index (member_name name) (codes "missing or no text"))
+fault_text said (Version input index name) =
+    Some (member_text (said input) index (member_name name) (codes "no version"))
+fault_text said (Candidate input number cause) =
+    Some (line_text (said input) number (cause_text cause))
 
 -- a text that says of a line that it is no requirement says so and where first, whatever stands behind that
-abbrev pub HasItsFront : List (List ℕ) → RunFault → List ℕ → Type 0
-HasItsFront paths (Requirement input number error) text =
-    StartsWith text (requirement_front (of_input paths input) number error)
-HasItsFront paths fault text = Unit {0}
+abbrev pub HasItsFront : (Input → List ℕ) → RunFault → List ℕ → Type 0
+HasItsFront said (Requirement input number error) text =
+    StartsWith text (requirement_front (said input) number error)
+HasItsFront said fault text = Unit {0}

@@ -6,7 +6,7 @@ ghost use Rattle.pep508_environment.specs.Environment.{member_name};
 ghost use Rattle.reqs.specs.Ends.{place_of, of_input};
 ghost use Rattle.reqs.specs.Faults.{status_of, IsOfEnvironment};
 ghost use Rattle.reqs.specs.Faults.{of_reading, of_requirements, of_environment, of_candidates};
-ghost use Rattle.reqs.specs.FaultText.{cause_text, shape_text, input_text, line_text, member_text};
+ghost use Rattle.reqs.specs.FaultText.{shape_text, input_text, line_text, member_text};
 ghost use Rattle.reqs.specs.FaultText.{requirement_front, requirement_text, fault_text, HasItsFront};
 
 use pep508_environment::{EnvironmentError, EnvironmentMember};
@@ -271,10 +271,10 @@ impl RunFault {
     /// What is said of the fault, without a line end. The paths are those of the inputs, in the
     /// order of the command line. Linear in the text.
     pub fn text(&self, alloc: Global, paths: &[&str]) -> Result<String, AllocError>
-        ensures text { IfOk result (λ text. IfSome (fault_text (map (λ p. p.now) paths.now) self.now)
+        ensures text { IfOk result (λ text. IfSome (fault_text (of_input (map (λ p. p.now) paths.now)) self.now)
             (λ wanted. string_bytes text ≡ wanted)) }
         ensures front { IfOk result (λ text.
-            HasItsFront (map (λ p. p.now) paths.now) self.now (string_bytes text)) }
+            HasItsFront (of_input (map (λ p. p.now) paths.now)) self.now (string_bytes text)) }
     {
         match self {
             RunFault::Read { input } => at(alloc, input.path(paths), "read fault"),
@@ -306,14 +306,14 @@ impl RunFault {
                 input,
                 number,
                 cause,
-            } => { at_line(alloc, input.path(paths), *number, cause_text(*cause)) }
+            } => { at_line(alloc, input.path(paths), *number, cause.as_str()) }
         }
     }
 
     /// What is said of a fault of an environment.
     fn environment_text(&self, alloc: Global, paths: &[&str]) -> Result<String, AllocError>
         requires { IsOfEnvironment self.now }
-        ensures { IfOk result (λ text. IfSome (fault_text (map (λ p. p.now) paths.now) self.now)
+        ensures { IfOk result (λ text. IfSome (fault_text (of_input (map (λ p. p.now) paths.now)) self.now)
             (λ wanted. string_bytes text ≡ wanted)) }
     {
         match self {
@@ -340,7 +340,7 @@ impl RunFault {
 }
 
 /// What is said of a JSON value that has not the shape that is wanted.
-fn shape_text(wanted: JsonShape) -> &'static str
+pub(crate) fn shape_text(wanted: JsonShape) -> &'static str
     ensures { result.now ≡ shape_text wanted }
 {
     match wanted {
@@ -393,15 +393,4 @@ fn at_member(
         string_bytes text ≡ member_text path.now index (member_name name) fault.now) }
 {
     format!(in alloc; "{path}: environment {index}: member {name} is {fault}")
-}
-
-/// What is wrong with a candidate line, in a word.
-fn cause_text(cause: CandidateFault) -> &'static str
-    ensures { result.now ≡ cause_text cause }
-{
-    match cause {
-        CandidateFault::Shape => "shape",
-        CandidateFault::Name => "name",
-        CandidateFault::Version => "version",
-    }
 }

@@ -2,6 +2,7 @@
 #![tactic(auto)]
 
 mod checks;
+mod display;
 mod fault;
 mod input;
 

@@ -6,6 +6,8 @@ ghost use Rattle.std.specs.Prelude.{◌≡◌, ◌≤◌, length, drop, IfOk, On
 ghost use Rattle.reqs_io.specs.Front.{AreAsTold, MayBeLonger, WritesWhole, AppendsFront};
 
 use std::alloc::{AllocError, Global};
+use std::error::Error;
+use std::fmt;
 use std::io::{ErrorKind, Read, Write};
 
 /// The most bytes that an input may have.
@@ -29,6 +31,23 @@ pub enum ReadFault {
     TooLong,
     Memory,
 }
+
+impl fmt::Display for ReadFault {
+    ghost use Rattle.std.specs.Prelude.{Some};
+    ghost use Rattle.reqs_io.specs.Faults.{read_fault_text};
+
+    ghost output = { λ fault. Some (read_fault_text fault) };
+
+    fn fmt<W: fmt::Write>(&self, f: &mut fmt::Formatter<W>) -> fmt::Result {
+        match self {
+            ReadFault::Read => write!(f, "read fault"),
+            ReadFault::TooLong => write!(f, "longer than its limit"),
+            ReadFault::Memory => write!(f, "out of memory"),
+        }
+    }
+}
+
+impl Error for ReadFault {}
 
 impl From<AllocError> for ReadFault {
     ghost use Rattle.reqs_io.specs.declared.ReadFault.TheVariants.{Memory};
@@ -79,6 +98,19 @@ pub fn read_whole<R: Read>(
 /// A write failed, took nothing, or was interrupted too often in a row.
 #[derive(Clone, Copy, Debug, PartialEq, Eq)]
 pub struct WriteFault;
+
+impl fmt::Display for WriteFault {
+    ghost use Rattle.std.specs.Prelude.{Some};
+    ghost use Rattle.reqs_io.specs.Faults.{write_fault_text};
+
+    ghost output = { λ fault. Some write_fault_text };
+
+    fn fmt<W: fmt::Write>(&self, f: &mut fmt::Formatter<W>) -> fmt::Result {
+        write!(f, "write fault")
+    }
+}
+
+impl Error for WriteFault {}
 
 /// Writes the whole text, in as many writes as the writer wants; an empty text makes none.
 ///

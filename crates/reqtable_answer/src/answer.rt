@@ -22,7 +22,7 @@ pub enum Outcome {
 }
 
 /// A package that is asked for.
-#[derive(Drop)]
+#[derive(Debug, PartialEq, Eq, Drop)]
 pub struct Row {
     pub package: PackageName,
     /// The extras that are asked for, each once and in the order of their bytes.
@@ -30,13 +30,48 @@ pub struct Row {
     pub outcome: Outcome,
 }
 
+impl Row {
+    /// A copy, in memory of its own.
+    pub fn try_clone(&self, alloc: Global) -> Result<Row, AllocError>
+        ensures { IfOk result (λ copy. row_seen copy ≡ row_seen self.now) }
+    {
+        Ok(Row {
+            package: self.package.try_clone(alloc)?,
+            extras: copies(alloc, &self.extras)?,
+            outcome: self.outcome,
+        })
+    }
+}
+
+fn copies(alloc: Global, names: &[ExtraName]) -> Result<Vec<ExtraName>, AllocError>
+    ensures { IfOk result (λ copies. copies.items ≡ names.now) }
+{
+    let mut copies = Vec::with_capacity(alloc, names.len())?;
+    for name in names {
+        copies.push(name.try_clone(alloc)?)?;
+    }
+    Ok(copies)
+}
+
 /// A row for each package that is asked for, in the order of their names' bytes.
-#[derive(Drop)]
+#[derive(Debug, PartialEq, Eq, Drop)]
 pub struct Answer {
     pub rows: Vec<Row>,
 }
 
 impl Answer {
+    /// A copy, in memory of its own.
+    pub fn try_clone(&self, alloc: Global) -> Result<Answer, AllocError>
+        ensures { IfOk result (λ copy.
+            map row_seen copy.rows.items ≡ map row_seen self.now.rows.items) }
+    {
+        let mut rows = Vec::with_capacity(alloc, self.rows.len())?;
+        for row in &self.rows {
+            rows.push(row.try_clone(alloc)?)?;
+        }
+        Ok(Answer { rows })
+    }
+
     /// The rows as lines: a package's name, its extras in brackets with bare commas between them, where it
     /// has any, a blank, and the version that is taken, `none` or `direct`.
     ///

@@ -52,7 +52,7 @@ module _ (vars : Variables) (number : ℕ) (front : Front) (rest : List ℕ) whe
   source_found (Specifiers given) line h = (h, tt)
   source_found (Url text) line h = url_found text (url_of vars text) line refl h
 
-  source_again : (source : Source) → HasItsUrl vars source
+  pub source_again : (source : Source) → HasItsUrl vars source
       → with_source vars number front rest source ≡ with_rest number front rest
   source_again Any h = refl
   source_again (Specifiers given) h = refl
@@ -103,10 +103,10 @@ module _ (front_again : FrontAgain) (again : AgainLaw) (vars : Variables) where
 -- ---- whole texts
 
 module _ (front_found : FrontFound) (front_again : FrontAgain) (found : FoundLaw) (again : AgainLaw) (vars : Variables) where
-  at_found : (text : ℕ × List ℕ) (line : LineRecord) → line_of vars text.0 text.1 ≡ Ok line → IsNumberedLine vars text line
+  pub at_found : (text : ℕ × List ℕ) (line : LineRecord) → line_of vars text.0 text.1 ≡ Ok line → IsNumberedLine vars text line
   at_found text line h = line_found front_found front_again found again vars text.0 text.1 line h
 
-  at_again : (text : ℕ × List ℕ) (line : LineRecord) → IsNumberedLine vars text line → line_of vars text.0 text.1 ≡ Ok line
+  pub at_again : (text : ℕ × List ℕ) (line : LineRecord) → IsNumberedLine vars text line → line_of vars text.0 text.1 ≡ Ok line
   at_again text line h = line_again front_again again vars text.0 text.1 line h.0 h.1
 
   pub lines_read : (bytes : List ℕ) (lines : List LineRecord)

@@ -4,3 +4,6 @@ pub mod Grammar
 pub mod Asked
 pub mod Applying
 pub mod Others
+pub mod Refusals
+pub mod Numbers
+pub mod Specifiers

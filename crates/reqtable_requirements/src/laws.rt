@@ -1,17 +1,27 @@
 //! Laws over the definitions that the contracts cite. The functions do nothing: each one's contract is
 //! its law.
 
-ghost use Rattle.std.specs.Prelude.{◌≡◌, ◌↔◌, ℕ, List, map, Ok};
-ghost use Rattle.std.specs.List.Sorted.{IsPermutation};
+ghost use Rattle.std.specs.Prelude.{◌≡◌, ◌↔◌, ℕ, List, All, map, Ok, Err};
+ghost use Rattle.std.specs.List.Sorted.{IsPermutation, IsStrictlySortedBy};
+ghost use Rattle.std.specs.Ordering.{nat_cmp};
+ghost use Rattle.std.specs.Str.{IsUtf8};
+ghost use Rattle.pep440_specifier.specs.Building.{IsBuilt};
+ghost use Rattle.pep440_specifier_list.specs.ListReading.{IsReadFromText};
 ghost use Rattle.pep508_diagram.specs.Question.{Valuation};
 ghost use Rattle.pep508_url.specs.Vars.{Variables};
+ghost use Rattle.pep508_tree.specs.Meaning.{NodeRecord};
+ghost use Rattle.reqtable_text.specs.TextLines.{text_lines};
 ghost use Rattle.reqtable_text.specs.declared.candidates.Candidate.{Candidate};
 ghost use Rattle.reqtable_answer.specs.Answer.{Admits, RowRecord, IsRow, IsAnswer};
 ghost use Rattle.reqtable_requirements.specs.Asks.{line_said, lines_of, asks_of};
-ghost use Rattle.reqtable_requirements.specs.LineReading.{LineRecord, line_of};
+ghost use Rattle.reqtable_requirements.specs.FirstRefused.{HasNumberAtEnd, IsNoRequirement, IsFirstRefused};
+ghost use Rattle.reqtable_requirements.specs.LineReading.{LineRecord, NoRequirement, NumberAtEnd, line_of};
+ghost use Rattle.reqtable_requirements.specs.LineSpecifiers.{specifiers_in};
 ghost use Rattle.reqtable_requirements.specs.LineText.{IsRequirementLine, IsRequirementsText};
-ghost use Rattle.reqtable_requirements.specs.Requirements.{requirements_of};
+ghost use Rattle.reqtable_requirements.specs.Requirements.{requirements_of, ReadsRequirements};
+ghost use Rattle.reqtable_requirements.specs.declared.requirements.Line.{Line};
 
+use pep440_specifier::laws::{a_read_specifier_is_built, specifier_text_is_read};
 use pep508_marker_read::laws::{a_read_marker_is_written, a_written_marker_is_read};
 use pep508_requirement_text::laws::{a_read_front_is_written, a_written_front_is_read};
 
@@ -45,6 +55,46 @@ pub fn requirements_are_their_lines()
     a_written_front_is_read();
     a_read_marker_is_written();
     a_written_marker_is_read();
+}
+
+/// The first line that is no requirement's is named by its number, as one whose marker has a number that
+/// can't be raised, or as one that is none for another reason.
+pub fn first_line_at_fault_is_named()
+    ensures none { (vars : Variables) (bytes : List ℕ) (number : ℕ) →
+        (requirements_of vars bytes ≡ Err (NoRequirement number)) ↔
+        (IsUtf8 bytes × IsFirstRefused (IsNoRequirement vars) vars (text_lines bytes) number) }
+    ensures at_end { (vars : Variables) (bytes : List ℕ) (number : ℕ) →
+        (requirements_of vars bytes ≡ Err (NumberAtEnd number)) ↔
+        (IsUtf8 bytes × IsFirstRefused (HasNumberAtEnd vars) vars (text_lines bytes) number) }
+{
+    a_read_front_is_written();
+    a_written_front_is_read();
+    a_read_marker_is_written();
+    a_written_marker_is_read();
+}
+
+/// The numbers of the lines that are read of a text rise.
+pub fn line_numbers_rise()
+    ensures { (vars : Variables) (nodes : List NodeRecord) (bytes : List ℕ) (lines : List Line) →
+        ReadsRequirements vars nodes bytes (Ok lines) →
+        IsStrictlySortedBy nat_cmp (map (λ line. line.number) lines) }
+{
+    requirements_are_their_lines();
+}
+
+/// Each specifier of a line that is read of a text is one as which some text is read: its version goes with
+/// its operator.
+pub fn specifiers_are_read_from_texts()
+    ensures read { (vars : Variables) (nodes : List NodeRecord) (bytes : List ℕ) (lines : List Line) →
+        ReadsRequirements vars nodes bytes (Ok lines) →
+        All (λ line. All IsReadFromText (specifiers_in line)) lines }
+    ensures built { (vars : Variables) (nodes : List NodeRecord) (bytes : List ℕ) (lines : List Line) →
+        ReadsRequirements vars nodes bytes (Ok lines) →
+        All (λ line. All IsBuilt (specifiers_in line)) lines }
+{
+    requirements_are_their_lines();
+    specifier_text_is_read();
+    a_read_specifier_is_built();
 }
 
 /// Another order of the lines changes nothing of the answer to those that apply.

@@ -1,8 +1,10 @@
 //! A requirements text: one requirement line after another.
 
-ghost use Rattle.std.specs.Prelude.{◌≡◌, Some};
+ghost use Rattle.std.specs.Prelude.{◌≡◌, Some, IfOk};
+ghost use Rattle.std.specs.List.{AllZip};
 ghost use Rattle.pep508_tree.specs.Meaning.{Extends};
 ghost use Rattle.reqtable_text.specs.TextLines.{text_lines, each_line};
+ghost use Rattle.reqtable_requirements.specs.Copies.{IsLineCopy};
 ghost use Rattle.reqtable_requirements.specs.LineReading.{line_of};
 ghost use Rattle.reqtable_requirements.specs.Requirements.{ReadsLine, ReadsLines};
 ghost use Rattle.reqtable_requirements.specs.Requirements.{ReadsRequirements, refusal_of};
@@ -13,14 +15,28 @@ use pep508_tree::Interner;
 use pep508_url::{Vars, VerbatimUrl};
 use reqtable_text::text_lines::{as_text, is_blank, line_text};
 use std::alloc::{AllocError, AllocFailed, Global};
+use std::error::Error;
+use std::fmt;
 use std::marker::Model;
 
 /// A requirement of a text.
-#[derive(Drop)]
+#[derive(Debug, PartialEq, Eq, Drop)]
 pub struct Line {
     /// The line's number in its text, from 1.
     pub number: usize,
     pub requirement: Requirement<VerbatimUrl>,
+}
+
+impl Line {
+    /// A copy, in memory of its own.
+    pub fn try_clone(&self, alloc: Global) -> Result<Line, AllocError>
+        ensures { IfOk result (λ copy. IsLineCopy copy self.now) }
+    {
+        Ok(Line {
+            number: self.number,
+            requirement: self.requirement.try_clone(alloc)?,
+        })
+    }
 }
 
 /// Why bytes are no requirements text.
@@ -53,6 +69,30 @@ impl From<AllocError> for RequirementsError {
     }
 }
 
+impl fmt::Display for RequirementsError {
+    ghost use Rattle.reqtable_requirements.specs.Errors.{requirements_text};
+
+    ghost output = { requirements_text };
+
+    fn fmt<W: fmt::Write>(&self, f: &mut fmt::Formatter<W>) -> fmt::Result {
+        match self {
+            RequirementsError::NotText { offset } => write!(f, "not UTF-8 at byte {offset}"),
+            RequirementsError::Line { number, error } => {
+                let start = error.start();
+                let len = error.len();
+                writeln!(f, "line {number}, byte {start}, length {len}")?;
+                write!(f, "{error}")
+            }
+            RequirementsError::NumberAtEnd { number } => {
+                write!(f, "line {number}: a version number can't be raised")
+            }
+            RequirementsError::Memory => write!(f, "out of memory"),
+        }
+    }
+}
+
+impl Error for RequirementsError {}
+
 impl<T: Drop> From<AllocFailed<T>> for RequirementsError {
     ghost use Rattle.reqtable_requirements.specs.declared.requirements.RequirementsError.TheVariants.{Memory};
 
@@ -64,7 +104,7 @@ impl<T: Drop> From<AllocFailed<T>> for RequirementsError {
 }
 
 /// The requirements of a text, in order.
-#[derive(Drop)]
+#[derive(Debug, Drop)]
 pub struct Requirements {
     lines: Vec<Line>,
 }
@@ -112,6 +152,43 @@ impl Requirements {
     {
         &self.lines
     }
+
+    /// A copy, in memory of its own.
+    pub fn try_clone(&self, alloc: Global) -> Result<Requirements, AllocError>
+        ensures { IfOk result (λ copy. AllZip IsLineCopy copy self.now) }
+    {
+        Ok(Requirements {
+            lines: copies(alloc, &self.lines)?,
+        })
+    }
+}
+
+fn copies(alloc: Global, lines: &[Line]) -> Result<Vec<Line>, AllocError>
+    ensures { IfOk result (λ copies. AllZip IsLineCopy copies.items lines.now) }
+{
+    let mut copies = Vec::with_capacity(alloc, lines.len())?;
+    for line in lines {
+        copies.push(line.try_clone(alloc)?)?;
+    }
+    Ok(copies)
+}
+
+impl PartialEq for Requirements {
+    ghost use Rattle.std.specs.Cmp.Lexicographic.{pointwise, lists_per};
+
+    ghost eq = { pointwise ⟦<Line as PartialEq>⟧.eq };
+
+    ghost laws = { lists_per ⟦<Line as PartialEq>⟧.laws };
+
+    fn eq(&self, other: &Requirements) -> bool {
+        self.lines == other.lines
+    }
+}
+
+impl Eq for Requirements {
+    ghost use Rattle.std.specs.Cmp.Lexicographic.{lists_equiv};
+
+    ghost laws = { lists_equiv ⟦<Line as Eq>⟧.laws };
 }
 
 /// The refusal of a line for this error of its requirement.

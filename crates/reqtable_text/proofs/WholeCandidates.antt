@@ -1,7 +1,11 @@
 -- What a whole candidate list reads as, by the grammar of its lines.
-use Rattle.std.proofs.Common.{◌≡◌, ◌↔◌, ◌∷◌, ◌++◌, ℕ, List, Result, Ok, Err, ap, subst, ◌∙◌}
+use Rattle.std.proofs.Common.{◌≡◌, ◌↔◌, ◌∷◌, ◌++◌, [], ℕ, List, All, Some, Result, Ok, Err, ap, subst, ◌∙◌}
+use Rattle.std.proofs.lemmas.List.Elements.{All-from_recursion}
 use Rattle.std.specs.List.{AllByRecursion, AllZip}
-use Rattle.std.specs.Str.{IsUtf8}
+use Rattle.std.specs.Str.{IsUtf8, encode_utf8_all}
+use Rattle.pep440_text.specs.Printable.{IsPrintable}
+use Rattle.pep440_version.specs.Record.{VersionRecord}
+use Rattle.pep440_version.specs.Reading.{version_of}
 use Rattle.reqtable_text.specs.declared.candidates.Candidate.{Candidate}
 use Rattle.reqtable_text.specs.declared.candidates.CandidateFault.{CandidateFault}
 use Rattle.reqtable_text.specs.declared.candidates.CandidatesError.TheVariants.{NotText, Line}
@@ -98,3 +102,26 @@ first_fault law bytes number cause = (
       ∙ fault_again candidate_at (text_lines bytes) (Line number cause)
       (first_again law (text_lines bytes) number cause (lines_utf8 bytes h.0) h.1),
 )
+
+-- ---- versions
+
+-- what pep440_text says of versions that were read
+abbrev pub PrintableLaw : Type 0
+PrintableLaw = (text : List ℕ) (version : VersionRecord) → version_of text ≡ Some version → IsPrintable version
+
+all_printable : VersionLaw → PrintableLaw → (lines : List Numbered) (candidates : List Candidate)
+    → AllZip IsNumberedCandidate lines candidates → AllByRecursion (λ c. IsPrintable c.version) candidates
+all_printable law printable [] [] h = tt
+all_printable law printable [] (candidate ∷ candidates) h = absurd h
+all_printable law printable (line ∷ lines) [] h = absurd h
+all_printable law printable (line ∷ lines) (candidate ∷ candidates) h =
+    let text = encode_utf8_all h.0.version in (
+      printable text candidate.version ((law text candidate.version).1 h.0.is_version),
+      all_printable law printable lines candidates h.1,
+    )
+
+pub printable_versions : VersionLaw → PrintableLaw → (bytes : List ℕ) (candidates : List Candidate)
+    → candidates_of bytes ≡ Ok candidates → All (λ candidate. IsPrintable candidate.version) candidates
+printable_versions law printable bytes candidates h =
+    All-from_recursion (λ (candidate : Candidate). IsPrintable candidate.version) candidates
+    (all_printable law printable (text_lines bytes) candidates ((candidates_read law bytes candidates).0 h).1)

@@ -2,3 +2,4 @@ pub mod TextLines
 pub mod CandidateLine
 pub mod CandidateText
 pub mod Candidates
+pub mod Errors

@@ -1,11 +1,12 @@
 //! A candidate list: one candidate after another.
 
-ghost use Rattle.std.specs.Prelude.{◌≡◌, IsTrue, OnOk, Err};
+ghost use Rattle.std.specs.Prelude.{◌≡◌, IsTrue, IfOk, OnOk, Err};
 ghost use Rattle.read_outcome.specs.Outcome.{Answers};
 ghost use Rattle.reqtable_text.specs.TextLines.{text_lines, each_line};
 ghost use Rattle.std.specs.Option.{option_map};
 ghost use Rattle.std.specs.Str.{IsUtf8, trim};
 ghost use Rattle.reqtable_text.specs.CandidateLine.{parts_in, has_name};
+ghost use Rattle.reqtable_text.specs.Errors.{cause_text};
 ghost use Rattle.reqtable_text.specs.Candidates.{candidate_at, candidates_of, told_candidates, IsNameReached};
 
 use crate::pieces::{read_name, read_version};
@@ -13,13 +14,27 @@ use crate::text_lines::{as_text, is_blank, line_text};
 use pep440_version::Version;
 use pep508_name::PackageName;
 use std::alloc::{AllocError, AllocFailed, Global};
+use std::error::Error;
+use std::fmt;
 use std::marker::Model;
 
 /// A version of a package that may be taken.
-#[derive(Drop)]
+#[derive(Debug, PartialEq, Eq, Drop)]
 pub struct Candidate {
     pub name: PackageName,
     pub version: Version,
+}
+
+impl Candidate {
+    /// A copy, in memory of its own.
+    pub fn try_clone(&self, alloc: Global) -> Result<Candidate, AllocError>
+        ensures { IfOk result (λ copy. copy ≡ self.now) }
+    {
+        Ok(Candidate {
+            name: self.name.try_clone(alloc)?,
+            version: self.version.try_clone(alloc)?,
+        })
+    }
 }
 
 /// What is wrong with a candidate line.
@@ -32,6 +47,31 @@ pub enum CandidateFault {
     /// What stands behind it is no version (PEP 440, "Version scheme").
     Version,
 }
+
+impl CandidateFault {
+    /// What is wrong, in a word.
+    pub fn as_str(self) -> &'static str
+        ensures { result.now ≡ cause_text self }
+    {
+        match self {
+            CandidateFault::Shape => "shape",
+            CandidateFault::Name => "name",
+            CandidateFault::Version => "version",
+        }
+    }
+}
+
+impl fmt::Display for CandidateFault {
+    ghost use Rattle.std.specs.Prelude.{Some};
+
+    ghost output = { λ cause. Some (cause_text cause) };
+
+    fn fmt<W: fmt::Write>(&self, f: &mut fmt::Formatter<W>) -> fmt::Result {
+        write!(f, "{}", self.as_str())
+    }
+}
+
+impl Error for CandidateFault {}
 
 /// Why bytes are no candidate list.
 #[derive(Clone, Copy, Debug, PartialEq, Eq)]
@@ -69,8 +109,25 @@ impl<T: Drop> From<AllocFailed<T>> for CandidatesError {
     }
 }
 
+impl fmt::Display for CandidatesError {
+    ghost use Rattle.std.specs.Prelude.{Some};
+    ghost use Rattle.reqtable_text.specs.Errors.{candidates_text};
+
+    ghost output = { λ error. Some (candidates_text error) };
+
+    fn fmt<W: fmt::Write>(&self, f: &mut fmt::Formatter<W>) -> fmt::Result {
+        match self {
+            CandidatesError::NotText { offset } => write!(f, "not UTF-8 at byte {offset}"),
+            CandidatesError::Line { number, cause } => write!(f, "line {number}: {cause}"),
+            CandidatesError::Memory => write!(f, "out of memory"),
+        }
+    }
+}
+
+impl Error for CandidatesError {}
+
 /// The candidates of a list, in order.
-#[derive(Drop)]
+#[derive(Debug, Drop)]
 pub struct Candidates {
     items: Vec<Candidate>,
 }
@@ -114,6 +171,43 @@ impl Candidates {
     {
         &self.items
     }
+
+    /// A copy, in memory of its own.
+    pub fn try_clone(&self, alloc: Global) -> Result<Candidates, AllocError>
+        ensures { IfOk result (λ copy. copy ≡ self.now) }
+    {
+        Ok(Candidates {
+            items: copies(alloc, &self.items)?,
+        })
+    }
+}
+
+fn copies(alloc: Global, items: &[Candidate]) -> Result<Vec<Candidate>, AllocError>
+    ensures { IfOk result (λ copies. copies.items ≡ items.now) }
+{
+    let mut copies = Vec::with_capacity(alloc, items.len())?;
+    for item in items {
+        copies.push(item.try_clone(alloc)?)?;
+    }
+    Ok(copies)
+}
+
+impl PartialEq for Candidates {
+    ghost use Rattle.std.specs.Cmp.Lexicographic.{pointwise, lists_per};
+
+    ghost eq = { pointwise ⟦<Candidate as PartialEq>⟧.eq };
+
+    ghost laws = { lists_per ⟦<Candidate as PartialEq>⟧.laws };
+
+    fn eq(&self, other: &Candidates) -> bool {
+        self.items == other.items
+    }
+}
+
+impl Eq for Candidates {
+    ghost use Rattle.std.specs.Cmp.Lexicographic.{lists_equiv};
+
+    ghost laws = { lists_equiv ⟦<Candidate as Eq>⟧.laws };
 }
 
 /// The text before the first white space, and what follows that run of white space.

@@ -1,9 +1,10 @@
 //! Laws over the definitions that the contracts cite. The functions do nothing: each one's contract is
 //! its law.
 
-ghost use Rattle.std.specs.Prelude.{◌≡◌, ◌↔◌, ℕ, List, Ok, Err};
+ghost use Rattle.std.specs.Prelude.{◌≡◌, ◌↔◌, ℕ, List, All, Ok, Err};
 ghost use Rattle.std.specs.List.{AllZip};
 ghost use Rattle.std.specs.Str.{IsUtf8};
+ghost use Rattle.pep440_text.specs.Printable.{IsPrintable};
 ghost use Rattle.reqtable_text.specs.declared.candidates.Candidate.{Candidate};
 ghost use Rattle.reqtable_text.specs.declared.candidates.CandidateFault.{CandidateFault};
 ghost use Rattle.reqtable_text.specs.declared.candidates.CandidatesError.TheVariants.{Line};
@@ -12,7 +13,7 @@ ghost use Rattle.reqtable_text.specs.CandidateLine.{candidate_of};
 ghost use Rattle.reqtable_text.specs.CandidateText.{IsCandidateLine, IsNumberedCandidate, IsFirstFault};
 ghost use Rattle.reqtable_text.specs.Candidates.{candidates_of};
 
-use pep440_text::laws::version_text_is_read;
+use pep440_text::laws::{read_is_printable, version_text_is_read};
 
 /// A text is read as a candidate exactly where the grammar says that it is that candidate's line.
 pub fn candidate_line_is_read()
@@ -47,4 +48,13 @@ pub fn first_line_at_fault_is_named()
         (IsUtf8 bytes × IsFirstFault (text_lines bytes) number cause) }
 {
     version_text_is_read();
+}
+
+/// Each candidate that is read of a list has a version as texts say it, whose print is read as it.
+pub fn candidates_have_printable_versions()
+    ensures { (bytes : List ℕ) (candidates : List Candidate) → candidates_of bytes ≡ Ok candidates →
+        All (λ candidate. IsPrintable candidate.version) candidates }
+{
+    version_text_is_read();
+    read_is_printable();
 }
