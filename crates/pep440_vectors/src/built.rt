@@ -44,11 +44,19 @@ fn shown(
     made: Result<VersionSpecifier, VersionSpecifierBuildError>,
 ) -> Result<String, AllocError> {
     match made {
-        Ok(specifier) => {
-            let (operator, version) = (specifier.operator(), specifier.version());
-            format!(in alloc; "{specifier} by {operator:?} of {version}")
-        }
-        Err(VersionSpecifierBuildError::Memory) => Err(AllocError),
-        Err(error) => error.to_string(alloc),
+        Ok(specifier) => parts(alloc, &specifier),
+        Err(error) => fault(alloc, &error),
+    }
+}
+
+fn parts(alloc: Global, specifier: &VersionSpecifier) -> Result<String, AllocError> {
+    let (operator, version) = (specifier.operator(), specifier.version());
+    format!(in alloc; "{specifier} by {operator:?} of {version}")
+}
+
+fn fault(alloc: Global, error: &VersionSpecifierBuildError) -> Result<String, AllocError> {
+    match error {
+        VersionSpecifierBuildError::Memory => Err(AllocError),
+        error => error.to_string(alloc),
     }
 }

@@ -9,6 +9,21 @@ use pep440_specifier_list::{
 use pep440_version::Version;
 use std::alloc::{AllocError, Global};
 
+/// What is asked of a list and another text.
+const KINDS: [&str; 11] = [
+    "list",
+    "list prints",
+    "list fault",
+    "list picture",
+    "list set",
+    "release list set",
+    "intervals",
+    "contains",
+    "range",
+    "counted",
+    "lists",
+];
+
 /// The answer to a question on lists, or to one of another kind.
 pub fn answer(
     alloc: Global,
@@ -17,25 +32,19 @@ pub fn answer(
     second: &str,
     third: &str,
 ) -> Result<String, AllocError> {
+    if KINDS.contains(&kind) {
+        return of_list(alloc, kind, first, second);
+    }
     match kind {
-        "list"
-        | "list prints"
-        | "list fault"
-        | "list picture"
-        | "list set"
-        | "release list set"
-        | "intervals" => of_one(alloc, kind, first),
-        "contains" | "range" | "counted" => with_version(alloc, kind, first, second),
-        "lists" => of_two(alloc, first, second),
         "list of" => of_members(alloc, first, second, third),
         "union" | "intersection" => sets::of_two(alloc, kind, first, second, third),
         _ => values::answer(alloc, kind, first),
     }
 }
 
-fn of_one(alloc: Global, kind: &str, text: &str) -> Result<String, AllocError> {
+fn of_list(alloc: Global, kind: &str, text: &str, other: &str) -> Result<String, AllocError> {
     match VersionSpecifiers::from_str(alloc, text) {
-        Ok(list) => told(alloc, kind, &list),
+        Ok(list) => told(alloc, kind, &list, other),
         Err(error) => unread(alloc, kind, &error),
     }
 }
@@ -72,14 +81,25 @@ fn picture(alloc: Global, error: &VersionSpecifiersParseError) -> Result<String,
     format!(in alloc; "`{line}`: {error}")
 }
 
-fn told(alloc: Global, kind: &str, list: &VersionSpecifiers) -> Result<String, AllocError> {
+fn told(
+    alloc: Global,
+    kind: &str,
+    list: &VersionSpecifiers,
+    other: &str,
+) -> Result<String, AllocError> {
     match kind {
         "list" => list.to_string(alloc),
         "list prints" => copied(alloc, list),
-        "list fault" => format!(in alloc; "read {list}"),
+        "list fault" => read(alloc, list),
         "list picture" => String::from_str(alloc, "read"),
+        "contains" | "range" | "counted" => with_text(alloc, kind, list, other),
+        "lists" => beside(alloc, list, other),
         _ => sets::of_list(alloc, kind, list),
     }
+}
+
+fn read(alloc: Global, list: &VersionSpecifiers) -> Result<String, AllocError> {
+    format!(in alloc; "read {list}")
 }
 
 /// How many members a list's copy has, its prints, and whether it is equal.
@@ -94,18 +114,6 @@ fn prints(alloc: Global, list: &VersionSpecifiers, is_alike: bool) -> Result<Str
     let value = list.to_value(alloc)?;
     let (count, bare) = (list.as_slice().len(), list.bare_commas());
     format!(in alloc; "{count} members, {list:?}, {bare}, {value}, alike {is_alike}")
-}
-
-fn with_version(
-    alloc: Global,
-    kind: &str,
-    list: &str,
-    candidate: &str,
-) -> Result<String, AllocError> {
-    match VersionSpecifiers::from_str(alloc, list) {
-        Ok(list) => with_text(alloc, kind, &list, candidate),
-        Err(error) => unread(alloc, kind, &error),
-    }
 }
 
 fn with_text(
@@ -158,13 +166,6 @@ fn asked(
     format!(in alloc; "{before} asked, {taken} {once}, {again} {twice}")
 }
 
-fn of_two(alloc: Global, left: &str, right: &str) -> Result<String, AllocError> {
-    match VersionSpecifiers::from_str(alloc, left) {
-        Ok(left) => beside(alloc, &left, right),
-        Err(error) => unread(alloc, "lists", &error),
-    }
-}
-
 fn beside(alloc: Global, left: &VersionSpecifiers, right: &str) -> Result<String, AllocError> {
     match VersionSpecifiers::from_str(alloc, right) {
         Ok(right) => compared(alloc, left, &right),
@@ -201,12 +202,23 @@ fn push_member(
     text: &str,
 ) -> Result<bool, AllocError> {
     match VersionSpecifier::from_str(alloc, text) {
-        Ok(member) => {
-            members.push(member)?;
-            Ok(true)
-        }
-        Err(VersionSpecifierParseError::Memory) => Err(AllocError),
-        Err(_) => Ok(false),
+        Ok(member) => taken(members, member),
+        Err(error) => left_out(&error),
+    }
+}
+
+fn taken(
+    members: &mut Vec<VersionSpecifier>,
+    member: VersionSpecifier,
+) -> Result<bool, AllocError> {
+    members.push(member)?;
+    Ok(true)
+}
+
+fn left_out(error: &VersionSpecifierParseError) -> Result<bool, AllocError> {
+    match error {
+        VersionSpecifierParseError::Memory => Err(AllocError),
+        _ => Ok(false),
     }
 }
 
@@ -215,8 +227,8 @@ fn printed(alloc: Global, members: Vec<VersionSpecifier>) -> Result<String, Allo
 }
 
 /// The list of one specifier, and how many members it has, lent and taken.
-pub fn of_member(alloc: Global, member: VersionSpecifier) -> Result<String, AllocError> {
-    let list = VersionSpecifiers::from_specifier(alloc, member)?;
+pub fn of_member(alloc: Global, member: &VersionSpecifier) -> Result<String, AllocError> {
+    let list = VersionSpecifiers::from_specifier(alloc, member.try_clone(alloc)?)?;
     let lent = list.iter().count();
     let text = list.to_string(alloc)?;
     let taken = list.into_iter().len();

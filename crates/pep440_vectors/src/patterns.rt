@@ -14,18 +14,29 @@ pub fn answer(
     third: &str,
 ) -> Result<String, AllocError> {
     match kind {
-        "pattern" | "pattern copy" => of_one(alloc, kind, first),
-        "patterns" => of_two(alloc, first, second),
+        "pattern" | "pattern copy" | "patterns" => of_pattern(alloc, kind, first, second),
         "pattern of 1.2" => made(alloc),
         _ => specifiers::answer(alloc, kind, first, second, third),
     }
 }
 
-fn of_one(alloc: Global, kind: &str, text: &str) -> Result<String, AllocError> {
+fn of_pattern(alloc: Global, kind: &str, text: &str, other: &str) -> Result<String, AllocError> {
     match VersionPattern::from_str(alloc, text) {
-        Ok(pattern) if kind == "pattern" => shown(alloc, &pattern),
-        Ok(pattern) => copied(alloc, &pattern),
+        Ok(pattern) => told(alloc, kind, &pattern, other),
         Err(error) => unread(alloc, kind, &error),
+    }
+}
+
+fn told(
+    alloc: Global,
+    kind: &str,
+    pattern: &VersionPattern,
+    other: &str,
+) -> Result<String, AllocError> {
+    match kind {
+        "pattern" => shown(alloc, pattern),
+        "pattern copy" => copied(alloc, pattern),
+        _ => beside(alloc, pattern, other),
     }
 }
 
@@ -68,13 +79,6 @@ fn compared(
     format!(in alloc; "{copy:?}, equal {is_equal}, one hash {is_one}")
 }
 
-fn of_two(alloc: Global, left: &str, right: &str) -> Result<String, AllocError> {
-    match VersionPattern::from_str(alloc, left) {
-        Ok(left) => beside(alloc, &left, right),
-        Err(error) => unread(alloc, "patterns", &error),
-    }
-}
-
 fn beside(alloc: Global, left: &VersionPattern, right: &str) -> Result<String, AllocError> {
     match VersionPattern::from_str(alloc, right) {
         Ok(right) => same(alloc, left, &right),
@@ -98,10 +102,10 @@ fn made(alloc: Global) -> Result<String, AllocError> {
     let star = VersionPattern::wildcard(Version::new(alloc, &[1, 2])?);
     let has_star = star.is_wildcard();
     let plain = VersionPattern::verbatim(star.into_version());
-    told(alloc, has_star, &plain)
+    made_shown(alloc, has_star, &plain)
 }
 
-fn told(alloc: Global, has_star: bool, plain: &VersionPattern) -> Result<String, AllocError> {
+fn made_shown(alloc: Global, has_star: bool, plain: &VersionPattern) -> Result<String, AllocError> {
     let (keeps_star, version) = (plain.is_wildcard(), plain.version());
     format!(in alloc; "star {has_star}, then star {keeps_star} of {version}")
 }

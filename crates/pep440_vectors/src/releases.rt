@@ -69,8 +69,13 @@ fn release(alloc: Global, text: &str) -> Result<Option<Version>, AllocError>
 {
     match Version::from_str(alloc, text) {
         Ok(version) => Ok(Some(version.only_release(alloc)?)),
-        Err(VersionParseError::Memory) => Err(AllocError),
-        Err(_) => Ok(None),
+        Err(error) => {
+            if matches!(error, VersionParseError::Memory) {
+                Err(AllocError)
+            } else {
+                Ok(None)
+            }
+        }
     }
 }
 

@@ -14,6 +14,19 @@ use pep440_version::{Version, VersionParseError, VersionPatternParseError};
 use std::alloc::{AllocError, Global};
 use std::fmt::Write;
 
+/// What is asked of a specifier and another text.
+const KINDS: [&str; 9] = [
+    "specifier",
+    "specifier copy",
+    "specifier parts",
+    "set",
+    "release set",
+    "end",
+    "list of one",
+    "takes",
+    "specifiers",
+];
+
 /// The answer to a question on specifiers, or to one of another kind.
 pub fn answer(
     alloc: Global,
@@ -22,16 +35,10 @@ pub fn answer(
     second: &str,
     third: &str,
 ) -> Result<String, AllocError> {
+    if KINDS.contains(&kind) {
+        return of_specifier(alloc, kind, first, second);
+    }
     match kind {
-        "specifier"
-        | "specifier copy"
-        | "specifier parts"
-        | "set"
-        | "release set"
-        | "end"
-        | "list of one" => of_one(alloc, kind, first),
-        "takes" => takes(alloc, first, second),
-        "specifiers" => of_two(alloc, first, second),
         "operators" => operators(alloc),
         "operator" => operator(alloc, first),
         "of pattern" | "of version" => built::answer(alloc, kind, first, second),
@@ -41,9 +48,9 @@ pub fn answer(
     }
 }
 
-fn of_one(alloc: Global, kind: &str, text: &str) -> Result<String, AllocError> {
+fn of_specifier(alloc: Global, kind: &str, text: &str, other: &str) -> Result<String, AllocError> {
     match VersionSpecifier::from_str(alloc, text) {
-        Ok(specifier) => told(alloc, kind, &specifier),
+        Ok(specifier) => told(alloc, kind, &specifier, other),
         Err(error) => unread(alloc, kind, &error),
     }
 }
@@ -63,12 +70,19 @@ pub fn unread(
     }
 }
 
-fn told(alloc: Global, kind: &str, specifier: &VersionSpecifier) -> Result<String, AllocError> {
+fn told(
+    alloc: Global,
+    kind: &str,
+    specifier: &VersionSpecifier,
+    other: &str,
+) -> Result<String, AllocError> {
     match kind {
         "specifier" => specifier.to_string(alloc),
         "specifier copy" => copied(alloc, specifier),
-        "specifier parts" => parts(alloc, specifier.try_clone(alloc)?),
-        "list of one" => lists::of_member(alloc, specifier.try_clone(alloc)?),
+        "specifier parts" => parts(alloc, specifier),
+        "list of one" => lists::of_member(alloc, specifier),
+        "takes" => takes(alloc, specifier, other),
+        "specifiers" => beside(alloc, specifier, other),
         _ => sets::of_specifier(alloc, kind, specifier),
     }
 }
@@ -84,10 +98,10 @@ fn prints(alloc: Global, specifier: &VersionSpecifier) -> Result<String, AllocEr
 }
 
 /// A specifier's parts, and what holds of it.
-fn parts(alloc: Global, specifier: VersionSpecifier) -> Result<String, AllocError> {
+fn parts(alloc: Global, specifier: &VersionSpecifier) -> Result<String, AllocError> {
     let is_pre = specifier.any_prerelease();
     let is_bounded = specifier.has_lower_bound();
-    let (operator, version) = specifier.into_parts();
+    let (operator, version) = specifier.try_clone(alloc)?.into_parts();
     parts_shown(alloc, operator, &version, is_pre, is_bounded)
 }
 
@@ -116,14 +130,7 @@ fn release_shown(
 }
 
 /// Whether a specifier takes a version.
-fn takes(alloc: Global, text: &str, candidate: &str) -> Result<String, AllocError> {
-    match VersionSpecifier::from_str(alloc, text) {
-        Ok(specifier) => takes_text(alloc, &specifier, candidate),
-        Err(error) => unread(alloc, "takes", &error),
-    }
-}
-
-fn takes_text(
+fn takes(
     alloc: Global,
     specifier: &VersionSpecifier,
     candidate: &str,
@@ -131,13 +138,6 @@ fn takes_text(
     match Version::from_str(alloc, candidate) {
         Ok(candidate) => yes_or_no(alloc, specifier.contains(alloc, &candidate)),
         Err(error) => versions::unread(alloc, "takes", &error),
-    }
-}
-
-fn of_two(alloc: Global, left: &str, right: &str) -> Result<String, AllocError> {
-    match VersionSpecifier::from_str(alloc, left) {
-        Ok(left) => beside(alloc, &left, right),
-        Err(error) => unread(alloc, "specifiers", &error),
     }
 }
 
@@ -211,7 +211,11 @@ fn push_operator(alloc: Global, answer: &mut String, operator: Operator) -> Resu
 /// Whether an operator's print is read as the operator.
 fn is_read_again(alloc: Global, operator: Operator) -> Result<bool, AllocError> {
     let text = operator.to_string(alloc)?;
-    match Operator::from_str(alloc, text.as_str()) {
+    is_read_as(alloc, &text, operator)
+}
+
+fn is_read_as(alloc: Global, text: &str, operator: Operator) -> Result<bool, AllocError> {
+    match Operator::from_str(alloc, text) {
         Ok(again) => Ok(again == operator),
         Err(OperatorParseError::Memory) => Err(AllocError),
         Err(_) => Ok(false),

@@ -6,6 +6,28 @@ use pep440_version::{LocalSegment, Prerelease, PrereleaseKind, Version, VersionP
 use std::alloc::{AllocError, Global};
 use std::fmt::Write;
 
+/// What is asked of a version, or of two.
+const KINDS: [&str; 18] = [
+    "print",
+    "version fault",
+    "parts",
+    "traits",
+    "copy",
+    "release",
+    "trimmed",
+    "public",
+    "raised",
+    "early",
+    "low",
+    "high",
+    "included",
+    "excluded",
+    "unbounded",
+    "empty list",
+    "order",
+    "compare",
+];
+
 /// The answer to a question on versions, or to one of another kind.
 pub fn answer(
     alloc: Global,
@@ -14,32 +36,18 @@ pub fn answer(
     second: &str,
     third: &str,
 ) -> Result<String, AllocError> {
-    match kind {
-        "print"
-        | "version fault"
-        | "parts"
-        | "traits"
-        | "copy"
-        | "release"
-        | "trimmed"
-        | "public"
-        | "raised"
-        | "early"
-        | "low"
-        | "high"
-        | "included"
-        | "excluded"
-        | "unbounded"
-        | "empty list" => of_one(alloc, kind, first),
-        "order" | "compare" => of_two(alloc, kind, first, second),
-        "changed" => changed(alloc),
-        _ => patterns::answer(alloc, kind, first, second, third),
+    if KINDS.contains(&kind) {
+        of_version(alloc, kind, first, second)
+    } else if kind == "changed" {
+        changed(alloc)
+    } else {
+        patterns::answer(alloc, kind, first, second, third)
     }
 }
 
-fn of_one(alloc: Global, kind: &str, text: &str) -> Result<String, AllocError> {
+fn of_version(alloc: Global, kind: &str, text: &str, other: &str) -> Result<String, AllocError> {
     match Version::from_str(alloc, text) {
-        Ok(version) => told(alloc, kind, &version),
+        Ok(version) => told(alloc, kind, &version, other),
         Err(error) => unread(alloc, kind, &error),
     }
 }
@@ -56,31 +64,39 @@ pub fn unread(alloc: Global, kind: &str, error: &VersionParseError) -> Result<St
     }
 }
 
-fn told(alloc: Global, kind: &str, version: &Version) -> Result<String, AllocError> {
+fn told(alloc: Global, kind: &str, version: &Version, other: &str) -> Result<String, AllocError> {
     match kind {
         "print" => version.to_string(alloc),
-        "version fault" => format!(in alloc; "read {version}"),
+        "version fault" => read(alloc, version),
         "parts" => parts(alloc, version),
         "traits" => traits(alloc, version),
-        "copy" => printed(alloc, version.try_clone(alloc)?),
-        "release" => printed(alloc, version.only_release(alloc)?),
-        "trimmed" => printed(alloc, version.try_clone(alloc)?.without_end_zeros()),
-        "public" => printed(alloc, version.try_clone(alloc)?.without_local()),
-        "raised" => raised(alloc, version.try_clone(alloc)?),
+        "raised" => raised(alloc, version),
         "early" => early(alloc, version),
         "low" | "high" => marked(alloc, kind, version),
+        "included" | "excluded" | "unbounded" => releases::bounds(alloc, kind, version),
         "empty list" => lists::empty(alloc, version),
-        _ => releases::bounds(alloc, kind, version),
+        "order" | "compare" => beside(alloc, kind, version, other),
+        _ => made(alloc, kind, version)?.to_string(alloc),
     }
 }
 
-fn printed(alloc: Global, version: Version) -> Result<String, AllocError> {
-    version.to_string(alloc)
+fn read(alloc: Global, version: &Version) -> Result<String, AllocError> {
+    format!(in alloc; "read {version}")
+}
+
+/// What a version is made into.
+fn made(alloc: Global, kind: &str, version: &Version) -> Result<Version, AllocError> {
+    match kind {
+        "copy" => version.try_clone(alloc),
+        "release" => version.only_release(alloc),
+        "trimmed" => Ok(version.try_clone(alloc)?.without_end_zeros()),
+        _ => Ok(version.try_clone(alloc)?.without_local()),
+    }
 }
 
 /// The version with its last number raised.
-fn raised(alloc: Global, version: Version) -> Result<String, AllocError> {
-    match version.with_last_raised() {
+fn raised(alloc: Global, version: &Version) -> Result<String, AllocError> {
+    match version.try_clone(alloc)?.with_last_raised() {
         Some(next) => next.to_string(alloc),
         None => String::from_str(alloc, "at the end"),
     }
@@ -93,19 +109,28 @@ fn parts(alloc: Global, version: &Version) -> Result<String, AllocError> {
 }
 
 fn push_parts(answer: &mut String, version: &Version) -> Result<(), AllocError> {
+    push_release(answer, version)?;
+    push_pre(answer, version.pre())?;
+    number(answer, "post", version.post())?;
+    number(answer, "dev", version.dev())?;
+    local(answer, version.local())
+}
+
+fn push_release(answer: &mut String, version: &Version) -> Result<(), AllocError> {
     write!(answer, "epoch {}, release ", version.epoch())?;
     let mut dot = "";
     for number in version.release() {
         write!(answer, "{dot}{number}")?;
         dot = ".";
     }
-    match version.pre() {
-        Some(pre) => write!(answer, ", pre {pre}")?,
-        None => answer.push_str(", pre -")?,
+    Ok(())
+}
+
+fn push_pre(answer: &mut String, pre: Option<Prerelease>) -> Result<(), AllocError> {
+    match pre {
+        Some(pre) => write!(answer, ", pre {pre}"),
+        None => answer.push_str(", pre -"),
     }
-    number(answer, "post", version.post())?;
-    number(answer, "dev", version.dev())?;
-    local(answer, version.local())
 }
 
 pub fn number(answer: &mut String, name: &str, number: Option<u64>) -> Result<(), AllocError> {
@@ -191,18 +216,18 @@ fn marks(alloc: Global, end: &Version, version: &Version) -> Result<String, Allo
     format!(in alloc; "{min:?} {max:?} {order}, a release alone {is_alone}")
 }
 
-fn of_two(alloc: Global, kind: &str, left: &str, right: &str) -> Result<String, AllocError> {
-    match Version::from_str(alloc, left) {
-        Ok(left) => beside(alloc, kind, &left, right),
+fn beside(alloc: Global, kind: &str, left: &Version, right: &str) -> Result<String, AllocError> {
+    match Version::from_str(alloc, right) {
+        Ok(right) => both(alloc, kind, left, &right),
         Err(error) => unread(alloc, kind, &error),
     }
 }
 
-fn beside(alloc: Global, kind: &str, left: &Version, right: &str) -> Result<String, AllocError> {
-    match Version::from_str(alloc, right) {
-        Ok(right) if kind == "order" => String::from_str(alloc, sign(left.cmp(&right))),
-        Ok(right) => compared(alloc, left, &right),
-        Err(error) => unread(alloc, kind, &error),
+fn both(alloc: Global, kind: &str, left: &Version, right: &Version) -> Result<String, AllocError> {
+    if kind == "order" {
+        String::from_str(alloc, sign(left.cmp(right)))
+    } else {
+        compared(alloc, left, right)
     }
 }
 
