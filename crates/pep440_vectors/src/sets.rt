@@ -150,8 +150,14 @@ pub fn of_two(
 fn range(alloc: Global, text: &str) -> Result<Option<Range>, AllocError> {
     match VersionSpecifiers::from_str(alloc, text) {
         Ok(list) => found(specifiers_to_range(alloc, &list)),
-        Err(VersionSpecifiersParseError::Memory) => Err(AllocError),
-        Err(_) => Ok(None),
+        Err(error) => no_list(&error),
+    }
+}
+
+fn no_list(error: &VersionSpecifiersParseError) -> Result<Option<Range>, AllocError> {
+    match error {
+        VersionSpecifiersParseError::Memory => Err(AllocError),
+        _ => Ok(None),
     }
 }
 
