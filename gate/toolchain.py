@@ -13,8 +13,8 @@ from crates import kit_folder
 
 # What is used of the two modules.
 NAMES = (
-    "Crate", "ci", "in_lanes", "need", "put_back", "rtlib", "stop", "handles_of", "processors", "free",
-    "checked", "must_fail", "unread",
+    "Crate", "Kept", "ci", "in_lanes", "need", "put_back", "rtlib", "stop", "handles_of", "processors", "free",
+    "checked", "must_fail", "unread", "REFUSED",
 )
 LIBRARY_NAMES = ("Crate", "crates_below", "lock", "guarded", "text_of")
 
@@ -39,7 +39,21 @@ def load():
         raise Unknown(f"it has no {', '.join(lacking) or 'Crate.ci'}")
     find_once(module.rtlib.Crate, "below")
     find_once(module.rtlib.Crate, "stamp")
+    keep_nothing(module.Kept)
     return module
+
+
+def keep_nothing(kept):
+    """Has `rt` keep nothing of its own, and so take nothing: what is proved here is kept in the gate's store."""
+    begin = kept.__init__
+
+    def begin_without_a_place(self, crates, anew=False):
+        begin(self, crates, anew)
+        self.at = None
+
+    kept.__init__ = begin_without_a_place
+    # (they sum up libraries that aren't laid out, and say that nothing is kept)
+    kept.is_built = kept.tell = lambda self, *_: None
 
 
 def find_once(crate, name):

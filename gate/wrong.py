@@ -198,7 +198,8 @@ class Trial:
         """Tries an edit that is no function's, as `rt must-fail` does."""
         for it in edits:
             crate = self.rt_crates[it.crate.name]
-            is_refused, words = self.prover.rt.must_fail(crate, it.path, ["--jobs", "1"], None)
+            kind, words = self.prover.rt.must_fail(crate, it.path, ["--jobs", "1"])
+            is_refused = kind == self.prover.rt.REFUSED
             note = "only because a proof file names" in words or words.endswith(": refused, as it must be")
             self.record(it, is_refused, "" if is_refused and not note else words.partition(": ")[2])
 
