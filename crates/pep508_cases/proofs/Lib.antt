@@ -1,0 +1,5 @@
+pub mod Marks
+pub mod CutTrees
+pub mod OneTreeMore
+pub mod Counting
+pub mod Keeping

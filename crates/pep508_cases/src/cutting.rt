@@ -1,0 +1,62 @@
+//! A case cut by one more tree: where the tree holds too, and where it doesn't.
+
+ghost use Rattle.std.specs.Prelude.{◌≡◌, ◌≤◌, ◌+◌, ◌&&◌, not, IfOk};
+ghost use Rattle.pep508_diagram.specs.Question.{Valuation};
+ghost use Rattle.pep508_tree.specs.Meaning.{IsTree, Extends, holds};
+ghost use Rattle.pep508_cases.specs.Cutting.{Finds};
+
+use pep508_tree::{Interner, MarkerTree};
+use pep508_tree_laws::a_tree_holds_somewhere;
+use std::alloc::{AllocError, Global};
+
+/// Where a case holds and a tree too, and where the case holds and the tree doesn't; each only where there is
+/// such a valuation.
+#[derive(Clone, Copy)]
+pub(crate) struct Halves {
+    pub with: Option<MarkerTree>,
+    pub without: Option<MarkerTree>,
+}
+
+/// The conjunction of two trees, where it ever holds.
+fn meeting(
+    alloc: Global,
+    interner: &mut Interner,
+    a: MarkerTree,
+    b: MarkerTree,
+) -> Result<Option<MarkerTree>, AllocError>
+    requires a { IsTree interner.old.nodes a }
+    requires b { IsTree interner.old.nodes b }
+    ensures found { IfOk result (Finds interner.new.nodes
+        (λ v. holds interner.old.nodes a v && holds interner.old.nodes b v)) }
+    ensures keeps { Extends interner.old.nodes interner.new.nodes }
+    ensures counts { interner.new.conjunctions ≤ interner.old.conjunctions + 1 }
+{
+    let both = a.and(alloc, interner, b)?;
+    interner.are_sound();
+    a_tree_holds_somewhere(interner);
+    if both.is_false() {
+        return Ok(None);
+    }
+    Ok(Some(both))
+}
+
+/// The two halves of a case.
+pub(crate) fn halved(
+    alloc: Global,
+    interner: &mut Interner,
+    case: MarkerTree,
+    tree: MarkerTree,
+) -> Result<Halves, AllocError>
+    requires case { IsTree interner.old.nodes case }
+    requires tree { IsTree interner.old.nodes tree }
+    ensures with { IfOk result (λ halves. Finds interner.new.nodes
+        (λ v. holds interner.old.nodes case v && holds interner.old.nodes tree v) halves.with) }
+    ensures without { IfOk result (λ halves. Finds interner.new.nodes
+        (λ v. holds interner.old.nodes case v && not (holds interner.old.nodes tree v)) halves.without) }
+    ensures keeps { Extends interner.old.nodes interner.new.nodes }
+    ensures counts { interner.new.conjunctions ≤ interner.old.conjunctions + 2 }
+{
+    let with = meeting(alloc, interner, case, tree)?;
+    let without = meeting(alloc, interner, case, tree.negate())?;
+    Ok(Halves { with, without })
+}
