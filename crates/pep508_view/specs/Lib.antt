@@ -4,3 +4,4 @@ pub mod Sameness
 pub mod SamenessLaws
 pub mod Views
 pub mod ReadOff
+pub mod Shown

@@ -6,11 +6,12 @@ ghost use Rattle.version_ranges.specs.Point.{Point};
 ghost use Rattle.pep508_diagram.specs.declared.branch.Branch.{Branch};
 ghost use Rattle.pep508_diagram.specs.Branches.{RisingBranches, branch_at};
 ghost use Rattle.pep508_tree.specs.Tree.{Tree};
-ghost use Rattle.pep508_tree.specs.Meaning.{IsTree};
+ghost use Rattle.pep508_tree.specs.Meaning.{IsTree, diagram_of};
 ghost use Rattle.pep508_view.specs.declared.kind.MarkerTreeKind.{MarkerTreeKind};
 ghost use Rattle.pep508_view.specs.Edges.{edges};
 ghost use Rattle.pep508_view.specs.Reading.{JustOne};
 ghost use Rattle.pep508_view.specs.Views.{IsKind};
+ghost use Rattle.pep508_view.specs.Shown.{kind_diagram};
 ghost use Rattle.pep508_view.specs.ReadOff.{IsReadOff, IsBelow, IsLaidOut, subtrees};
 
 use crate::kind::MarkerTreeView;
@@ -26,6 +27,16 @@ pub fn truth_is_read_off(tree: MarkerTree, interner: &Interner)
 {
     constants_are_named(interner);
     let _ = tree.kind(interner);
+}
+
+/// A tree's diagram is what its view shows: a leaf, or the questions of the node with the diagrams of the
+/// subtrees.
+pub fn a_view_shows_the_diagram(tree: MarkerTree, interner: &Interner)
+    requires { IsTree interner.now.nodes tree }
+    ensures { (kind : MarkerTreeKind) → IsKind interner.now.nodes tree kind →
+        diagram_of interner.now.nodes tree ≡ kind_diagram (diagram_of interner.now.nodes) kind }
+{
+    interner.are_sound();
 }
 
 /// What a view leads to asks only for variables behind the one that is asked first, and was made before the
