@@ -1,6 +1,7 @@
 -- A candidate list: UTF-8, with a candidate line on each line that is not blank.
-use Rattle.std.specs.Prelude.{◌≡◌, ℕ, IsTrue, List, ◌∷◌, ◌++◌, Option, Some, None, Result, Ok, Err}
+use Rattle.std.specs.Prelude.{◌≡◌, ℕ, IsTrue, List, ◌∷◌, ◌++◌, All, Option, Some, None, Result, Ok, Err}
 use Rattle.std.specs.Str.{trim}
+use Rattle.pep440_text.specs.Printable.{IsPrintable}
 use Rattle.reqtable_text.specs.declared.candidates.Candidate.{Candidate}
 use Rattle.reqtable_text.specs.declared.candidates.CandidateFault.{CandidateFault}
 use Rattle.reqtable_text.specs.declared.candidates.CandidatesError.{CandidatesError}
@@ -18,6 +19,10 @@ candidate_at number text = at_line number (candidate_of text)
 -- the candidates of a list, or where its bytes stop being UTF-8, or else its first line that is no candidate
 abbrev pub candidates_of : List ℕ → Result (List Candidate) CandidatesError
 candidates_of = lines_of_text candidate_at NotText
+
+-- each candidate has a version as texts say it, whose print is read as it
+abbrev pub HavePrintableVersions : List Candidate → Type 0
+HavePrintableVersions = All (λ candidate. IsPrintable candidate.version)
 
 -- what an error says of a text, if it is not want of memory
 abbrev pub told_candidates : CandidatesError → Option CandidatesError

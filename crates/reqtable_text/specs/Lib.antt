@@ -2,4 +2,5 @@ pub mod TextLines
 pub mod CandidateLine
 pub mod CandidateText
 pub mod Candidates
+pub mod Ordered
 pub mod Errors

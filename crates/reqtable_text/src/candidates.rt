@@ -8,7 +8,9 @@ ghost use Rattle.std.specs.Str.{IsUtf8, trim};
 ghost use Rattle.reqtable_text.specs.CandidateLine.{parts_in, has_name};
 ghost use Rattle.reqtable_text.specs.Errors.{cause_text};
 ghost use Rattle.reqtable_text.specs.Candidates.{candidate_at, candidates_of, told_candidates, IsNameReached};
+ghost use Rattle.reqtable_text.specs.Candidates.{HavePrintableVersions};
 
+use crate::laws::candidates_have_printable_versions;
 use crate::pieces::{read_name, read_version};
 use crate::text_lines::{as_text, is_blank, line_text};
 use pep440_version::Version;
@@ -135,10 +137,13 @@ pub struct Candidates {
 impl Model for Candidates {
     ghost use Rattle.std.specs.Prelude.{List};
     ghost use Rattle.reqtable_text.specs.declared.candidates.Candidate.{Candidate};
+    ghost use Rattle.reqtable_text.specs.Candidates.{HavePrintableVersions};
 
     ghost Value = { List Candidate };
 
     ghost view = { λ c. c.items.items };
+
+    ghost invariant = { λ c. HavePrintableVersions c.items.items };
 }
 
 impl Candidates {
@@ -162,6 +167,7 @@ impl Candidates {
             Err(offset) => return Err(CandidatesError::NotText { offset }),
         };
         let items = read_candidates(alloc, text)?;
+        candidates_have_printable_versions();
         Ok(Candidates { items })
     }
 
@@ -170,6 +176,13 @@ impl Candidates {
         ensures { result.now ≡ self.now }
     {
         &self.items
+    }
+
+    /// That each version is one as texts say it.
+    pub fn have_printable_versions(&self)
+        ensures { HavePrintableVersions self.now }
+    {
+        let _ = &self.items;
     }
 
     /// A copy, in memory of its own.

@@ -1,17 +1,16 @@
 //! Laws over the definitions that the contracts cite. The functions do nothing: each one's contract is
 //! its law.
 
-ghost use Rattle.std.specs.Prelude.{◌≡◌, ◌↔◌, ℕ, List, All, Ok, Err};
+ghost use Rattle.std.specs.Prelude.{◌≡◌, ◌↔◌, ℕ, List, Ok, Err};
 ghost use Rattle.std.specs.List.{AllZip};
 ghost use Rattle.std.specs.Str.{IsUtf8};
-ghost use Rattle.pep440_text.specs.Printable.{IsPrintable};
 ghost use Rattle.reqtable_text.specs.declared.candidates.Candidate.{Candidate};
 ghost use Rattle.reqtable_text.specs.declared.candidates.CandidateFault.{CandidateFault};
 ghost use Rattle.reqtable_text.specs.declared.candidates.CandidatesError.TheVariants.{Line};
 ghost use Rattle.reqtable_text.specs.TextLines.{text_lines};
 ghost use Rattle.reqtable_text.specs.CandidateLine.{candidate_of};
 ghost use Rattle.reqtable_text.specs.CandidateText.{IsCandidateLine, IsNumberedCandidate, IsFirstFault};
-ghost use Rattle.reqtable_text.specs.Candidates.{candidates_of};
+ghost use Rattle.reqtable_text.specs.Candidates.{candidates_of, HavePrintableVersions};
 
 use pep440_text::laws::{read_is_printable, version_text_is_read};
 
@@ -53,7 +52,7 @@ pub fn first_line_at_fault_is_named()
 /// Each candidate that is read of a list has a version as texts say it, whose print is read as it.
 pub fn candidates_have_printable_versions()
     ensures { (bytes : List ℕ) (candidates : List Candidate) → candidates_of bytes ≡ Ok candidates →
-        All (λ candidate. IsPrintable candidate.version) candidates }
+        HavePrintableVersions candidates }
 {
     version_text_is_read();
     read_is_printable();

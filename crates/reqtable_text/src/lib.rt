@@ -3,7 +3,9 @@
 
 pub mod candidates;
 pub mod laws;
+pub mod ordered;
 pub mod pieces;
 pub mod text_lines;
 
 pub use candidates::{Candidate, CandidateFault, Candidates, CandidatesError};
+pub use ordered::{Ordered, Placed};

@@ -1,0 +1,125 @@
+//! Candidates by package, from the greatest version down.
+
+ghost use Rattle.std.specs.Prelude.{◌≡◌, map, filter, IfOk};
+ghost use Rattle.std.specs.List.{enumerate_from};
+ghost use Rattle.std.specs.List.Sorted.{IsStrictlySortedBy};
+ghost use Rattle.std.specs.Str.{bytes_eq};
+ghost use Rattle.pep508_name.specs.Name.{name_cmp};
+ghost use Rattle.reqtable_text.specs.Ordered.{placed_seen, order_cmp, AreInOrder};
+
+use crate::candidates::{Candidate, Candidates};
+use pep508_name::PackageName;
+use std::alloc::{AllocError, Global};
+use std::cmp::Ordering;
+use std::marker::Model;
+
+/// A candidate, and its place in the list.
+#[derive(Clone, Copy)]
+pub struct Placed<'a> {
+    pub place: usize,
+    pub candidate: &'a Candidate,
+}
+
+/// The candidates of a list by package, from the greatest version down, the first in the list first among
+/// equals.
+#[derive(Drop)]
+pub struct Ordered<'a> {
+    candidates: &'a Candidates,
+    placed: Vec<Placed<'a>>,
+}
+
+impl<'a> Model for Ordered<'a> {
+    ghost use Rattle.std.specs.Prelude.{map};
+    ghost use Rattle.reqtable_text.specs.Ordered.{placed_seen, AreInOrder, OrderedRecord};
+
+    ghost Value = { OrderedRecord };
+
+    ghost view = { λ o. record {
+      candidates = o.candidates.now;
+      placed = map placed_seen o.placed.items;
+    } };
+
+    ghost invariant = { λ o. AreInOrder o.candidates.now (map placed_seen o.placed.items) };
+}
+
+impl Candidates {
+    /// The candidates in order. For so many of them, at most about so many times their logarithm comparisons,
+    /// and memory for a place and a reference each.
+    pub fn in_order(&self, alloc: Global) -> Result<Ordered<'_>, AllocError>
+        ensures { IfOk result (λ ordered. ordered.candidates ≡ self.now) }
+    {
+        let mut placed = with_places(alloc, self.items())?;
+        placed.sort_unstable_by(|a, b| compare(a, b));
+        Ok(Ordered {
+            candidates: self,
+            placed,
+        })
+    }
+}
+
+impl<'a> Ordered<'a> {
+    /// The list that was put in order.
+    pub fn candidates(&self) -> &'a Candidates
+        ensures { result.now ≡ self.now.candidates }
+    {
+        self.candidates
+    }
+
+    /// All candidates in order, each with its place.
+    pub fn placed(&self) -> &[Placed<'a>]
+        ensures placed { map placed_seen result.now ≡ self.now.placed }
+        ensures in_order { AreInOrder self.now.candidates self.now.placed }
+    {
+        &self.placed
+    }
+
+    /// The candidates of a package, in order. Compares about as many names as the logarithm of the length.
+    pub fn run_of(&self, name: &PackageName) -> &[Placed<'a>]
+        ensures { map placed_seen result.now ≡ filter (λ c. bytes_eq name.now c.1.name) self.now.placed }
+    {
+        run_in(&self.placed, name)
+    }
+}
+
+/// The candidates with their places, as in the list.
+fn with_places(alloc: Global, candidates: &[Candidate]) -> Result<Vec<Placed<'_>>, AllocError>
+    ensures { IfOk result (λ placed. map placed_seen placed.items ≡ enumerate_from 0 candidates.now) }
+{
+    let mut placed = Vec::with_capacity(alloc, candidates.len())?;
+    for (place, candidate) in candidates.iter().enumerate() {
+        placed.push(Placed { place, candidate })?;
+    }
+    Ok(placed)
+}
+
+/// Which of two candidates stands first. Versions are compared only where names are equal.
+fn compare(a: &Placed<'_>, b: &Placed<'_>) -> Ordering
+    ensures { result ≡ order_cmp (placed_seen a.now) (placed_seen b.now) }
+{
+    let name = compare_name(a, &b.candidate.name);
+    if name.is_ne() {
+        return name;
+    }
+    let version = b.candidate.version.cmp(&a.candidate.version);
+    version.then(a.place.cmp(&b.place))
+}
+
+/// How the name of a candidate compares with another.
+fn compare_name(placed: &Placed<'_>, name: &PackageName) -> Ordering
+    ensures { result ≡ name_cmp placed.now.candidate.now.name name.now }
+{
+    placed.candidate.name.as_str().cmp(name.as_str())
+}
+
+/// Those of a package among candidates in order.
+fn run_in<'s, 'a>(placed: &'s [Placed<'a>], name: &PackageName) -> &'s [Placed<'a>]
+    requires { IsStrictlySortedBy order_cmp (map placed_seen placed.now) }
+    ensures { map placed_seen result.now
+        ≡ filter (λ c. bytes_eq name.now c.1.name) (map placed_seen placed.now) }
+{
+    let start = placed.partition_point(|it| compare_name(it, name).is_lt());
+    let (_, rest) = placed.split_at(start);
+    let length = rest.partition_point(|it| compare_name(it, name).is_le());
+    let (run, _) = rest.split_at(length);
+    run
+}
