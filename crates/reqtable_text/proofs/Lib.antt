@@ -7,3 +7,6 @@ pub mod CandidateParts
 pub mod CandidateLines
 pub mod Utf8Lines
 pub mod WholeCandidates
+pub mod Places
+pub mod InOrder
+pub mod Runs
