@@ -1,5 +1,5 @@
 -- Candidates that were sorted with their places are in order.
-use Rattle.std.proofs.Common.{◌≡◌, ℕ, zero, suc, ◌+◌, ◌<◌, ◌≤◌, ◌==◌, Bool, true, false, List, [], ◌∷◌, map, length, get_or, IsPermutation, IsSortedBy, nat_cmp, is_lt, Ordering, Less, Equal, Greater, refl, ap, sym, subst, ◌∙◌, arith}
+use Rattle.std.proofs.Common.{◌≡◌, ℕ, suc, ◌<◌, ◌≤◌, ◌==◌, Bool, true, false, List, [], ◌∷◌, map, length, get_or, IsPermutation, IsSortedBy, nat_cmp, is_lt, Ordering, Less, Equal, Greater, refl, sym, subst, ◌∙◌, arith}
 use Rattle.std.proofs.lemmas.Bool.Decides.{nat_tests}
 use Rattle.std.proofs.lemmas.Cmp.{ranked, on_total, then_total, back_total, nat_cmp_total, nat_list_cmp_total}
 use Rattle.std.proofs.lemmas.List.Sorted.{ranks_by, sorted_far, IsPermutation-map, IsPermutation-sym}
@@ -31,7 +31,7 @@ stands_weakly = ranks_by order_total placed_seen
 tied_places : (a b : ℕ × Candidate) → order_cmp b a ≡ Equal → b.0 ≡ a.0
 tied_places a b h =
     let behind = then_equal (name_cmp b.1.name a.1.name)
-        (ordering_then (version_cmp a.1.version b.1.version) (nat_cmp b.0 a.0)) h in
+    (ordering_then (version_cmp a.1.version b.1.version) (nat_cmp b.0 a.0)) h in
     let last = then_equal (version_cmp a.1.version b.1.version) (nat_cmp b.0 a.0) behind.1 in
     ranked b.0 a.0 Equal (sym last.1)
 
@@ -74,7 +74,7 @@ pub sorted_in_order : (candidates : List Candidate) (xs ys : List Placed) → ma
 sorted_in_order candidates xs ys e h up =
     let seen : IsPermutation (map placed_seen ys) (enumerate_from 0 candidates) =
     subst (IsPermutation (map placed_seen ys)) e
-        (IsPermutation-sym (map placed_seen xs) (map placed_seen ys) (IsPermutation-map placed_seen xs ys h)) in
+    (IsPermutation-sym (map placed_seen xs) (map placed_seen ys) (IsPermutation-map placed_seen xs ys h)) in
     record {
       each = seen;
       rising = rise ys (sorted_far stands_before stands_weakly ys up) (each_once candidates (map placed_seen ys) seen);

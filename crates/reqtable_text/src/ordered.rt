@@ -5,6 +5,7 @@ ghost use Rattle.std.specs.List.{enumerate_from};
 ghost use Rattle.std.specs.List.Sorted.{IsStrictlySortedBy};
 ghost use Rattle.std.specs.Str.{bytes_eq};
 ghost use Rattle.pep508_name.specs.Name.{name_cmp};
+ghost use Rattle.reqtable_text.specs.Candidates.{HavePrintableVersions};
 ghost use Rattle.reqtable_text.specs.Ordered.{placed_seen, order_cmp, AreInOrder};
 
 use crate::candidates::{Candidate, Candidates};
@@ -43,8 +44,8 @@ impl<'a> Model for Ordered<'a> {
 }
 
 impl Candidates {
-    /// The candidates in order. For so many of them, at most about so many times their logarithm comparisons,
-    /// and memory for a place and a reference each.
+    /// The candidates in order. Comparisons grow with their number times its logarithm, memory with their
+    /// number.
     pub fn in_order(&self, alloc: Global) -> Result<Ordered<'_>, AllocError>
         ensures { IfOk result (λ ordered. ordered.candidates ≡ self.now) }
     {
@@ -69,11 +70,14 @@ impl<'a> Ordered<'a> {
     pub fn placed(&self) -> &[Placed<'a>]
         ensures placed { map placed_seen result.now ≡ self.now.placed }
         ensures in_order { AreInOrder self.now.candidates self.now.placed }
+        ensures printable { HavePrintableVersions self.now.candidates }
     {
+        self.candidates.have_printable_versions();
         &self.placed
     }
 
-    /// The candidates of a package, in order. Compares about as many names as the logarithm of the length.
+    /// The candidates of a package, in order. Comparisons of names grow with the logarithm of the number of
+    /// all candidates.
     pub fn run_of(&self, name: &PackageName) -> &[Placed<'a>]
         ensures { map placed_seen result.now ≡ filter (λ c. bytes_eq name.now c.1.name) self.now.placed }
     {
