@@ -3,7 +3,7 @@
 use pep440_version::Version;
 use pep508_tree::Interner;
 use pep508_url::Vars;
-use reqtable_answer::{Admission, Answer, Row, answer_to};
+use reqtable_answer::{Admission, Answer, Row, answer_to, ask_of};
 use reqtable_requirements::{Line, Requirements};
 use reqtable_text::{Candidate, Candidates};
 use std::alloc::{AllocError, Global};
@@ -31,7 +31,7 @@ fn is_answer_copied(
     let admission = Admission::new(|_: &Version, _: bool| true);
     let mut asks = Vec::new(alloc);
     for line in read.lines() {
-        asks.push(&line.requirement)?;
+        asks.push(ask_of(&line.requirement))?;
     }
     let answer: Answer = answer_to(alloc, &asks, candidates, &admission)?;
     for row in &answer.rows {

@@ -1,7 +1,7 @@
 use pep440_version::Version;
 use pep508_tree::Interner;
 use pep508_url::Vars;
-use reqtable_answer::{Admission, Answer, answer_to};
+use reqtable_answer::{Admission, Answer, answer_to, ask_of};
 use reqtable_requirements::{Line, Requirements, RequirementsError};
 use reqtable_text::{CandidateFault, Candidates, CandidatesError};
 use std::alloc::{AllocError, Global};
@@ -29,7 +29,7 @@ fn read(alloc: Global, text: &str) -> Result<String, fmt::Error> {
     let vars = Vars::new(alloc, &[], "/w")?;
     let mut interner = Interner::new(alloc);
     match Requirements::parse(alloc, text.as_bytes(), &mut interner, &vars) {
-        Ok(read) => shown_lines(alloc, &read),
+        Ok(read) => shown_lines(alloc, read),
         Err(RequirementsError::Line { number, error }) => {
             Ok(format!(in alloc; "{number}: {error}")?)
         }
@@ -37,10 +37,10 @@ fn read(alloc: Global, text: &str) -> Result<String, fmt::Error> {
     }
 }
 
-fn shown_lines(alloc: Global, read: &Requirements) -> Result<String, fmt::Error> {
+fn shown_lines(alloc: Global, read: Requirements) -> Result<String, fmt::Error> {
     let mut text = String::new(alloc);
-    for line in read.lines() {
-        text.push_str(shown(alloc, line)?.as_str())?;
+    for line in read.into_lines() {
+        text.push_str(shown(alloc, &line)?.as_str())?;
         text.push('\n')?;
     }
     Ok(text)
@@ -80,7 +80,7 @@ fn rows(alloc: Global, read: &Requirements, candidates: &Candidates) -> Result<S
     let admission = Admission::new(|_: &Version, names_prerelease: bool| names_prerelease);
     let mut asks = Vec::new(alloc);
     for line in read.lines() {
-        asks.push(&line.requirement)?;
+        asks.push(ask_of(&line.requirement))?;
     }
     let answer: Answer = answer_to(alloc, &asks, candidates, &admission)?;
     answer.text(alloc, candidates)

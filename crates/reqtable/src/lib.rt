@@ -16,6 +16,6 @@
 #![tactic(auto)]
 
 pub use pep508_rs;
-pub use reqtable_answer::{Admission, Answer, Outcome, Row, answer_to};
+pub use reqtable_answer::{Admission, Answer, Ask, AskSource, Outcome, Row, answer_to, ask_of};
 pub use reqtable_requirements::{Line, Requirements, RequirementsError};
 pub use reqtable_text::{Candidate, CandidateFault, Candidates, CandidatesError};

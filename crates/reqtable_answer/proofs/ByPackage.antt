@@ -12,11 +12,12 @@ use Rattle.pep508_requirement_text.specs.FrontReading.{Front}
 use Rattle.reqtable_text.specs.declared.candidates.Candidate.{Candidate}
 use Rattle.reqtable_answer.specs.declared.choosing.Numbered.{Numbered}
 use Rattle.reqtable_answer.specs.declared.grouping.Group.{Group}
+use Rattle.reqtable_answer.specs.declared.lent.Ask.{Ask}
 use Rattle.reqtable_answer.specs.Asks.{is_of, is_candidate}
 use Rattle.reqtable_answer.specs.Answer.{Admits, RowRecord, IsRowOf, IsRow}
 use Rattle.reqtable_answer.specs.declared.answer.Row.{Row}
 use Rattle.reqtable_answer.specs.Rows.{row_seen}
-use Rattle.reqtable_answer.specs.Says.{Asked, ask_seen, asks_seen}
+use Rattle.reqtable_answer.specs.Says.{ask_seen, asks_seen}
 use Rattle.reqtable_answer.proofs.Tests.{same_bytes}
 use Rattle.reqtable_answer.specs.Groups.{group_of, has_group, candidates_for, numbered_seen}
 
@@ -147,22 +148,22 @@ module _ (old new : BTreeMap (Bor (List ℕ)) Group) (name : List ℕ) (before :
 -- ---- what is asked of one package
 
 -- a package that has a group is asked for
-pub group_some : (p : Front → Bool) (all : List Front) (group given : List (Bor Asked)) → given ≡ group → asks_seen group ≡ filter p all
+pub group_some : (p : Front → Bool) (all : List Front) (group given : List Ask) → given ≡ group → asks_seen group ≡ filter p all
     → list_any p all ≡ true → 0 < length given
 group_some p all group given same is h =
     let seen : 0 < length (asks_seen group) = subst (λ l. 0 < length l) (sym is) (some_kept p all h) in
-    subst (λ l. 0 < length l) (sym same) (subst (λ n. 0 < n) (length-map group (λ r. ask_seen r.now)) seen)
+    subst (λ l. 0 < length l) (sym same) (subst (λ n. 0 < n) (length-map group ask_seen) seen)
 
 both_true : (a b : Bool) → (a && b) ≡ true → a ≡ true
 both_true true b h = refl
 both_true false b h = absurd (cc)
 
 -- the first of them has their name
-pub first_named : (q : List ℕ) (asks : List (Bor Asked)) (d : Bor Asked) → 0 < length asks
-    → list_all (is_of q) (asks_seen asks) ≡ true → (get_or asks 0 d).now.name ≡ q
+pub first_named : (q : List ℕ) (asks : List Ask) (d : Ask) → 0 < length asks
+    → list_all (is_of q) (asks_seen asks) ≡ true → (get_or asks 0 d).name.now ≡ q
 first_named q [] d h all = absurd (omega arith)
 first_named q (a ∷ asks) d h all =
-    sym (same_bytes q a.now.name (both_true (bytes_eq q a.now.name) (list_all (is_of q) (asks_seen asks)) all))
+    sym (same_bytes q a.name.now (both_true (bytes_eq q a.name.now) (list_all (is_of q) (asks_seen asks)) all))
 
 -- ---- rows
 

@@ -12,3 +12,4 @@ pub mod Said
 pub mod Others
 pub mod OneRange
 pub mod Counting
+pub mod Ordered

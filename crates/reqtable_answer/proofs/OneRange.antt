@@ -1,26 +1,27 @@
 -- The range of asks tells what they take.
-use Rattle.std.proofs.Common.{◌≡◌, ◌∙◌, Bool, List, Option, Some, IfSome, subst, Bor}
+use Rattle.std.proofs.Common.{◌≡◌, ◌∙◌, Bool, List, Option, Some, IfSome, subst}
 use Rattle.std.specs.List.{list_all}
 use Rattle.pep440_version.specs.Record.{VersionRecord}
 use Rattle.pep440_specifier.specs.Matching.{SpecifierRecord}
 use Rattle.reqtable_range.specs.declared.one.OneRange.{OneRange}
 use Rattle.reqtable_range.specs.One.{FindsOne}
 use Rattle.reqtable_range.specs.Together.{members_of, all_take}
+use Rattle.reqtable_answer.specs.declared.lent.Ask.{Ask}
 use Rattle.reqtable_answer.specs.Asks.{ask_takes}
 use Rattle.reqtable_answer.specs.Ranged.{TellsTaken}
-use Rattle.reqtable_answer.specs.Says.{Asked, ask_seen}
+use Rattle.reqtable_answer.specs.Says.{ask_seen}
 
 -- all asks take the version
-abbrev pub asks_take : List (Bor Asked) → VersionRecord → Bool
-asks_take asks version = list_all (λ ask. ask_takes version (ask_seen ask.now)) asks
+abbrev pub asks_take : List Ask → VersionRecord → Bool
+asks_take asks version = list_all (λ ask. ask_takes version (ask_seen ask)) asks
 
-pub range_tells : {one : OneRange} (asks : List (Bor Asked)) (lists : List (List SpecifierRecord))
+pub range_tells : {one : OneRange} (asks : List Ask) (lists : List (List SpecifierRecord))
     → ((version : VersionRecord) → all_take lists version ≡ asks_take asks version)
     → FindsOne (members_of lists) one → TellsTaken asks (Some one)
 range_tells asks lists same found = (lists, found, same)
 
 -- what a range answers for its lists, asks are told
-pub told : (asks : List (Bor Asked)) (range : Option OneRange) (one : OneRange) (version : VersionRecord) (found : Option Bool) (taken : Bool)
+pub told : (asks : List Ask) (range : Option OneRange) (one : OneRange) (version : VersionRecord) (found : Option Bool) (taken : Bool)
     → range ≡ Some one → found ≡ Some taken → TellsTaken asks range
     → IfSome found (λ it. (lists : List (List SpecifierRecord)) → FindsOne (members_of lists) one → it ≡ all_take lists version)
     → taken ≡ asks_take asks version

@@ -1,5 +1,5 @@
 -- What becomes of a package, by the tests that are asked of its candidates.
-use Rattle.std.proofs.Common.{◌≡◌, ℕ, Bool, true, false, cond, ◌&&◌, List, Option, filter, option_map, sym, ap, ◌∙◌, Bor}
+use Rattle.std.proofs.Common.{◌≡◌, ℕ, Bool, true, false, cond, ◌&&◌, List, Option, filter, option_map, sym, ap, ◌∙◌}
 use Rattle.std.proofs.lemmas.List.Folds.{list_all-map}
 use Rattle.std.specs.List.{list_any}
 use Rattle.std.specs.Cmp.{IsTotalOrder, on_total}
@@ -7,22 +7,22 @@ use Rattle.pep440_version.specs.OrderLaws.{version_cmp_total}
 use Rattle.pep508_requirement_text.specs.FrontReading.{Front}
 use Rattle.reqtable_text.specs.declared.candidates.Candidate.{Candidate}
 use Rattle.reqtable_answer.specs.declared.answer.Outcome.TheVariants.{Direct}
+use Rattle.reqtable_answer.specs.declared.lent.Ask.{Ask}
 use Rattle.reqtable_answer.specs.Asks.{has_url, has_prerelease, ask_takes, may_be_taken}
 use Rattle.reqtable_answer.specs.Answer.{Admits, first_greatest, by_version, chosen, outcome_of}
 use Rattle.reqtable_answer.specs.Groups.{passes_by}
-use Rattle.reqtable_answer.specs.Says.{Asked, ask_seen, asks_seen}
+use Rattle.reqtable_answer.specs.Says.{ask_seen, asks_seen}
 use Rattle.reqtable_answer.proofs.Tests.{any_mapped}
 
 pub by_version_total : IsTotalOrder by_version
 by_version_total = on_total (λ c. c.1.version) version_cmp_total
 
--- the tests by requirements are those by what they say
-pub passes_same : (admits : Admits) (asks : List (Bor Asked)) (prerelease : Bool)
-    → prerelease ≡ list_any (λ ask. has_prerelease (ask_seen ask.now)) asks → passes_by admits asks prerelease ≡ may_be_taken admits (asks_seen asks)
+-- the tests by asks are those by what is seen of them
+pub passes_same : (admits : Admits) (asks : List Ask) (prerelease : Bool)
+    → prerelease ≡ list_any (λ ask. has_prerelease (ask_seen ask)) asks → passes_by admits asks prerelease ≡ may_be_taken admits (asks_seen asks)
 passes_same admits asks prerelease h =
-    let seen : Bor Asked → Front = λ ask. ask_seen ask.now in
-    let named = h ∙ sym (any_mapped has_prerelease seen asks) in
-    λ i c. sym (list_all-map (ask_takes c.1.version) seen asks) i && admits c.1.version (named i)
+    let named = h ∙ sym (any_mapped has_prerelease ask_seen asks) in
+    λ i c. sym (list_all-map (ask_takes c.1.version) ask_seen asks) i && admits c.1.version (named i)
 
 pub direct_is : (admits : Admits) (asks : List Front) (candidates : List (ℕ × Candidate)) → list_any has_url asks ≡ true
     → Direct ≡ outcome_of admits asks candidates

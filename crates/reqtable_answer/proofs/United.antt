@@ -1,4 +1,4 @@
--- Extras that were sorted and of which each was kept once.
+-- Extras of many lists, sorted and each kept once.
 use Rattle.std.proofs.Common.{◌≡◌, ℕ, List, [], ◌∷◌, ◌++◌, Bool, true, false, cond, ◌||◌, map, refl, sym, ap, ◌∙◌, Bor, Result, Ok, Err, IfOk}
 use Rattle.std.specs.List.{list_any, flat_map, dedup, dedup_from, AllByRecursion}
 use Rattle.std.specs.List.Sorted.{IsStrictlySortedBy, IsSorted, IsPermutation}
@@ -77,20 +77,35 @@ any_appended : (f : List ℕ → Bool) (xs ys : List (List ℕ)) → list_any f 
 any_appended f [] ys = refl
 any_appended f (x ∷ xs) ys = ap (λ b. f x || b) (any_appended f xs ys) ∙ sym (or_assoc (f x) (list_any f xs) (list_any f ys))
 
-any_flat : (q : List ℕ) (asks : List Front)
-    → list_any (bytes_eq q) (flat_map (λ ask. ask.extras) asks) ≡ list_any (has_extra q) asks
-any_flat q [] = refl
-any_flat q (ask ∷ asks) =
-    any_appended (bytes_eq q) ask.extras (flat_map (λ ask. ask.extras) asks) ∙ ap (λ b. has_extra q ask || b) (any_flat q asks)
+-- lists of texts, as they are lent
+abbrev pub Lists : Type 0
+Lists = List (Bor (List (List ℕ)))
 
--- what is left of the extras of some asks
-pub united_there : (q : List ℕ) (lent sorted : List (Bor (List ℕ))) (asks : List Front)
-    → texts lent ≡ flat_map (λ ask. ask.extras) asks → IsPermutation lent sorted
-    → list_any (bytes_eq q) (texts (dedup same_text sorted)) ≡ list_any (has_extra q) asks
-united_there q lent sorted asks are moved =
+-- one of them has the text
+abbrev pub some_has : List ℕ → Lists → Bool
+some_has q lists = list_any (λ list. list_any (bytes_eq q) list.now) lists
+
+any_flat : (q : List ℕ) (lists : Lists) → list_any (bytes_eq q) (flat_map (λ list. list.now) lists) ≡ some_has q lists
+any_flat q [] = refl
+any_flat q (list ∷ lists) =
+    any_appended (bytes_eq q) list.now (flat_map (λ list. list.now) lists)
+    ∙ ap (λ b. list_any (bytes_eq q) list.now || b) (any_flat q lists)
+
+-- what is left of the extras of some lists
+pub united_there : (q : List ℕ) (lent sorted : List (Bor (List ℕ))) (lists : Lists)
+    → texts lent ≡ flat_map (λ list. list.now) lists → IsPermutation lent sorted
+    → list_any (bytes_eq q) (texts (dedup same_text sorted)) ≡ some_has q lists
+united_there q lent sorted lists are moved =
     any_mapped (bytes_eq q) (λ e. e.now) (dedup same_text sorted) ∙ kept_there q sorted
     ∙ sym (list_any-IsPermutation (has q) lent sorted moved) ∙ sym (any_mapped (bytes_eq q) (λ e. e.now) lent)
-    ∙ ap (list_any (bytes_eq q)) are ∙ any_flat q asks
+    ∙ ap (list_any (bytes_eq q)) are ∙ any_flat q lists
+
+-- the lists of asks have the extras that these have
+pub asked_there : (q : List ℕ) (lists given : Lists) (asks : List Front) → given ≡ lists
+    → map (λ list. list.now) lists ≡ map (λ ask. ask.extras) asks → some_has q given ≡ list_any (has_extra q) asks
+asked_there q lists given asks same are =
+    ap (some_has q) same ∙ sym (any_mapped (list_any (bytes_eq q)) (λ list. list.now) lists)
+    ∙ ap (list_any (list_any (bytes_eq q))) are ∙ any_mapped (list_any (bytes_eq q)) (λ ask. ask.extras) asks
 
 -- what follows from what a call answers
 pub if_ok : {X E : Type 0} (P Q : X → Type 0) (r : Result X E) → ((x : X) → P x → Q x) → IfOk r P → IfOk r Q

@@ -12,9 +12,10 @@ use Rattle.pep508_requirement_text.specs.FrontReading.{Front}
 use Rattle.reqtable_text.specs.declared.candidates.Candidate.{Candidate}
 use Rattle.reqtable_answer.specs.declared.choosing.Numbered.{Numbered}
 use Rattle.reqtable_answer.specs.declared.grouping.Group.{Group}
+use Rattle.reqtable_answer.specs.declared.lent.Ask.{Ask}
 use Rattle.reqtable_answer.specs.Admission.{Admits}
 use Rattle.reqtable_answer.specs.Asks.{ask_takes}
-use Rattle.reqtable_answer.specs.Says.{Asked, ask_seen, asks_seen}
+use Rattle.reqtable_answer.specs.Says.{ask_seen, asks_seen}
 
 -- the group of a name, where it has one
 abbrev pub group_of : {X : Type 0} → BTreeMap (Bor (List ℕ)) X → List ℕ → Option X
@@ -42,7 +43,7 @@ exceeds cmp x (Some y) = is_gt (cmp x y)
 abbrev pub better_of : {K : Type 0} → (K → K → Ordering) → (K → Bool) → K → Option K → Option K
 better_of cmp test x best = if exceeds cmp x best && test x then Some x else best
 
--- the test of candidates by these requirements, with what is said of their pre-releases
-abbrev pub passes_by : Admits → List (Bor Asked) → Bool → ℕ × Candidate → Bool
+-- the test of candidates by these asks, with what is said of their pre-releases
+abbrev pub passes_by : Admits → List Ask → Bool → ℕ × Candidate → Bool
 passes_by admits asks prerelease c =
-    list_all (λ ask. ask_takes c.1.version (ask_seen ask.now)) asks && admits c.1.version prerelease
+    list_all (λ ask. ask_takes c.1.version (ask_seen ask)) asks && admits c.1.version prerelease

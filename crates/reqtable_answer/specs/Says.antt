@@ -1,46 +1,66 @@
--- Which requirement says which ask.
-use Rattle.std.specs.Prelude.{◌≡◌, ℕ, List, [], map, Option, Some, None, Result}
+-- What asks that are lent say, and requirements.
+use Rattle.std.specs.Prelude.{◌≡◌, List, [], map, Option, Some, None}
 use Rattle.std.specs.List.{AllZip}
-use Rattle.std.specs.Borrow.{Bor}
+use Rattle.pep440_specifier_list.specs.Lists.{IsInOrder}
 use Rattle.pep508_url.specs.UrlTexts.{Verbatim}
 use Rattle.pep508_url.specs.declared.error.VerbatimUrlError.{VerbatimUrlError}
 use Rattle.pep508_requirement_text.specs.FrontReading.{Source, Front}
 use Rattle.pep508_requirement_text.specs.FrontReading.Source.{Any, Specifiers, Url}
-use Rattle.pep508_requirement.specs.RequirementReading.{AsksFor}
 use Rattle.pep508_requirement.specs.declared.requirement.Requirement.{Requirement}
 use Rattle.pep508_requirement.specs.declared.version_or_url.VersionOrUrl.{VersionOrUrl}
 use Rattle.pep508_requirement.specs.declared.version_or_url.VersionOrUrl.TheVariants as asked
+use Rattle.reqtable_answer.specs.declared.lent.Ask.{Ask}
+use Rattle.reqtable_answer.specs.declared.lent.AskSource.{AskSource}
+use Rattle.reqtable_answer.specs.declared.lent.AskSource.TheVariants as lent
+
+-- ---- what is seen of them
+
+-- what is asked for, its specifiers by version, and no word on which URL
+abbrev pub source_seen : AskSource → Source
+source_seen lent.Any = Any
+source_seen (lent.Specifiers list) = Specifiers list.now
+source_seen lent.Url = Url []
+
+abbrev pub ask_seen : Ask → Front
+ask_seen ask = record { name = ask.name.now; extras = ask.extras.now; source = source_seen ask.source }
+
+abbrev pub asks_seen : List Ask → List Front
+asks_seen = map ask_seen
 
 -- a requirement of a project, whose URLs are kept as they were given
 abbrev pub Asked : Type 0
 Asked = Requirement Verbatim VerbatimUrlError
 
--- any URL will do
-abbrev pub IsSomeUrl : List ℕ → Result Verbatim VerbatimUrlError → Type 0
-IsSomeUrl text outcome = Unit {0}
+-- the same of a requirement
+abbrev pub wanted_seen : Option (VersionOrUrl Verbatim VerbatimUrlError) → Source
+wanted_seen None = Any
+wanted_seen (Some (asked.VersionSpecifier list)) = Specifiers list
+wanted_seen (Some (asked.Url url)) = Url []
 
--- a requirement asks for what the record says, its marker apart
-pub record Says (requirement : Asked) (ask : Front) : Type 0 where
-  pub name : requirement.name ≡ ask.name
-  pub extras : requirement.extras.items ≡ ask.extras
-  pub asks : AsksFor IsSomeUrl ask.source requirement.version_or_url
-
--- each of them does
-abbrev pub SayAll : List (Bor Asked) → List Front → Type 0
-SayAll = AllZip (λ requirement ask. Says requirement.now ask)
-
--- what a requirement asks for, its specifiers by version, and no word on which URL
-abbrev pub source_seen : Option (VersionOrUrl Verbatim VerbatimUrlError) → Source
-source_seen None = Any
-source_seen (Some (asked.VersionSpecifier list)) = Specifiers list
-source_seen (Some (asked.Url url)) = Url []
-
-abbrev pub ask_seen : Asked → Front
-ask_seen requirement = record {
+abbrev pub requirement_seen : Asked → Front
+requirement_seen requirement = record {
   name = requirement.name;
   extras = requirement.extras.items;
-  source = source_seen requirement.version_or_url;
+  source = wanted_seen requirement.version_or_url;
 }
 
-abbrev pub asks_seen : List (Bor Asked) → List Front
-asks_seen = map (λ requirement. ask_seen requirement.now)
+-- ---- what they say
+
+-- specifiers by version say the given ones, and any URL says a URL
+abbrev pub SaysSource : Source → Source → Type 0
+SaysSource Any Any = Unit {0}
+SaysSource Any said = ⊥
+SaysSource (Specifiers list) (Specifiers given) = IsInOrder given list
+SaysSource (Specifiers list) said = ⊥
+SaysSource (Url shown) (Url text) = Unit {0}
+SaysSource (Url shown) said = ⊥
+
+-- what is seen of an ask says what the record does
+pub record Says (shown said : Front) : Type 0 where
+  pub name : shown.name ≡ said.name
+  pub extras : shown.extras ≡ said.extras
+  pub source : SaysSource shown.source said.source
+
+-- each of them does
+abbrev pub SayAll : List Ask → List Front → Type 0
+SayAll asks said = AllZip Says (asks_seen asks) said

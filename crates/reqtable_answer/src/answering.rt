@@ -14,25 +14,23 @@ ghost use Rattle.reqtable_answer.specs.Says.{SayAll, asks_seen};
 use crate::admission::Admission;
 use crate::answer::{Answer, Row};
 use crate::choosing::{Numbered, outcome};
-use crate::extras::united_extras;
+use crate::extras::extras_of;
 use crate::grouping::by_package;
+use crate::lent::Ask;
 use pep440_version::Version;
-use pep508_requirement::Requirement;
-use pep508_url::VerbatimUrl;
 use reqtable_text::Candidates;
 use std::alloc::{AllocError, Global};
 
-/// The answer to these requirements, whose markers count for nothing: a row for each package that one of
-/// them is of.
+/// The answer to these asks: a row for each package that one of them is of.
 ///
-/// A package is `Direct` where one of its requirements has a URL. Else the greatest candidate of its name is
-/// taken that all specifiers of its requirements take (PEP 440, "Version specifiers") and that is admitted,
-/// the first in the list among equals. The admission is told whether one of the specifiers has a
-/// pre-release or developmental release.
+/// A package is `Direct` where one of its asks is of a URL. Else the greatest candidate of its name is taken
+/// that all specifiers of its asks take (PEP 440, "Version specifiers") and that is admitted, the first in
+/// the list among equals. The admission is told whether one of the specifiers has a pre-release or
+/// developmental release.
 ///
-/// With A requirements, C candidates and P packages that are O((A + C) log P) comparisons of names.
-/// Candidates of other packages are left out, and one is tested, against its own package's requirements,
-/// where it lies above the best before it. The order of the requirements doesn't count.
+/// With A asks, C candidates and P packages that are O((A + C) log P) comparisons of names. Candidates of
+/// other packages are left out, and one is tested, against its own package's asks, where it lies above the
+/// best before it. The order of the asks doesn't count.
 ///
 /// With n specifiers and m candidates of a package that are O((n + m) log n) comparisons of versions, or n
 /// times m where that is at most 1,024. Beside these each candidate that is tested is asked of each specifier
@@ -41,7 +39,7 @@ use std::alloc::{AllocError, Global};
 /// pre- or developmental release beside `>`. So m times n is reached only where most specifiers are such.
 pub fn answer_to<F: Fn(&Version, bool) -> bool>(
     alloc: Global,
-    asks: &[&Requirement<VerbatimUrl>],
+    asks: &[Ask<'_>],
     candidates: &Candidates,
     admission: &Admission<F>,
 ) -> Result<Answer, AllocError>
@@ -65,7 +63,7 @@ pub fn answer_to<F: Fn(&Version, bool) -> bool>(
 /// The row of the package that all these are of.
 fn row_of<F: Fn(&Version, bool) -> bool>(
     alloc: Global,
-    asks: &[&Requirement<VerbatimUrl>],
+    asks: &[Ask<'_>],
     candidates: &[Numbered<'_>],
     admission: &Admission<F>,
 ) -> Result<Row, AllocError>
@@ -80,7 +78,7 @@ fn row_of<F: Fn(&Version, bool) -> bool>(
 {
     let outcome = outcome(alloc, asks, candidates, admission)?;
     let package = asks[0].name.try_clone(alloc)?;
-    let extras = united_extras(alloc, asks)?;
+    let extras = extras_of(alloc, asks)?;
     Ok(Row {
         package,
         extras,

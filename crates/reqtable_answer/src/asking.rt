@@ -9,42 +9,41 @@ ghost use Rattle.reqtable_answer.specs.Ranged.{TellsTaken};
 ghost use Rattle.reqtable_answer.specs.Says.{ask_seen};
 
 use crate::admission::Admission;
+use crate::lent::{Ask, AskSource};
 use pep440_specifier_list::VersionSpecifiers;
 use pep440_version::Version;
-use pep508_requirement::{Requirement, VersionOrUrl};
-use pep508_url::VerbatimUrl;
 use reqtable_range::OneRange;
 use std::alloc::{AllocError, Global};
 
 /// Whether some ask is of a URL.
-pub fn is_direct(asks: &[&Requirement<VerbatimUrl>]) -> bool
-    ensures { result ≡ list_any (λ ask. has_url (ask_seen ask.now)) asks.now }
+pub fn is_direct(asks: &[Ask<'_>]) -> bool
+    ensures { result ≡ list_any (λ ask. has_url (ask_seen ask)) asks.now }
 {
     asks.iter().any(|ask| has_url(ask))
 }
 
-fn has_url(ask: &Requirement<VerbatimUrl>) -> bool
+fn has_url(ask: &Ask<'_>) -> bool
     ensures { result ≡ has_url (ask_seen ask.now) }
 {
-    match &ask.version_or_url {
-        Some(VersionOrUrl::Url(_)) => true,
-        Some(VersionOrUrl::VersionSpecifier(_)) | None => false,
+    match ask.source {
+        AskSource::Url => true,
+        AskSource::Specifiers(_) | AskSource::Any => false,
     }
 }
 
 /// Whether some specifier has a pre-release or developmental release.
-pub fn names_prerelease(asks: &[&Requirement<VerbatimUrl>]) -> bool
-    ensures { result ≡ list_any (λ ask. has_prerelease (ask_seen ask.now)) asks.now }
+pub fn names_prerelease(asks: &[Ask<'_>]) -> bool
+    ensures { result ≡ list_any (λ ask. has_prerelease (ask_seen ask)) asks.now }
 {
     asks.iter().any(|ask| has_prerelease(ask))
 }
 
-fn has_prerelease(ask: &Requirement<VerbatimUrl>) -> bool
+fn has_prerelease(ask: &Ask<'_>) -> bool
     ensures { result ≡ has_prerelease (ask_seen ask.now) }
 {
-    match &ask.version_or_url {
-        Some(VersionOrUrl::VersionSpecifier(list)) => has_prerelease_in(list),
-        Some(VersionOrUrl::Url(_)) | None => false,
+    match ask.source {
+        AskSource::Specifiers(list) => has_prerelease_in(list),
+        AskSource::Url | AskSource::Any => false,
     }
 }
 
@@ -59,7 +58,7 @@ fn has_prerelease_in(list: &VersionSpecifiers) -> bool
 /// Whether all asks take the version, and it is admitted.
 pub fn may_be_taken<F: Fn(&Version, bool) -> bool>(
     alloc: Global,
-    asks: &[&Requirement<VerbatimUrl>],
+    asks: &[Ask<'_>],
     range: &Option<OneRange<'_>>,
     names_prerelease: bool,
     admission: &Admission<F>,
@@ -68,7 +67,7 @@ pub fn may_be_taken<F: Fn(&Version, bool) -> bool>(
     requires callable { F.IsAlwaysCallable admission.now }
     requires told { TellsTaken asks.now range.now }
     ensures { IfOk result (λ taken. (admits : Admits) → AnswersBy (F.post admission.now) admits →
-        taken ≡ (list_all (λ ask. ask_takes version.now (ask_seen ask.now)) asks.now
+        taken ≡ (list_all (λ ask. ask_takes version.now (ask_seen ask)) asks.now
         && admits version.now names_prerelease)) }
 {
     let taken = all_take(alloc, asks, range, version)?;
@@ -78,13 +77,13 @@ pub fn may_be_taken<F: Fn(&Version, bool) -> bool>(
 /// Whether all asks take the version: by their range, where that tells it.
 fn all_take(
     alloc: Global,
-    asks: &[&Requirement<VerbatimUrl>],
+    asks: &[Ask<'_>],
     range: &Option<OneRange<'_>>,
     version: &Version,
 ) -> Result<bool, AllocError>
     requires { TellsTaken asks.now range.now }
     ensures { IfOk result (λ taken.
-        taken ≡ list_all (λ ask. ask_takes version.now (ask_seen ask.now)) asks.now) }
+        taken ≡ list_all (λ ask. ask_takes version.now (ask_seen ask)) asks.now) }
 {
     if let Some(range) = range {
         if let Some(taken) = range.tells(alloc, version)? {
@@ -95,13 +94,9 @@ fn all_take(
 }
 
 /// Whether all asks take the version: each is asked.
-fn takes_all(
-    alloc: Global,
-    asks: &[&Requirement<VerbatimUrl>],
-    version: &Version,
-) -> Result<bool, AllocError>
+fn takes_all(alloc: Global, asks: &[Ask<'_>], version: &Version) -> Result<bool, AllocError>
     ensures { IfOk result (λ taken.
-        taken ≡ list_all (λ ask. ask_takes version.now (ask_seen ask.now)) asks.now) }
+        taken ≡ list_all (λ ask. ask_takes version.now (ask_seen ask)) asks.now) }
 {
     for ask in asks {
         let taken = takes(alloc, ask, version)?;
@@ -112,15 +107,11 @@ fn takes_all(
     Ok(true)
 }
 
-fn takes(
-    alloc: Global,
-    ask: &Requirement<VerbatimUrl>,
-    version: &Version,
-) -> Result<bool, AllocError>
+fn takes(alloc: Global, ask: &Ask<'_>, version: &Version) -> Result<bool, AllocError>
     ensures { IfOk result (λ taken. taken ≡ ask_takes version.now (ask_seen ask.now)) }
 {
-    match &ask.version_or_url {
-        Some(VersionOrUrl::VersionSpecifier(list)) => list.contains(alloc, version),
-        Some(VersionOrUrl::Url(_)) | None => Ok(true),
+    match ask.source {
+        AskSource::Specifiers(list) => list.contains(alloc, version),
+        AskSource::Url | AskSource::Any => Ok(true),
     }
 }

@@ -12,10 +12,9 @@ ghost use Rattle.reqtable_answer.specs.Says.{asks_seen};
 use crate::admission::Admission;
 use crate::answer::Outcome;
 use crate::asking::{is_direct, may_be_taken, names_prerelease};
+use crate::lent::Ask;
 use crate::ranged::range_of;
 use pep440_version::Version;
-use pep508_requirement::Requirement;
-use pep508_url::VerbatimUrl;
 use reqtable_range::OneRange;
 use reqtable_text::Candidate;
 use std::alloc::{AllocError, Global};
@@ -30,7 +29,7 @@ pub struct Numbered<'a> {
 /// What becomes of a package, for what is asked of it and for its candidates.
 pub fn outcome<F: Fn(&Version, bool) -> bool>(
     alloc: Global,
-    asks: &[&Requirement<VerbatimUrl>],
+    asks: &[Ask<'_>],
     candidates: &[Numbered<'_>],
     admission: &Admission<F>,
 ) -> Result<Outcome, AllocError>
@@ -52,7 +51,7 @@ pub fn outcome<F: Fn(&Version, bool) -> bool>(
 /// The first among the greatest candidates that may be taken.
 fn greatest<'a, F: Fn(&Version, bool) -> bool>(
     alloc: Global,
-    asks: &[&Requirement<VerbatimUrl>],
+    asks: &[Ask<'_>],
     candidates: &[Numbered<'a>],
     admission: &Admission<F>,
 ) -> Result<Option<Numbered<'a>>, AllocError>
@@ -71,7 +70,7 @@ fn greatest<'a, F: Fn(&Version, bool) -> bool>(
 /// the best before it.
 fn greatest_by<'a, F: Fn(&Version, bool) -> bool>(
     alloc: Global,
-    asks: &[&Requirement<VerbatimUrl>],
+    asks: &[Ask<'_>],
     range: &Option<OneRange<'_>>,
     candidates: &[Numbered<'a>],
     admission: &Admission<F>,
@@ -95,7 +94,7 @@ fn greatest_by<'a, F: Fn(&Version, bool) -> bool>(
 /// The candidate where it lies above the best before it and may be taken, else the best before it.
 fn better<'a, F: Fn(&Version, bool) -> bool>(
     alloc: Global,
-    asks: &[&Requirement<VerbatimUrl>],
+    asks: &[Ask<'_>],
     range: &Option<OneRange<'_>>,
     prerelease: bool,
     admission: &Admission<F>,

@@ -9,37 +9,59 @@ ghost use Rattle.std.specs.Str.{bytes_eq};
 ghost use Rattle.reqtable_answer.specs.Asks.{has_extra};
 ghost use Rattle.reqtable_answer.specs.Says.{asks_seen};
 
+use crate::lent::Ask;
 use pep508_name::ExtraName;
-use pep508_requirement::Requirement;
-use pep508_url::VerbatimUrl;
 use std::alloc::{AllocError, Global};
 
 /// The extras that any of these asks for, each once and in the order of their bytes.
-pub fn united_extras(
-    alloc: Global,
-    asks: &[&Requirement<VerbatimUrl>],
-) -> Result<Vec<ExtraName>, AllocError>
+pub fn extras_of(alloc: Global, asks: &[Ask<'_>]) -> Result<Vec<ExtraName>, AllocError>
     ensures rise { IfOk result (λ extras. IsStrictlySortedBy (slice_cmp nat_cmp) extras.items) }
     ensures are { IfOk result (λ extras. (extra : List ℕ) →
         list_any (bytes_eq extra) extras.items ≡ list_any (has_extra extra) (asks_seen asks.now)) }
 {
-    let mut lent = lent_extras(alloc, asks)?;
+    let lists = lists_of(alloc, asks)?;
+    united_extras(alloc, &lists)
+}
+
+/// Their lists of extras.
+fn lists_of<'a>(alloc: Global, asks: &[Ask<'a>]) -> Result<Vec<&'a [ExtraName]>, AllocError>
+    ensures { IfOk result (λ lists.
+        map (λ list. list.now) lists.items ≡ map (λ ask. ask.extras) (asks_seen asks.now)) }
+{
+    let mut lists = Vec::with_capacity(alloc, asks.len())?;
+    for ask in asks {
+        lists.push(ask.extras)?;
+    }
+    Ok(lists)
+}
+
+/// The extras that stand in any of these lists, each once and in the order of their bytes.
+///
+/// With n extras, counted as often as they stand there, that are O(n log n) comparisons of names, and memory
+/// for n places beside the copies that are given.
+pub fn united_extras(alloc: Global, lists: &[&[ExtraName]]) -> Result<Vec<ExtraName>, AllocError>
+    ensures rise { IfOk result (λ extras. IsStrictlySortedBy (slice_cmp nat_cmp) extras.items) }
+    ensures are { IfOk result (λ extras. (extra : List ℕ) →
+        list_any (bytes_eq extra) extras.items
+        ≡ list_any (λ list. list_any (bytes_eq extra) list.now) lists.now) }
+{
+    let mut lent = lent_extras(alloc, lists)?;
     lent.sort_unstable();
     lent.dedup();
     copies(alloc, &lent)
 }
 
-/// All their extras, ask by ask.
+/// All their extras, list by list.
 fn lent_extras<'a>(
     alloc: Global,
-    asks: &[&'a Requirement<VerbatimUrl>],
+    lists: &[&'a [ExtraName]],
 ) -> Result<Vec<&'a ExtraName>, AllocError>
     ensures { IfOk result (λ lent.
-        map (λ extra. extra.now) lent.items ≡ flat_map (λ ask. ask.extras) (asks_seen asks.now)) }
+        map (λ extra. extra.now) lent.items ≡ flat_map (λ list. list.now) lists.now) }
 {
     let mut lent = Vec::new(alloc);
-    for ask in asks {
-        lend(&mut lent, &ask.extras)?;
+    for list in lists {
+        lend(&mut lent, list)?;
     }
     Ok(lent)
 }

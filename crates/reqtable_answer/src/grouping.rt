@@ -7,8 +7,7 @@ ghost use Rattle.reqtable_answer.specs.Groups.{asks_for, has_group, candidates_f
 ghost use Rattle.reqtable_answer.specs.Says.{ask_seen, asks_seen};
 
 use crate::choosing::Numbered;
-use pep508_requirement::Requirement;
-use pep508_url::VerbatimUrl;
+use crate::lent::Ask;
 use reqtable_text::Candidate;
 use std::alloc::{AllocError, Global};
 use std::collections::BTreeMap;
@@ -16,7 +15,7 @@ use std::collections::BTreeMap;
 /// What is asked of a package, and its candidates.
 #[derive(Drop)]
 pub struct Group<'a> {
-    pub asks: Vec<&'a Requirement<VerbatimUrl>>,
+    pub asks: Vec<Ask<'a>>,
     pub candidates: Vec<Numbered<'a>>,
 }
 
@@ -26,7 +25,7 @@ pub type Groups<'a> = BTreeMap<&'a str, Group<'a>>;
 /// The packages that are asked for, each with what is asked of it and with its candidates, in order.
 pub fn by_package<'a>(
     alloc: Global,
-    asks: &[&'a Requirement<VerbatimUrl>],
+    asks: &[Ask<'a>],
     candidates: &'a [Candidate],
 ) -> Result<Groups<'a>, AllocError>
     ensures packages { IfOk result (λ groups. (q : List ℕ) →
@@ -42,10 +41,7 @@ pub fn by_package<'a>(
 }
 
 /// The packages that are asked for, with what is asked of them.
-fn asks_by_package<'a>(
-    alloc: Global,
-    asks: &[&'a Requirement<VerbatimUrl>],
-) -> Result<Groups<'a>, AllocError>
+fn asks_by_package<'a>(alloc: Global, asks: &[Ask<'a>]) -> Result<Groups<'a>, AllocError>
     ensures packages { IfOk result (λ groups. (q : List ℕ) →
         has_group groups q ≡ list_any (is_of q) (asks_seen asks.now)) }
     ensures asks { IfOk result (λ groups. (q : List ℕ) →
@@ -60,11 +56,7 @@ fn asks_by_package<'a>(
 }
 
 /// Adds what is asked to its package's group, which is made where there is none.
-fn add_ask<'a>(
-    alloc: Global,
-    groups: &mut Groups<'a>,
-    ask: &'a Requirement<VerbatimUrl>,
-) -> Result<(), AllocError>
+fn add_ask<'a>(alloc: Global, groups: &mut Groups<'a>, ask: &Ask<'a>) -> Result<(), AllocError>
     ensures packages { OnOk result ((q : List ℕ) →
         has_group groups.new q ≡ (has_group groups.old q || is_of q (ask_seen ask.now))) }
     ensures asks { OnOk result ((q : List ℕ) → asks_for groups.new q ≡
@@ -76,7 +68,7 @@ fn add_ask<'a>(
         asks: Vec::new(alloc),
         candidates: Vec::new(alloc),
     });
-    group.asks.push(ask)?;
+    group.asks.push(*ask)?;
     Ok(())
 }
 

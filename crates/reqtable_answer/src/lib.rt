@@ -9,8 +9,11 @@ mod choosing;
 mod extras;
 mod grouping;
 pub mod laws;
+mod lent;
 mod ranged;
 
 pub use admission::Admission;
 pub use answer::{Answer, Outcome, Row};
 pub use answering::answer_to;
+pub use extras::united_extras;
+pub use lent::{Ask, AskSource, ask_of};

@@ -8,9 +8,8 @@ ghost use Rattle.reqtable_answer.specs.Asks.{ask_takes};
 ghost use Rattle.reqtable_answer.specs.Ranged.{TellsTaken};
 ghost use Rattle.reqtable_answer.specs.Says.{ask_seen};
 
+use crate::lent::{Ask, AskSource};
 use pep440_specifier_list::VersionSpecifiers;
-use pep508_requirement::{Requirement, VersionOrUrl};
-use pep508_url::VerbatimUrl;
 use reqtable_range::{OneRange, one_range};
 use std::alloc::{AllocError, Global};
 
@@ -27,7 +26,7 @@ const FEW_QUESTIONS: usize = 1024;
 /// them together at most 1,024 questions.
 pub fn range_of<'a>(
     alloc: Global,
-    asks: &[&'a Requirement<VerbatimUrl>],
+    asks: &[Ask<'a>],
     candidates: usize,
 ) -> Result<Option<OneRange<'a>>, AllocError>
     ensures { IfOk result (TellsTaken asks.now) }
@@ -58,13 +57,10 @@ fn has_more_members(lists: &[&VersionSpecifiers], most: usize) -> bool
 }
 
 /// The lists of specifiers that the asks have.
-fn lists_of<'a>(
-    alloc: Global,
-    asks: &[&'a Requirement<VerbatimUrl>],
-) -> Result<Vec<&'a VersionSpecifiers>, AllocError>
+fn lists_of<'a>(alloc: Global, asks: &[Ask<'a>]) -> Result<Vec<&'a VersionSpecifiers>, AllocError>
     ensures { IfOk result (λ lists. (version : VersionRecord) →
         all_take (map (λ list. list.now) lists.items) version
-        ≡ list_all (λ ask. ask_takes version (ask_seen ask.now)) asks.now) }
+        ≡ list_all (λ ask. ask_takes version (ask_seen ask)) asks.now) }
 {
     let mut lists = Vec::new(alloc);
     for ask in asks {
@@ -74,20 +70,17 @@ fn lists_of<'a>(
 }
 
 /// Adds the list of specifiers that an ask has, where it has one.
-fn lend_list<'a>(
-    lists: &mut Vec<&'a VersionSpecifiers>,
-    ask: &'a Requirement<VerbatimUrl>,
-) -> Result<(), AllocError>
+fn lend_list<'a>(lists: &mut Vec<&'a VersionSpecifiers>, ask: &Ask<'a>) -> Result<(), AllocError>
     ensures { OnOk result ((version : VersionRecord) →
         all_take (map (λ list. list.now) lists.new.items) version
         ≡ (all_take (map (λ list. list.now) lists.old.items) version
         && ask_takes version (ask_seen ask.now))) }
 {
-    match &ask.version_or_url {
-        Some(VersionOrUrl::VersionSpecifier(list)) => {
+    match ask.source {
+        AskSource::Specifiers(list) => {
             lists.push(list)?;
             Ok(())
         }
-        Some(VersionOrUrl::Url(_)) | None => Ok(()),
+        AskSource::Url | AskSource::Any => Ok(()),
     }
 }

@@ -39,15 +39,15 @@ module _ (vars : Variables) (old new : List NodeRecord) (more : Extends old new)
   lines_kept = all_zip_map (StandsFor vars old) (StandsFor vars new) line_kept
 
 -- what was read of some texts
-abbrev pub AreRead : Variables → List NodeRecord → List (ℕ × List ℕ) → List Line → Type 0
-AreRead vars nodes texts lines =
+abbrev pub AreReadOf : Variables → List NodeRecord → List (ℕ × List ℕ) → List Line → Type 0
+AreReadOf vars nodes texts lines =
     (said : List LineRecord) × (each_line (line_of vars) texts ≡ Ok said) × AllZip (StandsFor vars nodes) lines said
 
 module _ (vars : Variables) (old new : List NodeRecord) (more : Extends old new) (texts : List (ℕ × List ℕ))
-    (lines : List Line) (read : AreRead vars old texts lines) (text : ℕ × List ℕ) where
+    (lines : List Line) (read : AreReadOf vars old texts lines) (text : ℕ × List ℕ) where
   -- one more line is read
   pub one_more : (line : Line) → ReadsLine vars new text.0 text.1 (Ok line)
-      → AreRead vars new (texts ++ text ∷ []) (lines ++ line ∷ [])
+      → AreReadOf vars new (texts ++ text ∷ []) (lines ++ line ∷ [])
   one_more line h = (
     read.0 ++ h.0 ∷ [],
     each_more (line_of vars) texts read.0 text h.0 read.1 h.1,

@@ -4,5 +4,6 @@ pub mod Requirements
 pub mod Asks
 pub mod FirstRefused
 pub mod LineSpecifiers
+pub mod ReadLines
 pub mod Errors
 pub mod Copies

@@ -7,6 +7,7 @@ ghost use Rattle.pep508_evaluation.specs.Valuations.{valuation_of};
 ghost use Rattle.reqtable_answer.specs.Admission.{Admits, AnswersBy};
 ghost use Rattle.reqtable_answer.specs.Answer.{IsAnswer};
 ghost use Rattle.reqtable_answer.specs.Rows.{row_seen, IsTakenBelow};
+ghost use Rattle.reqtable_answer.specs.Says.{asks_seen, requirement_seen};
 ghost use Rattle.reqtable_requirements.specs.Asks.{AreOfNodes, applying, asks_of};
 ghost use Rattle.reqtable_requirements.specs.LineReading.{LineRecord};
 ghost use Rattle.reqtable_requirements.specs.Requirements.{StandsFor};
@@ -15,10 +16,8 @@ use crate::{Line, Requirements};
 use pep440_version::Version;
 use pep508_environment::MarkerEnvironment;
 use pep508_name::ExtraName;
-use pep508_requirement::Requirement;
 use pep508_tree::Interner;
-use pep508_url::VerbatimUrl;
-use reqtable_answer::{Admission, Answer, answer_to};
+use reqtable_answer::{Admission, Answer, Ask, answer_to, ask_of};
 use reqtable_text::Candidates;
 use std::alloc::{AllocError, Global};
 
@@ -53,23 +52,23 @@ impl Requirements {
     }
 }
 
-/// The requirements whose markers hold in the environment with the extras, in the order of the lines.
+/// What the lines ask for whose markers hold in the environment with the extras, in their order.
 fn applying<'a>(
     alloc: Global,
     lines: &'a [Line],
     interner: &Interner,
     environment: &MarkerEnvironment,
     extras: &[ExtraName],
-) -> Result<Vec<&'a Requirement<VerbatimUrl>>, AllocError>
+) -> Result<Vec<Ask<'a>>, AllocError>
     requires { AreOfNodes interner.now.nodes lines.now }
-    ensures { IfOk result (λ asks. map (λ ask. ask.now) asks.items
-        ≡ applying interner.now.nodes (valuation_of environment.now extras.now) lines.now) }
+    ensures { IfOk result (λ asks. asks_seen asks.items ≡ map requirement_seen
+        (applying interner.now.nodes (valuation_of environment.now extras.now) lines.now)) }
 {
     let mut asks = Vec::new(alloc);
     for line in lines {
         let requirement = &line.requirement;
         if requirement.evaluate_markers(interner, environment, extras) {
-            asks.push(requirement)?;
+            asks.push(ask_of(requirement))?;
         }
     }
     Ok(asks)

@@ -6,9 +6,11 @@ ghost use Rattle.pep508_tree.specs.Meaning.{Extends};
 ghost use Rattle.reqtable_text.specs.TextLines.{text_lines, each_line};
 ghost use Rattle.reqtable_requirements.specs.Copies.{IsLineCopy};
 ghost use Rattle.reqtable_requirements.specs.LineReading.{line_of};
+ghost use Rattle.reqtable_requirements.specs.ReadLines.{AreRead};
 ghost use Rattle.reqtable_requirements.specs.Requirements.{ReadsLine, ReadsLines};
 ghost use Rattle.reqtable_requirements.specs.Requirements.{ReadsRequirements, refusal_of};
 
+use crate::laws::{line_numbers_rise, specifiers_are_read_from_texts};
 use pep508_error::{Pep508Error, Pep508ErrorSource};
 use pep508_requirement::Requirement;
 use pep508_tree::Interner;
@@ -103,7 +105,7 @@ impl<T: Drop> From<AllocFailed<T>> for RequirementsError {
     }
 }
 
-/// The requirements of a text, in order.
+/// The requirements of a text, in order. Their numbers rise, and texts say their specifiers.
 #[derive(Debug, Drop)]
 pub struct Requirements {
     lines: Vec<Line>,
@@ -116,6 +118,10 @@ impl Model for Requirements {
     ghost Value = { List Line };
 
     ghost view = { λ r. r.lines.items };
+
+    ghost use Rattle.reqtable_requirements.specs.ReadLines.{AreRead};
+
+    ghost invariant = { λ r. AreRead r.lines.items };
 }
 
 impl Requirements {
@@ -143,6 +149,8 @@ impl Requirements {
             Err(offset) => return Err(RequirementsError::NotText { offset }),
         };
         let lines = read_lines(alloc, text, interner, vars)?;
+        line_numbers_rise();
+        specifiers_are_read_from_texts();
         Ok(Requirements { lines })
     }
 
@@ -153,13 +161,27 @@ impl Requirements {
         &self.lines
     }
 
+    /// What holds of all of them; it does nothing.
+    pub fn are_read(&self)
+        ensures { AreRead self.now }
+    {
+        let _ = &self.lines;
+    }
+
+    /// The requirements in the order of the text, moved out.
+    pub fn into_lines(self) -> Vec<Line>
+        ensures lines { result.items ≡ self }
+        ensures read { AreRead result.items }
+    {
+        self.lines
+    }
+
     /// A copy, in memory of its own.
     pub fn try_clone(&self, alloc: Global) -> Result<Requirements, AllocError>
         ensures { IfOk result (λ copy. AllZip IsLineCopy copy self.now) }
     {
-        Ok(Requirements {
-            lines: copies(alloc, &self.lines)?,
-        })
+        let lines = copies(alloc, &self.lines)?;
+        Ok(Requirements { lines })
     }
 }
 

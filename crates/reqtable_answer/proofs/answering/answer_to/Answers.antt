@@ -74,7 +74,7 @@ returns-clause-answered g c = λ admits said by say.
     let rows = map row_seen c.loop-entry.rows.items in
     let whole : map deref_pair c.loop-entry.yielded ≡ entries = search (rules, iter_end) in
     let named : map (λ row. row.name) rows ≡ names entries = c.loop-entry.invariant.names ∙ ap names whole in
-    same_answer admits c.args.candidates.now (asks_seen c.args.asks.now) said (said_alike c.args.asks.now said say) rows (record {
+    same_answer admits c.args.candidates.now (asks_seen c.args.asks.now) said (said_alike (asks_seen c.args.asks.now) said say) rows (record {
       rising = subst (IsStrictlySortedBy (slice_cmp nat_cmp)) (sym named) (names_rise entries c.iter-entry-items.ensures.ordered);
       asked = λ q. ap (list_any (bytes_eq q)) named ∙ names_found q entries ∙ c.in_ok-groups.ensures.packages q;
       each_row = c.loop-entry.invariant.rows admits by;

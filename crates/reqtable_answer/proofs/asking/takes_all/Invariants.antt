@@ -5,4 +5,4 @@ use Rattle.reqtable_answer.specs.Says.{ask_seen}
 use Rattle.reqtable_answer.proofs.asking.takes_all.Given as goal
 
 abbrev pub invariant-loop-ask : goal.invariant-loop-ask
-invariant-loop-ask l = list_all (λ ask. ask_takes l.version (ask_seen ask.now)) (take l.ask-index l.asks) ≡ true
+invariant-loop-ask l = list_all (λ ask. ask_takes l.version (ask_seen ask)) (take l.ask-index l.asks) ≡ true

@@ -9,4 +9,4 @@ use Rattle.reqtable_answer.proofs.ranged.lists_of.Given as goal
 abbrev pub invariant-loop-ask : goal.invariant-loop-ask
 invariant-loop-ask l =
     (version : VersionRecord) → all_take (map (λ list. list.now) l.lists.items) version
-    ≡ list_all (λ ask. ask_takes version (ask_seen ask.now)) (take l.ask-index l.asks)
+    ≡ list_all (λ ask. ask_takes version (ask_seen ask)) (take l.ask-index l.asks)

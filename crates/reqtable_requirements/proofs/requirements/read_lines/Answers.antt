@@ -7,7 +7,7 @@ use Rattle.reqtable_text.proofs.Lines.{lines_of, numbered, seen, lines_all, line
 use Rattle.reqtable_requirements.specs.declared.requirements.Line.{Line}
 use Rattle.reqtable_requirements.specs.LineReading.{line_of}
 use Rattle.reqtable_requirements.specs.Requirements.{ReadsLine}
-use Rattle.reqtable_requirements.proofs.Lines.{AreRead, one_more, refused, lines_err}
+use Rattle.reqtable_requirements.proofs.Lines.{AreReadOf, one_more, refused, lines_err}
 use Rattle.reqtable_requirements.proofs.requirements.read_lines.Goals as goal
 
 pub returns-in_err-read_line-clause-read : goal.returns-in_err-read_line-clause-read
@@ -37,12 +37,12 @@ loop-index-preserved-in_ok-push c =
     let line = c.in_ok-read_line.field-0 in
     let kept : is_blank c.line_text-line.result.now ≡ false = sym c.is_blank.ensures ∙ c.if-not-is_blank.true in
     let P : List ℕ → Type 0 = λ bs. ReadsLine vars new (c.in-Some.index + 1) bs (Ok line) in
-    let more : AreRead vars new (lines_of c.loop-index.yielded ++ numbered (seen (c.in-Some.index, c.in-Some.line)) ∷ []) (c.loop-index.read.items ++ line ∷ []) =
+    let more : AreReadOf vars new (lines_of c.loop-index.yielded ++ numbered (seen (c.in-Some.index, c.in-Some.line)) ∷ []) (c.loop-index.read.items ++ line ∷ []) =
     one_more vars c.loop-index.interner.nodes new c.in_ok-read_line.ensures.keeps (lines_of c.loop-index.yielded) c.loop-index.read.items
     c.loop-index.invariant.are_read (numbered (seen (c.in-Some.index, c.in-Some.line))) line
     (subst P c.line_text-line.ensures c.in_ok-read_line.ensures.read) in
-    let Q : List (ℕ × List ℕ) → Type 0 = λ texts. AreRead vars new texts (c.loop-index.read.items ++ line ∷ []) in
-    let R : List Line → Type 0 = λ lines. AreRead vars new (lines_of (c.loop-index.yielded ++ (c.in-Some.index, c.in-Some.line) ∷ [])) lines in
+    let Q : List (ℕ × List ℕ) → Type 0 = λ texts. AreReadOf vars new texts (c.loop-index.read.items ++ line ∷ []) in
+    let R : List Line → Type 0 = λ lines. AreReadOf vars new (lines_of (c.loop-index.yielded ++ (c.in-Some.index, c.in-Some.line) ∷ [])) lines in
     record {
       can_next = search rules;
       is_finite = tt;

@@ -1,7 +1,7 @@
 use Rattle.std.proofs.Common.{◌≡◌}
 use Rattle.pep508_tree.specs.Meaning.{Extends}
 use Rattle.reqtable_text.proofs.Lines.{lines_of}
-use Rattle.reqtable_requirements.proofs.Lines.{AreRead}
+use Rattle.reqtable_requirements.proofs.Lines.{AreReadOf}
 use Rattle.reqtable_requirements.proofs.requirements.read_lines.Given as goal
 
 abbrev pub invariant-loop-index : goal.invariant-loop-index
@@ -10,5 +10,5 @@ invariant-loop-index l = record {
   is_finite : (goal.iterator-loop-index).is_finite l.index-iterator;
   keeps : Extends l.fn.interner.nodes l.interner.nodes;
   counts : l.interner.conjunctions ≡ l.fn.interner.conjunctions;
-  are_read : AreRead l.fn.vars l.interner.nodes (lines_of l.yielded) l.read.items;
+  are_read : AreReadOf l.fn.vars l.interner.nodes (lines_of l.yielded) l.read.items;
 }
