@@ -10,3 +10,5 @@ mod simple;
 mod sorting;
 
 pub use one::{OneRange, one_range};
+pub use shared::shared_range;
+pub use sorting::has_range;

@@ -13,7 +13,7 @@ use version_ranges::Ranges;
 ///
 /// Ranges of halves of the members are cut with each other, so that n members take O(n log n) comparisons of
 /// versions. Takes memory for the bounds.
-pub(crate) fn shared_range(
+pub fn shared_range(
     alloc: Global,
     members: &[&VersionSpecifier],
 ) -> Result<Ranges<Version>, AllocError>

@@ -107,7 +107,7 @@ fn kind_of(alloc: Global, member: &VersionSpecifier) -> Result<Kind, AllocError>
 }
 
 /// Whether the member has a range. Only where a number of it would be raised is the range made for that.
-fn has_range(alloc: Global, member: &VersionSpecifier) -> Result<bool, AllocError>
+pub fn has_range(alloc: Global, member: &VersionSpecifier) -> Result<bool, AllocError>
     ensures { IfOk result (λ there. there ≡ is_some (range_of member.now)) }
 {
     match member.operator() {

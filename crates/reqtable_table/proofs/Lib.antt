@@ -1,0 +1,15 @@
+pub mod Names
+pub mod Grouped
+pub mod ByName
+pub mod Marking
+pub mod Packages
+pub mod Rising
+pub mod Said
+pub mod Added
+pub mod Ranging
+pub mod Counting
+pub mod Firsts
+pub mod Built
+pub mod Lookup
+pub mod RowsOfLines
+pub mod CasesOfLines

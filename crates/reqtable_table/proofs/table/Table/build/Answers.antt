@@ -1,0 +1,38 @@
+use Rattle.std.proofs.Common.{sym, subst, map}
+use Rattle.std.specs.List.Sorted.{IsStrictlySortedBy}
+use Rattle.reqtable_table.specs.Given.{AreGrouped}
+use Rattle.reqtable_table.specs.KeptLines.{package_record}
+use Rattle.reqtable_table.proofs.Rising.{name_cmp}
+use Rattle.reqtable_table.proofs.Built.{names_alike, groups_of_trees, all_built, refused_so}
+use Rattle.reqtable_table.proofs.table.Table.build.Goals as goal
+
+pub packages_of-requires : goal.packages_of-requires
+packages_of-requires c =
+    let groups = c.in_ok-groups.groups.items in
+    let are : AreGrouped c.args.requirements groups = subst (λ lines. AreGrouped lines groups) c.into_lines.ensures.lines c.in_ok-groups.ensures in
+    groups_of_trees c.args.interner.now.nodes c.args.requirements groups c.requires.trees are
+
+pub invariant_of-result : goal.invariant_of-result
+invariant_of-result c =
+    let groups = c.in_ok-groups.groups.items in
+    let table = map package_record c.in-Ok.packages.items in
+    record {
+      rising =
+          subst (IsStrictlySortedBy name_cmp)
+          (sym (names_alike c.args.limit c.packages_of.new.interner.nodes groups table c.in-Ok.ensures.made))
+          c.in_ok-groups.ensures.rising;
+    }
+
+pub returns-in-Ok-clause-built : goal.returns-in-Ok-clause-built
+returns-in-Ok-clause-built c = λ vars said stand.
+    let groups = c.in_ok-groups.groups.items in
+    let are : AreGrouped c.args.requirements groups = subst (λ lines. AreGrouped lines groups) c.into_lines.ensures.lines c.in_ok-groups.ensures in
+    all_built vars c.args.interner.now.nodes c.packages_of.new.interner.nodes c.in-Ok.ensures.keeps c.args.requirements groups are said stand
+    c.args.limit (map package_record c.in-Ok.packages.items) c.in-Ok.ensures.made
+
+pub returns-in-Err-clause-built : goal.returns-in-Err-clause-built
+returns-in-Err-clause-built c = λ vars said stand.
+    let groups = c.in_ok-groups.groups.items in
+    let are : AreGrouped c.args.requirements groups = subst (λ lines. AreGrouped lines groups) c.into_lines.ensures.lines c.in_ok-groups.ensures in
+    refused_so vars c.args.interner.now.nodes c.args.requirements groups are said stand
+    c.args.limit c.packages_of.new.interner.nodes c.in-Err.error c.in-Err.ensures.refused

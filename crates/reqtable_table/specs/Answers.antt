@@ -1,0 +1,40 @@
+-- What a table answers: a row for each package of which a line applies.
+use Rattle.std.specs.Prelude.{◌≡◌, ℕ, Bool, List, map, filter}
+use Rattle.std.specs.List.{list_any, enumerate_from, AllZip}
+use Rattle.pep508_diagram.specs.Question.{Valuation}
+use Rattle.pep508_tree.specs.Meaning.{NodeRecord, holds}
+use Rattle.pep508_requirement_text.specs.FrontReading.{Front}
+use Rattle.pep508_cases.specs.Cases.{Marks}
+use Rattle.reqtable_text.specs.declared.candidates.Candidate.{Candidate}
+use Rattle.reqtable_answer.specs.Admission.{Admits}
+use Rattle.reqtable_answer.specs.Answer.{RowRecord, IsRowOf}
+use Rattle.reqtable_answer.specs.Asks.{is_candidate}
+use Rattle.reqtable_cases.specs.Lines.{marked}
+use Rattle.reqtable_table.specs.Kept.{KeptLine, KeptPackage, kept_front}
+
+-- which of some kept lines apply, and what these ask for
+abbrev pub kept_marks : List NodeRecord → Valuation → List KeptLine → Marks
+kept_marks nodes v lines = map (λ line. holds nodes line.marker v) lines
+
+abbrev pub kept_asked : List NodeRecord → Valuation → List KeptLine → List Front
+kept_asked nodes v lines = map kept_front (marked (kept_marks nodes v lines) lines)
+
+-- a line of the package applies
+abbrev pub is_asked : List NodeRecord → Valuation → KeptPackage → Bool
+is_asked nodes v kept = list_any (λ line. holds nodes line.marker v) kept.lines
+
+-- a package's candidates with their places in the list
+abbrev pub own_candidates : List Candidate → List ℕ → List (ℕ × Candidate)
+own_candidates candidates name = filter (is_candidate name) (enumerate_from 0 candidates)
+
+-- the row of a package
+pub record IsRowFor (admits : Admits) (nodes : List NodeRecord) (v : Valuation) (candidates : List Candidate)
+    (kept : KeptPackage) (row : RowRecord) : Type 0 where
+  pub named : row.name ≡ kept.name
+  pub its : IsRowOf admits (kept_asked nodes v kept.lines) (own_candidates candidates kept.name) row
+
+-- a row for each package of which a line applies
+abbrev pub AreRowsFor : Admits → List NodeRecord → Valuation → List Candidate → List KeptPackage
+    → List RowRecord → Type 0
+AreRowsFor admits nodes v candidates table rows =
+    AllZip (IsRowFor admits nodes v candidates) (filter (is_asked nodes v) table) rows

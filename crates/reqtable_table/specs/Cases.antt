@@ -1,0 +1,55 @@
+-- The cases that a table has, and what building one answers.
+use Rattle.std.specs.Prelude.{◌≡◌, ℕ, List, map, Option, Result, Ok, Err}
+use Rattle.std.specs.List.{AllZip, AllByRecursion}
+use Rattle.std.specs.Option.{option_map}
+use Rattle.std.specs.Str.{bytes_eq}
+use Rattle.std.specs.Prelude.{find}
+use Rattle.pep508_tree.specs.Tree.{Tree}
+use Rattle.pep508_tree.specs.Meaning.{NodeRecord, IsTree}
+use Rattle.pep508_cases.specs.Cases.{Marks, marks_of, AreCases}
+use Rattle.reqtable_requirements.specs.LineReading.{LineRecord}
+use Rattle.reqtable_cases.specs.Lines.{marked, line_marks, numbers_of, asked_by, HasTooMany, IsFirstTooMany}
+use Rattle.reqtable_cases.specs.Usable.{IsRangeOf}
+use Rattle.reqtable_table.specs.declared.table.TableError.{TableError}
+use Rattle.reqtable_table.specs.declared.table.TableError.TheVariants.{TooManyCases, Memory}
+use Rattle.reqtable_table.specs.Kept.{KeptLine, KeptCase, KeptPackage, KeepsAll, kept_front}
+
+-- a case of some lines for a set of them, with the set's tree
+pub record IsCaseOf (lines : List KeptLine) (case : KeptCase) (set : Marks × Tree) : Type 0 where
+  pub numbers : case.numbers ≡ map (λ line. line.number) (marked set.0 lines)
+  pub tree : case.tree ≡ set.1
+  pub range : IsRangeOf (map kept_front (marked set.0 lines)) case.range
+
+-- a package has the cases of its lines, whose markers are trees of these nodes
+pub record HasItsCases (nodes : List NodeRecord) (kept : KeptPackage) : Type 0 where
+  pub trees : AllByRecursion (λ line. IsTree nodes line.marker) kept.lines
+  pub sets : List (Marks × Tree)
+  pub are : AreCases (marks_of nodes (map (λ line. line.marker) kept.lines)) nodes sets
+  pub each : AllZip (IsCaseOf kept.lines) kept.cases sets
+
+-- a case of a text's lines for a set of them, with the set's tree
+pub record IsCaseOfLines (lines : List LineRecord) (case : KeptCase) (set : Marks × Tree) : Type 0 where
+  pub numbers : case.numbers ≡ numbers_of set.0 lines
+  pub tree : case.tree ≡ set.1
+  pub range : IsRangeOf (asked_by set.0 lines) case.range
+
+-- the cases of a text's lines
+pub record AreCasesOf (nodes : List NodeRecord) (lines : List LineRecord) (cases : List KeptCase)
+    : Type 0 where
+  pub sets : List (Marks × Tree)
+  pub are : AreCases (line_marks lines) nodes sets
+  pub each : AllZip (IsCaseOfLines lines) cases sets
+
+-- the cases of a name
+abbrev pub cases_under : List ℕ → List KeptPackage → Option (List KeptCase)
+cases_under name table = option_map (λ p. p.cases) (find (λ p. bytes_eq name p.name) table)
+
+-- what building a table of some lines answers, with these nodes afterwards: it keeps the lines and has the
+-- cases of each package, none of which has more than the limit; or the first by name that has more; or want of
+-- memory
+abbrev pub Builds : ℕ → List NodeRecord → List LineRecord → Result (List KeptPackage) TableError → Type 0
+Builds limit nodes said (Ok table) =
+    KeepsAll nodes table said × AllByRecursion (HasItsCases nodes) table
+    × ((name : List ℕ) → HasTooMany limit said name → ⊥)
+Builds limit nodes said (Err (TooManyCases name)) = IsFirstTooMany limit said name
+Builds limit nodes said (Err Memory) = Unit {0}

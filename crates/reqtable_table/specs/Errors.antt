@@ -1,0 +1,8 @@
+-- What the error of a table says.
+use Rattle.std.specs.Prelude.{List, ℕ, ◌++◌, codes}
+use Rattle.reqtable_table.specs.declared.table.TableError.{TableError}
+use Rattle.reqtable_table.specs.declared.table.TableError.TheVariants.{TooManyCases, Memory}
+
+abbrev pub table_error_text : TableError → List ℕ
+table_error_text (TooManyCases name) = name ++ codes ": too many cases"
+table_error_text Memory = codes "out of memory"

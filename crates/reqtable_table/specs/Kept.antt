@@ -1,0 +1,99 @@
+-- What a table keeps of a package, and of whose lines that is.
+use Rattle.std.specs.Prelude.{◌≡◌, ℕ, Bool, true, false, List, [], map, flat_map, Option, if◌then◌else◌}
+use Rattle.std.specs.List.{list_any, AllZip}
+use Rattle.std.specs.List.Sorted.{IsStrictlySortedBy}
+use Rattle.std.specs.Ordering.{nat_cmp}
+use Rattle.std.specs.Cmp.Lexicographic.{slice_cmp}
+use Rattle.std.specs.Str.{bytes_eq}
+use Rattle.version_ranges.specs.Point.{Point}
+use Rattle.pep440_version.specs.Record.{VersionRecord}
+use Rattle.pep440_version.specs.Changes.{is_prerelease}
+use Rattle.pep440_operator.specs.declared.operator.Operator.{Operator}
+use Rattle.pep440_operator.specs.declared.operator.Operator.TheVariants.{ExactEqual, LessThan, GreaterThan}
+use Rattle.pep440_operator.specs.declared.operator.Operator.TheVariants.{Equal, EqualStar, NotEqual}
+use Rattle.pep440_operator.specs.declared.operator.Operator.TheVariants.{NotEqualStar, TildeEqual}
+use Rattle.pep440_operator.specs.declared.operator.Operator.TheVariants.{LessThanEqual, GreaterThanEqual}
+use Rattle.pep440_specifier.specs.Matching.{SpecifierRecord}
+use Rattle.pep440_specifier_list.specs.Lists.{CountedRecord, IsInOrder}
+use Rattle.pep508_tree.specs.Tree.{Tree}
+use Rattle.pep508_tree.specs.Meaning.{NodeRecord}
+use Rattle.pep508_marker_read.specs.MarkerOutcome.{IsTreeOf}
+use Rattle.pep508_requirement_text.specs.FrontReading.{Source, Front}
+use Rattle.pep508_requirement_text.specs.FrontReading.Source.{Specifiers, Url}
+use Rattle.reqtable_answer.specs.Asks.{specifiers_of, is_url}
+use Rattle.reqtable_requirements.specs.LineReading.{LineRecord}
+use Rattle.reqtable_requirements.specs.Asks.{lines_of}
+use Rattle.reqtable_cases.specs.Lines.{is_named}
+
+-- a line of a package: its number, extras and marker, whether it asks for a URL, whether one of its
+-- specifiers is `<` or `>`, whether one has a pre-release or developmental release, and the specifiers, counted
+pub record KeptLine : Type 0 where
+  pub number : ℕ
+  pub extras : List (List ℕ)
+  pub marker : Tree
+  pub url : Bool
+  pub bounded : Bool
+  pub prerelease : Bool
+  pub specifiers : CountedRecord
+
+-- a case of a package, by the numbers of its lines
+pub record KeptCase : Type 0 where
+  pub numbers : List ℕ
+  pub tree : Tree
+  pub range : Option (List (Point VersionRecord))
+
+pub record KeptPackage : Type 0 where
+  pub name : List ℕ
+  pub cases : List KeptCase
+  pub lines : List KeptLine
+
+-- `<` or `>`
+abbrev pub is_bound : Operator → Bool
+is_bound ExactEqual = false
+is_bound LessThan = true
+is_bound GreaterThan = true
+is_bound Equal = false
+is_bound EqualStar = false
+is_bound NotEqual = false
+is_bound NotEqualStar = false
+is_bound TildeEqual = false
+is_bound LessThanEqual = false
+is_bound GreaterThanEqual = false
+
+-- the names of a table's packages
+abbrev pub names_in : List KeptPackage → List (List ℕ)
+names_in table = map (λ p. p.name) table
+
+-- the lines that a table keeps under a name
+abbrev pub kept_under : List ℕ → List KeptPackage → List KeptLine
+kept_under name table = flat_map (λ p. if bytes_eq name p.name then p.lines else []) table
+
+-- a table's packages stand in the order of their names' bytes
+pub record IsTable (table : List KeptPackage) : Type 0 where
+  pub rising : IsStrictlySortedBy (slice_cmp nat_cmp) (names_in table)
+
+-- a kept line is that of the record, its specifiers by version; its marker is a tree of these nodes
+pub record Keeps (nodes : List NodeRecord) (kept : KeptLine) (said : LineRecord) : Type 0 where
+  pub number : kept.number ≡ said.number
+  pub extras : kept.extras ≡ said.front.extras
+  pub marker : IsTreeOf nodes kept.marker said.formula
+  pub url : kept.url ≡ is_url said.front.source
+  pub bounded : kept.bounded ≡ list_any (λ s. is_bound s.operator) kept.specifiers.members
+  pub prerelease : kept.prerelease ≡ list_any (λ s. is_prerelease s.version) kept.specifiers.members
+  pub specifiers : IsInOrder (specifiers_of said.front.source) kept.specifiers.members
+
+-- a table keeps just these lines, each under its package's name, in their order
+pub record KeepsAll (nodes : List NodeRecord) (table : List KeptPackage) (said : List LineRecord)
+    : Type 0 where
+  pub rising : IsStrictlySortedBy (slice_cmp nat_cmp) (names_in table)
+  pub named : (name : List ℕ) → list_any (bytes_eq name) (names_in table) ≡ is_named name said
+  pub each : (name : List ℕ) → AllZip (Keeps nodes) (kept_under name table) (lines_of name said)
+
+-- what a kept line asks for, its name apart
+abbrev pub kept_source : Bool → List SpecifierRecord → Source
+kept_source true members = Url []
+kept_source false members = Specifiers members
+
+abbrev pub kept_front : KeptLine → Front
+kept_front line =
+    record { name = []; extras = line.extras; source = kept_source line.url line.specifiers.members }

@@ -1,0 +1,39 @@
+-- A table's parts as records, and what becomes of a line in it.
+use Rattle.std.specs.Prelude.{map}
+use Rattle.std.specs.List.{list_any}
+use Rattle.pep440_version.specs.Changes.{is_prerelease}
+use Rattle.reqtable_table.specs.declared.given.Given.{Given}
+use Rattle.reqtable_table.specs.declared.kept.TableLine.{TableLine}
+use Rattle.reqtable_table.specs.declared.table.Package.{Package}
+use Rattle.reqtable_table.specs.Kept.{KeptLine, KeptPackage, is_bound}
+use Rattle.reqtable_table.specs.Casing.{case_record}
+
+abbrev pub line_record : TableLine → KeptLine
+line_record line = record {
+  number = line.number;
+  extras = line.extras.items;
+  marker = line.marker;
+  url = line.is_url;
+  bounded = line.is_bounded;
+  prerelease = line.names_prerelease;
+  specifiers = line.specifiers;
+}
+
+abbrev pub package_record : Package → KeptPackage
+package_record kept = record {
+  name = kept.name;
+  cases = map case_record kept.cases.items;
+  lines = map line_record kept.lines.items;
+}
+
+-- a line with none of its specifiers asked
+abbrev pub kept_by : Given → KeptLine
+kept_by line = record {
+  number = line.number;
+  extras = line.extras.items;
+  marker = line.marker;
+  url = line.is_url;
+  bounded = list_any (λ s. is_bound s.operator) line.specifiers;
+  prerelease = list_any (λ s. is_prerelease s.version) line.specifiers;
+  specifiers = record { members = line.specifiers; tests = 0 };
+}

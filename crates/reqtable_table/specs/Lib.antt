@@ -1,0 +1,9 @@
+pub mod Kept
+pub mod Given
+pub mod Casing
+pub mod Cases
+pub mod KeptLines
+pub mod Building
+pub mod Counts
+pub mod Errors
+pub mod Answers

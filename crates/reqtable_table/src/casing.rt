@@ -1,0 +1,132 @@
+//! The cases of a package's lines, and what the lines of a case ask for.
+
+ghost use Rattle.std.specs.Prelude.{◌≡◌, ◌++◌, List, length, map, flat_map, IfOk, OnOk};
+ghost use Rattle.std.specs.List.{list_any, AllZip, AllByRecursion};
+ghost use Rattle.reqtable_range.specs.Together.{lent};
+ghost use Rattle.reqtable_cases.specs.Lines.{marked};
+ghost use Rattle.reqtable_cases.specs.Usable.{IsRangeOf};
+ghost use Rattle.pep508_cases.specs.Cases.{case_seen, cases_seen};
+ghost use Rattle.reqtable_table.specs.Casing.{lent_given, given_front, case_record, IsCaseOfGiven, HaveMarks};
+
+use crate::given::Given;
+use crate::table::Case;
+use pep440_specifier::VersionSpecifier;
+use pep440_version::Version;
+use pep508_cases::TreeCase;
+use pep508_tree::MarkerTree;
+use reqtable_cases::asked_range;
+use std::alloc::{AllocError, Global};
+use version_ranges::Ranges;
+
+/// The markers of lines.
+pub(crate) fn markers(alloc: Global, lines: &[Given]) -> Result<Vec<MarkerTree>, AllocError>
+    ensures { IfOk result (λ markers. markers.items ≡ map (λ line. line.marker) lines.now) }
+{
+    let mut markers = Vec::with_capacity(alloc, lines.len())?;
+    for line in lines {
+        markers.push(line.marker)?;
+    }
+    Ok(markers)
+}
+
+/// A case for each set of the lines.
+pub(crate) fn cases_of(
+    alloc: Global,
+    lines: &[Given],
+    sets: Vec<TreeCase>,
+) -> Result<Vec<Case>, AllocError>
+    requires { AllByRecursion (HaveMarks (length lines.now)) (cases_seen sets.items) }
+    ensures { IfOk result (λ cases.
+        AllZip (IsCaseOfGiven lines.now) (map case_record cases.items) (cases_seen sets.items)) }
+{
+    let mut cases = Vec::with_capacity(alloc, sets.len())?;
+    for set in sets {
+        cases.push(case_of(alloc, lines, set)?)?;
+    }
+    Ok(cases)
+}
+
+fn case_of(alloc: Global, lines: &[Given], set: TreeCase) -> Result<Case, AllocError>
+    requires { HaveMarks (length lines.now) (case_seen set) }
+    ensures { IfOk result (λ case. IsCaseOfGiven lines.now (case_record case) (case_seen set)) }
+{
+    let own = marked_lines(alloc, &set.marks, lines)?;
+    let range = range_of(alloc, &own)?;
+    Ok(Case {
+        lines: numbers(alloc, &own)?,
+        tree: set.tree,
+        range,
+    })
+}
+
+/// The lines that are marked.
+fn marked_lines<'a>(
+    alloc: Global,
+    marks: &[bool],
+    lines: &'a [Given],
+) -> Result<Vec<&'a Given>, AllocError>
+    requires { length marks.now ≡ length lines.now }
+    ensures { IfOk result (λ own. lent_given own.items ≡ marked marks.now lines.now) }
+{
+    let mut own = Vec::new(alloc);
+    for (index, line) in lines.iter().enumerate() {
+        if marks[index] {
+            own.push(line)?;
+        }
+    }
+    Ok(own)
+}
+
+fn numbers(alloc: Global, lines: &[&Given]) -> Result<Vec<usize>, AllocError>
+    ensures { IfOk result (λ numbers. numbers.items ≡ map (λ line. line.number) (lent_given lines.now)) }
+{
+    let mut numbers = Vec::with_capacity(alloc, lines.len())?;
+    for line in lines {
+        numbers.push(line.number)?;
+    }
+    Ok(numbers)
+}
+
+/// The range of what the lines ask for, where they are usable.
+fn range_of(alloc: Global, lines: &[&Given]) -> Result<Option<Ranges<Version>>, AllocError>
+    ensures { IfOk result (IsRangeOf (map given_front (lent_given lines.now))) }
+{
+    if has_url(lines) {
+        return Ok(None);
+    }
+    let members = members_of(alloc, lines)?;
+    asked_range(alloc, &members)
+}
+
+fn has_url(lines: &[&Given]) -> bool
+    ensures { result ≡ list_any (λ line. line.now.is_url) lines.now }
+{
+    lines.iter().any(|line| line.is_url)
+}
+
+/// The specifiers of all these lines.
+fn members_of<'a>(
+    alloc: Global,
+    lines: &[&'a Given],
+) -> Result<Vec<&'a VersionSpecifier>, AllocError>
+    ensures { IfOk result (λ members.
+        lent members.items ≡ flat_map (λ line. line.specifiers) (lent_given lines.now)) }
+{
+    let mut members = Vec::new(alloc);
+    for line in lines {
+        lend(&mut members, line.specifiers.as_slice())?;
+    }
+    Ok(members)
+}
+
+fn lend<'a>(
+    members: &mut Vec<&'a VersionSpecifier>,
+    more: &'a [VersionSpecifier],
+) -> Result<(), AllocError>
+    ensures { OnOk result (lent members.new.items ≡ lent members.old.items ++ more.now) }
+{
+    for member in more {
+        members.push(member)?;
+    }
+    Ok(())
+}

@@ -1,0 +1,75 @@
+//! The lines of a text by the packages that they are of.
+
+ghost use Rattle.std.specs.Prelude.{◌≡◌, ◌∷◌, ◌++◌, [], IfOk, OnOk};
+ghost use Rattle.reqtable_table.specs.Given.{AreGrouped, AreSoFar, IsAdded, IsNewGroup};
+
+use crate::given::{Given, given_of};
+use pep508_name::PackageName;
+use reqtable_requirements::Line;
+use std::alloc::{AllocError, Global};
+
+/// The lines of a package, in their order.
+#[derive(Drop)]
+pub(crate) struct Group {
+    pub(crate) name: PackageName,
+    pub(crate) lines: Vec<Given>,
+}
+
+/// The lines by their packages, the packages by their names. n lines take O(n log n) comparisons of names.
+pub(crate) fn grouped(alloc: Global, lines: Vec<Line>) -> Result<Vec<Group>, AllocError>
+    ensures { IfOk result (λ groups. AreGrouped lines.items groups.items) }
+{
+    let mut lines = lines;
+    lines.sort_by(|a, b| a.requirement.name.cmp(&b.requirement.name))?;
+    cut(alloc, lines)
+}
+
+/// The groups of lines that stand by the names of their packages.
+fn cut(alloc: Global, lines: Vec<Line>) -> Result<Vec<Group>, AllocError>
+    ensures { IfOk result (λ groups. AreSoFar lines.items groups.items) }
+{
+    let mut groups = Vec::new(alloc);
+    for line in lines {
+        let (name, given) = given_of(alloc, line);
+        add(alloc, &mut groups, name, given)?;
+    }
+    Ok(groups)
+}
+
+/// Adds a line to the last group, where that is of its package, or else as a group of its own.
+fn add(
+    alloc: Global,
+    groups: &mut Vec<Group>,
+    name: PackageName,
+    line: Given,
+) -> Result<(), AllocError>
+    ensures { OnOk result (IsAdded name line groups.old.items groups.new.items) }
+{
+    let Some(last) = groups.pop() else {
+        return push(alloc, groups, name, line);
+    };
+    if last.name == name {
+        let mut last = last;
+        last.lines.push(line)?;
+        groups.push(last)?;
+        Ok(())
+    } else {
+        groups.push(last)?;
+        push(alloc, groups, name, line)
+    }
+}
+
+/// Adds a group of one line.
+fn push(
+    alloc: Global,
+    groups: &mut Vec<Group>,
+    name: PackageName,
+    line: Given,
+) -> Result<(), AllocError>
+    ensures { OnOk result (IsNewGroup name line groups.old.items groups.new.items) }
+{
+    let mut lines = Vec::with_capacity(alloc, 1)?;
+    lines.push(line)?;
+    groups.push(Group { name, lines })?;
+    Ok(())
+}

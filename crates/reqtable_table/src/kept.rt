@@ -1,0 +1,94 @@
+//! The lines of a package, as a table keeps them.
+
+ghost use Rattle.std.specs.Prelude.{◌≡◌, map, IfOk};
+ghost use Rattle.std.specs.List.{list_any};
+ghost use Rattle.pep440_version.specs.Changes.{is_prerelease};
+ghost use Rattle.reqtable_table.specs.Kept.{is_bound};
+ghost use Rattle.reqtable_table.specs.KeptLines.{kept_by, line_record};
+
+use crate::given::Given;
+use pep440_specifier::{Operator, VersionSpecifier};
+use pep440_specifier_list::CountedSpecifiers;
+use pep508_name::ExtraName;
+use pep508_tree::MarkerTree;
+use std::alloc::{AllocError, Global};
+
+/// A line of a package.
+#[derive(Drop)]
+pub(crate) struct TableLine {
+    pub(crate) number: usize,
+    pub(crate) extras: Vec<ExtraName>,
+    pub(crate) marker: MarkerTree,
+    pub(crate) is_url: bool,
+    /// Whether a specifier is `<` or `>`.
+    pub(crate) is_bounded: bool,
+    /// Whether a specifier has a pre-release or developmental release.
+    pub(crate) names_prerelease: bool,
+    pub(crate) specifiers: CountedSpecifiers,
+}
+
+/// The lines, none of whose specifiers was asked so far.
+pub(crate) fn kept_lines(alloc: Global, lines: Vec<Given>) -> Result<Vec<TableLine>, AllocError>
+    ensures { IfOk result (λ kept. map line_record kept.items ≡ map kept_by lines.items) }
+{
+    let mut kept = Vec::with_capacity(alloc, lines.len())?;
+    for line in lines {
+        kept.push(kept_line(line))?;
+    }
+    Ok(kept)
+}
+
+fn kept_line(line: Given) -> TableLine
+    ensures { line_record result ≡ kept_by line }
+{
+    let Given {
+        number,
+        extras,
+        marker,
+        is_url,
+        specifiers,
+    } = line;
+    let is_bounded = has_bound(specifiers.as_slice());
+    let names_prerelease = has_prerelease(specifiers.as_slice());
+    TableLine {
+        number,
+        extras,
+        marker,
+        is_url,
+        is_bounded,
+        names_prerelease,
+        specifiers: CountedSpecifiers::new(specifiers),
+    }
+}
+
+fn has_bound(specifiers: &[VersionSpecifier]) -> bool
+    ensures { result ≡ list_any (λ s. is_bound s.operator) specifiers.now }
+{
+    specifiers
+        .iter()
+        .any(|specifier| is_bound(specifier.operator()))
+}
+
+fn is_bound(operator: Operator) -> bool
+    ensures { result ≡ is_bound operator }
+{
+    match operator {
+        Operator::LessThan | Operator::GreaterThan => true,
+        Operator::Equal
+        | Operator::EqualStar
+        | Operator::ExactEqual
+        | Operator::NotEqual
+        | Operator::NotEqualStar
+        | Operator::TildeEqual
+        | Operator::LessThanEqual
+        | Operator::GreaterThanEqual => false,
+    }
+}
+
+fn has_prerelease(specifiers: &[VersionSpecifier]) -> bool
+    ensures { result ≡ list_any (λ s. is_prerelease s.version) specifiers.now }
+{
+    specifiers
+        .iter()
+        .any(|specifier| specifier.version().any_prerelease())
+}

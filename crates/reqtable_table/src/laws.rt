@@ -1,0 +1,39 @@
+//! Laws over the definitions. The functions do nothing: each one's contract is its law.
+
+ghost use Rattle.std.specs.Prelude.{◌≡◌, false, ℕ, List, Some, None};
+ghost use Rattle.std.specs.List.{AllByRecursion};
+ghost use Rattle.pep508_diagram.specs.Question.{Valuation};
+ghost use Rattle.pep508_tree.specs.Meaning.{NodeRecord, Extends};
+ghost use Rattle.reqtable_text.specs.declared.candidates.Candidate.{Candidate};
+ghost use Rattle.reqtable_answer.specs.Answer.{Admits, RowRecord, IsAnswer};
+ghost use Rattle.reqtable_requirements.specs.Asks.{lines_of, asks_of};
+ghost use Rattle.reqtable_requirements.specs.LineReading.{LineRecord};
+ghost use Rattle.reqtable_cases.specs.Lines.{is_named};
+ghost use Rattle.reqtable_table.specs.Answers.{AreRowsFor};
+ghost use Rattle.reqtable_table.specs.Cases.{HasItsCases, AreCasesOf, cases_under};
+ghost use Rattle.reqtable_table.specs.Kept.{KeptCase, KeptPackage, KeepsAll};
+
+/// The cases under a name are those of the lines that the table keeps of it; there are none exactly where no
+/// line names it.
+pub fn cases_are_those_of_the_lines()
+    ensures some { (nodes : List NodeRecord) (table : List KeptPackage) (said : List LineRecord)
+        (name : List ℕ) (cases : List KeptCase) → KeepsAll nodes table said → AllByRecursion (HasItsCases nodes) table →
+        cases_under name table ≡ Some cases → AreCasesOf nodes (lines_of name said) cases }
+    ensures none { (nodes : List NodeRecord) (table : List KeptPackage) (said : List LineRecord)
+        (name : List ℕ) → KeepsAll nodes table said → cases_under name table ≡ None → is_named name said ≡ false }
+{}
+
+/// A package's cases stay its cases while nodes are added to the interner.
+#[tactic(auto, using(crate::proofs::Packages::has_kept))]
+pub fn cases_are_kept()
+    ensures { (old new : List NodeRecord) (kept : KeptPackage) → Extends old new →
+        HasItsCases old kept → HasItsCases new kept }
+{}
+
+/// A row for each package of which a line applies, by what these lines ask for, is the answer to what applies
+/// of the text.
+pub fn rows_for_packages_are_the_answer()
+    ensures { (nodes : List NodeRecord) (v : Valuation) (table : List KeptPackage) (said : List LineRecord) →
+        KeepsAll nodes table said → (admits : Admits) (candidates : List Candidate) (rows : List RowRecord) →
+        AreRowsFor admits nodes v candidates table rows → IsAnswer admits (asks_of v said) candidates rows }
+{}

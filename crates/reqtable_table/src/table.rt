@@ -1,0 +1,234 @@
+//! Tables: the packages of a text with the cases of their lines.
+
+ghost use Rattle.std.specs.Prelude.{◌≡◌, ◌≤◌, ◌+◌, ◌*◌, List, length, map, IfOk, IfErr, OnOk};
+ghost use Rattle.std.specs.List.{AllZip, AllByRecursion};
+ghost use Rattle.std.specs.Option.{option_map};
+ghost use Rattle.pep508_url.specs.Vars.{Variables};
+ghost use Rattle.pep508_tree.specs.Meaning.{Extends};
+ghost use Rattle.reqtable_requirements.specs.Asks.{AreOfNodes};
+ghost use Rattle.reqtable_requirements.specs.LineReading.{LineRecord};
+ghost use Rattle.reqtable_requirements.specs.Requirements.{StandsFor};
+ghost use Rattle.reqtable_table.specs.Building.{AreOfTrees, IsPackageOf, IsRefusal, IsFirstRefusal};
+ghost use Rattle.reqtable_table.specs.Cases.{Builds, cases_under};
+ghost use Rattle.reqtable_table.specs.Casing.{case_record};
+ghost use Rattle.reqtable_table.specs.Counts.{up_to_64_bits, tests_of, table_tests};
+ghost use Rattle.reqtable_table.specs.Given.{lines_in};
+ghost use Rattle.reqtable_table.specs.Kept.{KeptPackage, IsTable};
+ghost use Rattle.reqtable_table.specs.KeptLines.{line_record, package_record};
+
+use crate::casing::{cases_of, markers};
+use crate::grouping::{Group, grouped};
+use crate::kept::{TableLine, kept_lines};
+use pep440_version::Version;
+use pep508_cases::{CasesError, tree_cases};
+use pep508_name::PackageName;
+use pep508_tree::{Interner, MarkerTree};
+use reqtable_requirements::Requirements;
+use std::alloc::{AllocError, AllocFailed, Global};
+use std::error::Error;
+use std::fmt;
+use std::marker::Model;
+use version_ranges::Ranges;
+
+/// A set of a package's lines of which some environment with extras makes all apply, while the package's
+/// other lines don't.
+#[derive(Drop)]
+pub struct Case {
+    /// The numbers of the lines in their text, which rise.
+    pub lines: Vec<usize>,
+    /// Holds exactly where just these lines apply; in the interner that the table was built with.
+    pub tree: MarkerTree,
+    /// The points in the ranges of all that the lines ask for. None where one of them asks for a URL, for
+    /// `===`, or for `<` or `>` with a post-release, or where a number of a range can't be raised.
+    pub range: Option<Ranges<Version>>,
+}
+
+/// A package that some line names.
+#[derive(Drop)]
+pub(crate) struct Package {
+    pub(crate) name: PackageName,
+    pub(crate) cases: Vec<Case>,
+    pub(crate) lines: Vec<TableLine>,
+}
+
+/// Why there is no table.
+#[derive(Debug, PartialEq, Eq, Drop)]
+pub enum TableError {
+    /// The first package, by the bytes of its name, that has more cases than the limit.
+    TooManyCases { package: PackageName },
+    /// Memory ran out.
+    Memory,
+}
+
+impl From<AllocError> for TableError {
+    ghost use Rattle.reqtable_table.specs.declared.table.TableError.TheVariants.{Memory};
+
+    ghost from_gives = { λ _ error. error ≡ Memory };
+
+    fn from(_: AllocError) -> TableError {
+        TableError::Memory
+    }
+}
+
+impl<T: Drop> From<AllocFailed<T>> for TableError {
+    ghost use Rattle.reqtable_table.specs.declared.table.TableError.TheVariants.{Memory};
+
+    ghost from_gives = { λ _ error. error ≡ Memory };
+
+    fn from(_: AllocFailed<T>) -> TableError {
+        TableError::Memory
+    }
+}
+
+impl fmt::Display for TableError {
+    ghost use Rattle.std.specs.Prelude.{Some};
+    ghost use Rattle.reqtable_table.specs.Errors.{table_error_text};
+
+    ghost output = { λ error. Some (table_error_text error) };
+
+    fn fmt<W: fmt::Write>(&self, f: &mut fmt::Formatter<W>) -> fmt::Result {
+        match self {
+            TableError::TooManyCases { package } => write!(f, "{package}: too many cases"),
+            TableError::Memory => write!(f, "out of memory"),
+        }
+    }
+}
+
+impl Error for TableError {}
+
+/// The cases of each package of a requirements text, made beforehand for all environments.
+#[derive(Drop)]
+pub struct Table {
+    packages: Vec<Package>,
+}
+
+impl Model for Table {
+    ghost Value = { List KeptPackage };
+
+    ghost view = { λ t. map package_record t.packages.items };
+
+    ghost invariant = { λ t. IsTable (map package_record t.packages.items) };
+}
+
+impl Table {
+    /// The table of a text's requirements, whose markers are trees of the interner.
+    ///
+    /// For each package the cases are found line by line, so that no more sets are looked at than `limit`
+    /// allows: n lines of a package take at most `2 * n * limit` conjunctions. Beside these the lines are brought
+    /// in order by name, and for each case of n specifiers its range takes O(n log n) comparisons of versions.
+    /// The table keeps what it needs of the requirements, and no second copy of it.
+    pub fn build(
+        alloc: Global,
+        requirements: Requirements,
+        interner: &mut Interner,
+        limit: u64,
+    ) -> Result<Table, TableError>
+        requires trees { AreOfNodes interner.old.nodes requirements }
+        ensures built { (vars : Variables) (said : List LineRecord) →
+            AllZip (StandsFor vars interner.old.nodes) requirements said →
+            Builds limit interner.new.nodes said result }
+        ensures keeps { Extends interner.old.nodes interner.new.nodes }
+        ensures counts { interner.new.conjunctions
+            ≤ interner.old.conjunctions + 2 * (limit * length requirements) }
+    {
+        let groups = grouped(alloc, requirements.into_lines())?;
+        match packages_of(alloc, interner, groups, limit) {
+            Ok(packages) => Ok(Table { packages }),
+            Err(error) => Err(error),
+        }
+    }
+
+    /// The cases of a package, ordered so that at the first line at which two differ the one that has it
+    /// comes first; none where no line names the package. O(log n) comparisons of names for n packages.
+    pub fn cases(&self, name: &PackageName) -> Option<&[Case]>
+        ensures { option_map (λ cases. map case_record cases.now) result ≡ cases_under name.now self.now }
+    {
+        let found = self
+            .packages
+            .binary_search_by(|package| package.name.cmp(name));
+        match found {
+            Ok(place) => Some(&self.packages[place].cases),
+            Err(_) => None,
+        }
+    }
+
+    /// How many specifiers were asked of versions since the table was built, up to `u64::MAX`. Linear in the
+    /// lines.
+    pub fn tests(&self) -> u64
+        ensures { result ≡ table_tests self.now }
+    {
+        packages_tests(&self.packages)
+    }
+}
+
+fn packages_tests(packages: &[Package]) -> u64
+    ensures { result ≡ table_tests (map package_record packages.now) }
+{
+    let mut tests = 0;
+    for package in packages {
+        tests = lines_tests(tests, &package.lines);
+    }
+    tests
+}
+
+/// The tests of some lines beside others, up to `u64::MAX`.
+fn lines_tests(tests: u64, lines: &[TableLine]) -> u64
+    ensures { result ≡ up_to_64_bits (tests + tests_of (map line_record lines.now)) }
+{
+    let mut tests = tests;
+    for line in lines {
+        tests = tests.saturating_add(line.specifiers.tests());
+    }
+    tests
+}
+
+/// The packages of the groups, up to the first that has more cases than the limit.
+fn packages_of(
+    alloc: Global,
+    interner: &mut Interner,
+    groups: Vec<Group>,
+    limit: u64,
+) -> Result<Vec<Package>, TableError>
+    requires { AllByRecursion (AreOfTrees interner.old.nodes) groups.items }
+    ensures made { IfOk result (λ made. AllZip (IsPackageOf limit interner.new.nodes) groups.items
+        (map package_record made.items)) }
+    ensures refused { IfErr result (IsFirstRefusal limit interner.old.nodes groups.items) }
+    ensures keeps { Extends interner.old.nodes interner.new.nodes }
+    ensures counts { interner.new.conjunctions
+        ≤ interner.old.conjunctions + 2 * (length (lines_in groups.items) * limit) }
+{
+    let mut packages = Vec::with_capacity(alloc, groups.len())?;
+    for group in groups {
+        match package_of(alloc, interner, group, limit) {
+            Ok(package) => packages.push(package)?,
+            Err(error) => return Err(error),
+        }
+    }
+    Ok(packages)
+}
+
+/// The package of a group, with the cases of its lines.
+fn package_of(
+    alloc: Global,
+    interner: &mut Interner,
+    group: Group,
+    limit: u64,
+) -> Result<Package, TableError>
+    requires { AreOfTrees interner.old.nodes group }
+    ensures made { IfOk result (λ made. IsPackageOf limit interner.new.nodes group (package_record made)) }
+    ensures refused { IfErr result (IsRefusal limit interner.old.nodes group) }
+    ensures keeps { Extends interner.old.nodes interner.new.nodes }
+    ensures counts { interner.new.conjunctions
+        ≤ interner.old.conjunctions + 2 * (length group.lines.items * limit) }
+{
+    let Group { name, lines } = group;
+    let trees = markers(alloc, &lines)?;
+    let sets = match tree_cases(alloc, interner, &trees, limit) {
+        Ok(sets) => sets,
+        Err(CasesError::TooMany) => return Err(TableError::TooManyCases { package: name }),
+        Err(CasesError::Memory) => return Err(TableError::Memory),
+    };
+    let cases = cases_of(alloc, &lines, sets)?;
+    let lines = kept_lines(alloc, lines)?;
+    Ok(Package { name, cases, lines })
+}
