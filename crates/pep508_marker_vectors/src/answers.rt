@@ -10,7 +10,7 @@ use crate::simplified::{present, within};
 use crate::stop::{Stop, said};
 use crate::texts::{clauses, text_after, text_in, top_extra};
 use crate::views::view;
-use crate::{comparisons, members, shown};
+use crate::{comparisons, members, pairs, shown};
 use pep508_tree::Interner;
 use serde_json::Value;
 use std::alloc::{AllocError, Global};
@@ -65,6 +65,7 @@ fn on_two(alloc: Global, interner: &mut Interner, question: &Value) -> Result<St
     );
     match asked {
         "same" | "disjoint" | "negation" => pair(alloc, interner, asked, text, other),
+        "asked" => pairs::asked(alloc, interner, text, other),
         "unwarned" => unwarned(alloc, interner, text, other),
         "text after" => text_after(alloc, interner, text, other),
         "order" => shown::order(alloc, interner, text, other),

@@ -22,8 +22,13 @@ pub fn answer(alloc: Global, vars: &Vars, question: &str) -> Result<String, Allo
         Err(error) if error.is_memory() => return Err(AllocError),
         Err(_) => return String::from_str(alloc, "no question"),
     };
-    let kind = text_at(&question, 0);
-    let text = text_at(&question, 1);
+    on_text(alloc, vars, &question)
+}
+
+/// The answer by the kind of question and its text.
+fn on_text(alloc: Global, vars: &Vars, question: &Value) -> Result<String, AllocError> {
+    let kind = text_at(question, 0);
+    let text = text_at(question, 1);
     match kind {
         "name" => name(alloc, text),
         "dist-info" => dist_info(alloc, text),
@@ -44,11 +49,11 @@ pub fn answer(alloc: Global, vars: &Vars, question: &str) -> Result<String, Allo
         "picture" => picture(alloc, vars, text, DIRECTORY),
         "unnamed" => unnamed(alloc, vars, text, DIRECTORY),
         "warnings" => warnings(alloc, vars, text),
-        "packages" => names::packages(alloc, text, text_at(&question, 2)),
-        "extra-names" => names::extras(alloc, text, text_at(&question, 2)),
-        "origins" => names::origins(alloc, text, text_at(&question, 2)),
+        "packages" => names::packages(alloc, text, text_at(question, 2)),
+        "extra-names" => names::extras(alloc, text, text_at(question, 2)),
+        "origins" => names::origins(alloc, text, text_at(question, 2)),
         "meant" | "unnamed-meant" | "with-extra" => {
-            meant::answer(alloc, vars, kind, text, text_at(&question, 2))
+            meant::answer(alloc, vars, kind, text, text_at(question, 2))
         }
         "of-url" => meant::of_url(alloc, text),
         "unnamed-path" | "unnamed-url" => meant::unnamed_url(alloc, kind, text),
