@@ -13,3 +13,8 @@ pub mod Built
 pub mod Lookup
 pub mod RowsOfLines
 pub mod CasesOfLines
+pub mod AskedLines
+pub mod MarkedAsks
+pub mod Telling
+pub mod Finding
+pub mod KeptFlags

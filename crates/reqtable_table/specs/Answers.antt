@@ -1,6 +1,7 @@
--- What a table answers: a row for each package of which a line applies.
-use Rattle.std.specs.Prelude.{◌≡◌, ℕ, Bool, List, map, filter}
+-- What a table answers: the rows of the packages of which a line applies, and how many specifiers are asked for that.
+use Rattle.std.specs.Prelude.{◌≡◌, ◌+◌, ◌==◌, ◌&&◌, ℕ, Bool, List, [], ◌∷◌, map, filter, length, is_none, if◌then◌else◌}
 use Rattle.std.specs.List.{list_any, enumerate_from, AllZip}
+use Rattle.pep440_version.specs.Record.{VersionRecord}
 use Rattle.pep508_diagram.specs.Question.{Valuation}
 use Rattle.pep508_tree.specs.Meaning.{NodeRecord, holds}
 use Rattle.pep508_requirement_text.specs.FrontReading.{Front}
@@ -10,6 +11,7 @@ use Rattle.reqtable_answer.specs.Admission.{Admits}
 use Rattle.reqtable_answer.specs.Answer.{RowRecord, IsRowOf}
 use Rattle.reqtable_answer.specs.Asks.{is_candidate}
 use Rattle.reqtable_cases.specs.Lines.{marked}
+use Rattle.reqtable_cases.specs.Usable.{is_usable, members_asked}
 use Rattle.reqtable_table.specs.Kept.{KeptLine, KeptPackage, kept_front}
 
 -- which of some kept lines apply, and what these ask for
@@ -34,7 +36,45 @@ pub record IsRowFor (admits : Admits) (nodes : List NodeRecord) (v : Valuation) 
   pub its : IsRowOf admits (kept_asked nodes v kept.lines) (own_candidates candidates kept.name) row
 
 -- a row for each package of which a line applies
-abbrev pub AreRowsFor : Admits → List NodeRecord → Valuation → List Candidate → List KeptPackage
-    → List RowRecord → Type 0
+abbrev pub AreRowsFor : Admits → List NodeRecord → Valuation → List Candidate → List KeptPackage → List RowRecord
+    → Type 0
 AreRowsFor admits nodes v candidates table rows =
     AllZip (IsRowFor admits nodes v candidates) (filter (is_asked nodes v) table) rows
+
+-- ---- how many specifiers are asked
+
+-- neither a local part nor a post-release
+abbrev pub is_plain : VersionRecord → Bool
+is_plain version = length version.local == 0 && is_none version.post
+
+-- for one candidate: none where it is plain and what is asked is usable, and else at most all specifiers
+abbrev pub tests_for : List Front → ℕ × Candidate → ℕ
+tests_for asks c = if is_usable asks && is_plain c.1.version then 0 else length (members_asked asks)
+
+abbrev pub most_tests : List Front → List (ℕ × Candidate) → ℕ
+most_tests asks [] = 0
+most_tests asks (c ∷ candidates) = tests_for asks c + most_tests asks candidates
+
+-- for the packages of a table under a valuation
+abbrev pub most_tests_of : List NodeRecord → Valuation → List Candidate → List KeptPackage → ℕ
+most_tests_of nodes v candidates [] = 0
+most_tests_of nodes v candidates (kept ∷ table) =
+    most_tests (kept_asked nodes v kept.lines) (own_candidates candidates kept.name)
+    + most_tests_of nodes v candidates table
+
+-- ---- what stays
+
+-- the same line, whatever was asked of it
+pub record SameLine (line before : KeptLine) : Type 0 where
+  pub number : line.number ≡ before.number
+  pub extras : line.extras ≡ before.extras
+  pub marker : line.marker ≡ before.marker
+  pub url : line.url ≡ before.url
+  pub bounded : line.bounded ≡ before.bounded
+  pub prerelease : line.prerelease ≡ before.prerelease
+  pub members : line.specifiers.members ≡ before.specifiers.members
+
+pub record SamePackage (kept before : KeptPackage) : Type 0 where
+  pub name : kept.name ≡ before.name
+  pub cases : kept.cases ≡ before.cases
+  pub lines : AllZip SameLine kept.lines before.lines

@@ -7,3 +7,4 @@ pub mod Building
 pub mod Counts
 pub mod Errors
 pub mod Answers
+pub mod Choosing

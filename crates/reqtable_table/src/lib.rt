@@ -2,6 +2,7 @@
 #![tactic(auto)]
 
 mod casing;
+mod choosing;
 mod given;
 mod grouping;
 mod kept;

@@ -1,0 +1,163 @@
+//! Which of a package's candidates is taken, by the case of its lines that apply.
+
+ghost use Rattle.std.specs.Prelude.{◌≡◌, ◌≤◌, ◌+◌, length, map, find, IfOk};
+ghost use Rattle.std.specs.List.{list_any, list_all, AllZip, AllByRecursion};
+ghost use Rattle.std.specs.Option.{option_map};
+ghost use Rattle.pep440_range.specs.Agreement.{IsSaid};
+ghost use Rattle.reqtable_text.specs.Ordered.{placed_seen};
+ghost use Rattle.reqtable_answer.specs.Admission.{Admits, AnswersBy};
+ghost use Rattle.reqtable_answer.specs.Asks.{specifiers_of, ask_takes, may_be_taken};
+ghost use Rattle.reqtable_cases.specs.Lines.{marked};
+ghost use Rattle.reqtable_cases.specs.Usable.{IsRangeOf, members_asked};
+ghost use Rattle.reqtable_table.specs.Answers.{most_tests, SameLine};
+ghost use Rattle.reqtable_table.specs.Choosing.{case_asks, is_told, tests_at, AskedMore};
+ghost use Rattle.reqtable_table.specs.Choosing.{HasItsFlags, IsOfTexts, Tells};
+ghost use Rattle.reqtable_table.specs.Counts.{tests_of};
+ghost use Rattle.reqtable_table.specs.Kept.{kept_front};
+ghost use Rattle.reqtable_table.specs.KeptLines.{line_record};
+
+use crate::kept::TableLine;
+use pep440_version::Version;
+use reqtable_answer::Admission;
+use reqtable_text::Placed;
+use std::alloc::{AllocError, Global};
+use version_ranges::Ranges;
+
+/// The place of the first candidate that all marked lines take and that is admitted.
+///
+/// Where the case has a range it tells, without asking a specifier, of each candidate without a local part
+/// that is no post-release, and of post-releases too where no marked line has `<` or `>`. Any other candidate
+/// is asked of each specifier of the marked lines, up to the first that refuses.
+pub(crate) fn chosen<F: Fn(&Version, bool) -> bool>(
+    alloc: Global,
+    lines: &mut [TableLine],
+    marks: &[bool],
+    range: &Option<Ranges<Version>>,
+    own: &[Placed<'_>],
+    admission: &Admission<F>,
+) -> Result<Option<usize>, AllocError>
+    requires callable { F.IsAlwaysCallable admission.now }
+    requires marks { length marks.now ≡ length lines.old }
+    requires ranged { IsRangeOf (case_asks marks.now (map line_record lines.old)) range.now }
+    requires flags { AllByRecursion HasItsFlags (map line_record lines.old) }
+    requires read { AllByRecursion IsOfTexts (map line_record lines.old) }
+    requires said { AllByRecursion (λ c. IsSaid c.1.version) (map placed_seen own.now) }
+    ensures chosen { IfOk result (λ found. (admits : Admits) → AnswersBy (F.post admission.now) admits →
+        found ≡ option_map (λ c. c.0) (find
+        (may_be_taken admits (case_asks marks.now (map line_record lines.old))) (map placed_seen own.now))) }
+    ensures kept { AllZip SameLine (map line_record lines.new) (map line_record lines.old) }
+    ensures tests { tests_of (map line_record lines.new) ≤ tests_of (map line_record lines.old)
+        + most_tests (case_asks marks.now (map line_record lines.old)) (map placed_seen own.now) }
+{
+    let bounded = any_bounded(lines, marks);
+    let prerelease = any_prerelease(lines, marks);
+    for placed in own {
+        let version = &placed.candidate.version;
+        match takes(alloc, lines, marks, range, bounded, version) {
+            Ok(taken) => {
+                if taken && admission.admits(version, prerelease) {
+                    return Ok(Some(placed.place));
+                }
+            }
+            Err(error) => return Err(error),
+        }
+    }
+    Ok(None)
+}
+
+/// Whether a marked line has `<` or `>`.
+fn any_bounded(lines: &[TableLine], marks: &[bool]) -> bool
+    requires { length marks.now ≡ length lines.now }
+    ensures { result ≡ list_any (λ line. line.is_bounded) (marked marks.now lines.now) }
+{
+    for (index, line) in lines.iter().enumerate() {
+        if marks[index] && line.is_bounded {
+            return true;
+        }
+    }
+    false
+}
+
+/// Whether a marked line has a pre-release or developmental release.
+fn any_prerelease(lines: &[TableLine], marks: &[bool]) -> bool
+    requires { length marks.now ≡ length lines.now }
+    ensures { result ≡ list_any (λ line. line.names_prerelease) (marked marks.now lines.now) }
+{
+    for (index, line) in lines.iter().enumerate() {
+        if marks[index] && line.names_prerelease {
+            return true;
+        }
+    }
+    false
+}
+
+/// Whether all marked lines take the version: by their range, where that tells it.
+fn takes(
+    alloc: Global,
+    lines: &mut [TableLine],
+    marks: &[bool],
+    range: &Option<Ranges<Version>>,
+    bounded: bool,
+    version: &Version,
+) -> Result<bool, AllocError>
+    requires marks { length marks.now ≡ length lines.old }
+    requires tells { Tells bounded range.now (case_asks marks.now (map line_record lines.old)) }
+    requires said { IsSaid version.now }
+    ensures answer { IfOk result (λ taken. taken ≡
+        list_all (ask_takes version.now) (case_asks marks.now (map line_record lines.old))) }
+    ensures more { AskedMore (tests_at (case_asks marks.now (map line_record lines.old)) version.now)
+        (map line_record lines.new) (map line_record lines.old) }
+{
+    if let Some(set) = range {
+        if is_told(bounded, version) {
+            return Ok(set.contains(version));
+        }
+    }
+    takes_all(alloc, lines, marks, version)
+}
+
+/// Whether a case's range tells of the version.
+fn is_told(bounded: bool, version: &Version) -> bool
+    ensures { result ≡ is_told bounded version.now }
+{
+    version.local().is_empty() && (version.post().is_none() || !bounded)
+}
+
+/// Whether all marked lines take the version: each is asked, up to the first that refuses.
+fn takes_all(
+    alloc: Global,
+    lines: &mut [TableLine],
+    marks: &[bool],
+    version: &Version,
+) -> Result<bool, AllocError>
+    requires { length marks.now ≡ length lines.old }
+    ensures answer { IfOk result (λ taken. taken ≡
+        list_all (ask_takes version.now) (case_asks marks.now (map line_record lines.old))) }
+    ensures more { AskedMore (length (members_asked (case_asks marks.now (map line_record lines.old))))
+        (map line_record lines.new) (map line_record lines.old) }
+{
+    for (index, line) in lines.iter_mut().enumerate() {
+        if marks[index] {
+            match ask(alloc, line, version) {
+                Ok(true) => {}
+                Ok(false) => return Ok(false),
+                Err(error) => return Err(error),
+            }
+        }
+    }
+    Ok(true)
+}
+
+/// Whether a line takes the version. A URL takes each.
+fn ask(alloc: Global, line: &mut TableLine, version: &Version) -> Result<bool, AllocError>
+    ensures answer { IfOk result (λ taken.
+        taken ≡ ask_takes version.now (kept_front (line_record line.old))) }
+    ensures same { SameLine (line_record line.new) (line_record line.old) }
+    ensures tests { line.new.specifiers.tests ≤ line.old.specifiers.tests
+        + length (specifiers_of (kept_front (line_record line.old)).source) }
+{
+    if line.is_url {
+        return Ok(true);
+    }
+    line.specifiers.contains_counted(alloc, version)
+}
