@@ -97,7 +97,7 @@ pub same_all : (lines : List KeptLine) → AllZip SameLine lines lines
 same_all [] = tt
 same_all (line ∷ lines) = (same_line line, same_all lines)
 
-same_on : (a b c : List KeptLine) → AllZip SameLine a b → AllZip SameLine b c → AllZip SameLine a c
+pub same_on : (a b c : List KeptLine) → AllZip SameLine a b → AllZip SameLine b c → AllZip SameLine a c
 same_on [] [] c s t = t
 same_on [] (y ∷ b) c s t = absurd s
 same_on (x ∷ a) [] c s t = absurd s

@@ -47,7 +47,7 @@ module _ (limit : ℕ) (nodes : List NodeRecord) where
   mapped true lines = refl
   mapped false lines = refl
 
-  under_alike : (q : List ℕ) (groups : List Group) (table : List KeptPackage) → AllZip (IsPackageOf limit nodes) groups table →
+  pub under_alike : (q : List ℕ) (groups : List Group) (table : List KeptPackage) → AllZip (IsPackageOf limit nodes) groups table →
       kept_under q table ≡ map kept_by (lines_under q groups)
   under_alike q [] [] h = refl
   under_alike q [] (kept ∷ table) h = absurd h

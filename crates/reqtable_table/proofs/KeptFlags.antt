@@ -12,7 +12,7 @@ use Rattle.pep508_requirement_text.specs.FrontReading.{Source}
 use Rattle.pep508_requirement_text.specs.FrontReading.Source.{Any, Specifiers, Url}
 use Rattle.reqtable_answer.specs.Asks.{specifiers_of, is_url}
 use Rattle.reqtable_requirements.specs.LineReading.{LineRecord}
-use Rattle.reqtable_table.specs.Choosing.{HasItsFlags, IsOfTexts}
+use Rattle.reqtable_table.specs.Standing.{HasItsFlags, IsOfTexts}
 use Rattle.reqtable_table.specs.Kept.{KeptLine, Keeps}
 
 no_members : (source : Source) → is_url source ≡ true → specifiers_of source ≡ []

@@ -18,3 +18,8 @@ pub mod MarkedAsks
 pub mod Telling
 pub mod Finding
 pub mod KeptFlags
+pub mod Same
+pub mod Searching
+pub mod Own
+pub mod Rows
+pub mod StandingLines

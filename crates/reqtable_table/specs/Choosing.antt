@@ -1,33 +1,37 @@
 -- Choosing by a case: what its lines ask for, of which versions its range tells, what asking them changes.
-use Rattle.std.specs.Prelude.{◌≡◌, ◌≤◌, ◌+◌, ◌==◌, ◌&&◌, ◌||◌, ℕ, Bool, true, not, List, [], map, length, is_none, Option, if◌then◌else◌}
-use Rattle.std.specs.List.{list_any, list_all, AllZip, AllByRecursion}
+use Rattle.std.specs.Prelude.{◌≡◌, ◌≤◌, ◌+◌, ◌==◌, ◌&&◌, ◌||◌, ℕ, Bool, true, not, List, map, length, find, is_none}
+use Rattle.std.specs.Prelude.{Option, option_map, if◌then◌else◌}
+use Rattle.std.specs.List.{list_any, list_all, AllZip}
 use Rattle.version_ranges.specs.Point.{Point, At}
 use Rattle.pep440_version.specs.Record.{VersionRecord}
-use Rattle.pep440_version.specs.Changes.{is_prerelease}
-use Rattle.pep440_specifier.specs.Building.{IsBuilt}
 use Rattle.pep440_range.specs.Agreement.{IsSaid}
+use Rattle.pep508_diagram.specs.Question.{Valuation}
+use Rattle.pep508_tree.specs.Meaning.{NodeRecord}
 use Rattle.pep508_requirement_text.specs.FrontReading.{Front}
 use Rattle.pep508_cases.specs.Cases.{Marks}
-use Rattle.reqtable_answer.specs.Asks.{ask_takes}
+use Rattle.reqtable_text.specs.declared.candidates.Candidate.{Candidate}
+use Rattle.reqtable_answer.specs.declared.answer.Outcome.{Outcome}
+use Rattle.reqtable_answer.specs.declared.answer.Outcome.TheVariants.{Direct}
+use Rattle.reqtable_answer.specs.Admission.{Admits}
+use Rattle.reqtable_answer.specs.Answer.{chosen}
+use Rattle.reqtable_answer.specs.Asks.{has_url, ask_takes, may_be_taken}
 use Rattle.reqtable_cases.specs.Lines.{marked}
 use Rattle.reqtable_cases.specs.Usable.{is_usable, members_asked, points_of, IsRangeOf}
-use Rattle.reqtable_table.specs.Kept.{KeptLine, kept_front, is_bound}
+use Rattle.reqtable_table.specs.Kept.{KeptLine, KeptPackage, kept_front}
+use Rattle.reqtable_table.specs.Cases.{HasItsCases}
 use Rattle.reqtable_table.specs.Counts.{tests_of}
-use Rattle.reqtable_table.specs.Answers.{is_plain, SameLine}
+use Rattle.reqtable_table.specs.Answers.{kept_marks, is_plain, SameLine}
 
 -- what the marked lines ask for
 abbrev pub case_asks : Marks → List KeptLine → List Front
 case_asks marks lines = map kept_front (marked marks lines)
 
--- a line's flags are those of its specifiers, and one of a URL has none
-pub record HasItsFlags (line : KeptLine) : Type 0 where
-  pub bounded : line.bounded ≡ list_any (λ s. is_bound s.operator) line.specifiers.members
-  pub prerelease : line.prerelease ≡ list_any (λ s. is_prerelease s.version) line.specifiers.members
-  pub direct : line.url ≡ true → line.specifiers.members ≡ []
-
--- a line's specifiers are as texts say them
-abbrev pub IsOfTexts : KeptLine → Type 0
-IsOfTexts line = AllByRecursion (λ s. IsBuilt s × IsSaid s.version) line.specifiers.members
+-- the lines of a package that apply under some valuation, for nodes with which it has its cases
+pub record AreApplying (marks : Marks) (kept : KeptPackage) : Type 0 where
+  pub nodes : List NodeRecord
+  pub valuation : Valuation
+  pub has : HasItsCases nodes kept
+  pub are : marks ≡ kept_marks nodes valuation kept.lines
 
 -- neither a local part, nor a post-release where a specifier is `<` or `>`
 abbrev pub is_told : Bool → VersionRecord → Bool
@@ -48,3 +52,9 @@ tests_at asks version = if is_usable asks && is_plain version then 0 else length
 pub record AskedMore (most : ℕ) (lines before : List KeptLine) : Type 0 where
   pub same : AllZip SameLine lines before
   pub tests : tests_of lines ≤ tests_of before + most
+
+-- what becomes of a package, by its candidates from the greatest down: the first that may be taken
+abbrev pub outcome_in_order : Admits → List Front → List (ℕ × Candidate) → Outcome
+outcome_in_order admits asks run =
+    if list_any has_url asks then Direct
+    else chosen (option_map (λ found. found.0) (find (may_be_taken admits asks) run))

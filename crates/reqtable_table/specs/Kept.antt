@@ -68,10 +68,6 @@ names_in table = map (λ p. p.name) table
 abbrev pub kept_under : List ℕ → List KeptPackage → List KeptLine
 kept_under name table = flat_map (λ p. if bytes_eq name p.name then p.lines else []) table
 
--- a table's packages stand in the order of their names' bytes
-pub record IsTable (table : List KeptPackage) : Type 0 where
-  pub rising : IsStrictlySortedBy (slice_cmp nat_cmp) (names_in table)
-
 -- a kept line is that of the record, its specifiers by version; its marker is a tree of these nodes
 pub record Keeps (nodes : List NodeRecord) (kept : KeptLine) (said : LineRecord) : Type 0 where
   pub number : kept.number ≡ said.number

@@ -6,5 +6,8 @@ pub mod KeptLines
 pub mod Building
 pub mod Counts
 pub mod Errors
+pub mod Standing
+pub mod Numbers
+pub mod Settings
 pub mod Answers
 pub mod Choosing

@@ -1,6 +1,6 @@
 //! Which of a package's candidates is taken, by the case of its lines that apply.
 
-ghost use Rattle.std.specs.Prelude.{◌≡◌, ◌≤◌, ◌+◌, length, map, find, IfOk};
+ghost use Rattle.std.specs.Prelude.{◌≡◌, ◌≤◌, ◌<◌, ◌+◌, ℕ, length, map, find, IfOk, IfSome};
 ghost use Rattle.std.specs.List.{list_any, list_all, AllZip, AllByRecursion};
 ghost use Rattle.std.specs.Option.{option_map};
 ghost use Rattle.pep440_range.specs.Agreement.{IsSaid};
@@ -11,10 +11,11 @@ ghost use Rattle.reqtable_cases.specs.Lines.{marked};
 ghost use Rattle.reqtable_cases.specs.Usable.{IsRangeOf, members_asked};
 ghost use Rattle.reqtable_table.specs.Answers.{most_tests, SameLine};
 ghost use Rattle.reqtable_table.specs.Choosing.{case_asks, is_told, tests_at, AskedMore};
-ghost use Rattle.reqtable_table.specs.Choosing.{HasItsFlags, IsOfTexts, Tells};
+ghost use Rattle.reqtable_table.specs.Choosing.{Tells};
 ghost use Rattle.reqtable_table.specs.Counts.{tests_of};
 ghost use Rattle.reqtable_table.specs.Kept.{kept_front};
 ghost use Rattle.reqtable_table.specs.KeptLines.{line_record};
+ghost use Rattle.reqtable_table.specs.Standing.{HasItsFlags, IsOfTexts};
 
 use crate::kept::TableLine;
 use pep440_version::Version;
@@ -45,6 +46,8 @@ pub(crate) fn chosen<F: Fn(&Version, bool) -> bool>(
     ensures chosen { IfOk result (λ found. (admits : Admits) → AnswersBy (F.post admission.now) admits →
         found ≡ option_map (λ c. c.0) (find
         (may_be_taken admits (case_asks marks.now (map line_record lines.old))) (map placed_seen own.now))) }
+    ensures below { IfOk result (λ found. (count : ℕ) →
+        AllByRecursion (λ c. c.0 < count) (map placed_seen own.now) → IfSome found (λ place. place < count)) }
     ensures kept { AllZip SameLine (map line_record lines.new) (map line_record lines.old) }
     ensures tests { tests_of (map line_record lines.new) ≤ tests_of (map line_record lines.old)
         + most_tests (case_asks marks.now (map line_record lines.old)) (map placed_seen own.now) }

@@ -1,12 +1,18 @@
 //! Tables of cases: for each package of a requirements text, which of its lines apply together.
 #![tactic(auto)]
 
+mod answering;
+mod asked;
 mod casing;
 mod choosing;
+#[cfg(test)]
+mod fields;
 mod given;
 mod grouping;
 mod kept;
 pub mod laws;
+mod row;
+mod setting;
 mod table;
 
 pub use table::{Case, Table, TableError};

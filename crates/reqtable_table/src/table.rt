@@ -13,12 +13,14 @@ ghost use Rattle.reqtable_table.specs.Cases.{Builds, cases_under};
 ghost use Rattle.reqtable_table.specs.Casing.{case_record};
 ghost use Rattle.reqtable_table.specs.Counts.{up_to_64_bits, tests_of, table_tests};
 ghost use Rattle.reqtable_table.specs.Given.{lines_in};
-ghost use Rattle.reqtable_table.specs.Kept.{KeptPackage, IsTable};
+ghost use Rattle.reqtable_table.specs.Kept.{KeptPackage};
 ghost use Rattle.reqtable_table.specs.KeptLines.{line_record, package_record};
+ghost use Rattle.reqtable_table.specs.Standing.{IsTable};
 
 use crate::casing::{cases_of, markers};
 use crate::grouping::{Group, grouped};
 use crate::kept::{TableLine, kept_lines};
+use pep440_specifier::laws::a_read_specifier_is_built;
 use pep440_version::Version;
 use pep508_cases::{CasesError, tree_cases};
 use pep508_name::PackageName;
@@ -99,7 +101,7 @@ impl Error for TableError {}
 /// The cases of each package of a requirements text, made beforehand for all environments.
 #[derive(Drop)]
 pub struct Table {
-    packages: Vec<Package>,
+    pub(crate) packages: Vec<Package>,
 }
 
 impl Model for Table {
@@ -131,6 +133,7 @@ impl Table {
         ensures counts { interner.new.conjunctions
             ≤ interner.old.conjunctions + 2 * (limit * length requirements) }
     {
+        a_read_specifier_is_built();
         let groups = grouped(alloc, requirements.into_lines())?;
         match packages_of(alloc, interner, groups, limit) {
             Ok(packages) => Ok(Table { packages }),

@@ -1,9 +1,9 @@
-use Rattle.std.proofs.Common.{sym, subst, map}
-use Rattle.std.specs.List.Sorted.{IsStrictlySortedBy}
+use Rattle.std.proofs.Common.{subst, map}
+use Rattle.reqtable_requirements.specs.ReadLines.{AreRead}
 use Rattle.reqtable_table.specs.Given.{AreGrouped}
 use Rattle.reqtable_table.specs.KeptLines.{package_record}
-use Rattle.reqtable_table.proofs.Rising.{name_cmp}
-use Rattle.reqtable_table.proofs.Built.{names_alike, groups_of_trees, all_built, refused_so}
+use Rattle.reqtable_table.proofs.Built.{groups_of_trees, all_built, refused_so}
+use Rattle.reqtable_table.proofs.StandingLines.{is_table}
 use Rattle.reqtable_table.proofs.table.Table.build.Goals as goal
 
 pub packages_of-requires : goal.packages_of-requires
@@ -14,14 +14,12 @@ packages_of-requires c =
 
 pub invariant_of-result : goal.invariant_of-result
 invariant_of-result c =
+    let lines = c.args.requirements in
     let groups = c.in_ok-groups.groups.items in
-    let table = map package_record c.in-Ok.packages.items in
-    record {
-      rising =
-          subst (IsStrictlySortedBy name_cmp)
-          (sym (names_alike c.args.limit c.packages_of.new.interner.nodes groups table c.in-Ok.ensures.made))
-          c.in_ok-groups.ensures.rising;
-    }
+    let are : AreGrouped lines groups = subst (λ l. AreGrouped l groups) c.into_lines.ensures.lines c.in_ok-groups.ensures in
+    is_table c.a_read_specifier_is_built.ensures.built c.a_read_specifier_is_built.ensures.ends c.args.limit
+    c.packages_of.new.interner.nodes lines (subst AreRead c.into_lines.ensures.lines c.into_lines.ensures.read) groups are
+    (map package_record c.in-Ok.packages.items) c.in-Ok.ensures.made
 
 pub returns-in-Ok-clause-built : goal.returns-in-Ok-clause-built
 returns-in-Ok-clause-built c = λ vars said stand.

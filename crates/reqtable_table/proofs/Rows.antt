@@ -1,0 +1,188 @@
+-- The rows of the first packages of a table.
+use Rattle.std.proofs.Common.{◌≡◌, ◌∙◌, ◌≤◌, ◌<◌, ◌+◌, ℕ, zero, suc, Bool, true, false, cond, List, [], ◌∷◌, ◌++◌, map, filter, take, set, length, get_or, Option, Some, None, refl, sym, ap, subst, arith, append-nil}
+use Rattle.std.proofs.lemmas.List.{take_more, map-append, get_or_default}
+use Rattle.std.proofs.lemmas.List.Elements.{filter-append}
+use Rattle.std.specs.List.{list_any, AllZip, AllByRecursion}
+use Rattle.pep508_diagram.specs.Question.{Valuation}
+use Rattle.pep508_tree.specs.Meaning.{NodeRecord, holds}
+use Rattle.reqtable_text.specs.declared.candidates.Candidate.{Candidate}
+use Rattle.reqtable_answer.specs.Admission.{Admits}
+use Rattle.reqtable_answer.specs.Answer.{RowRecord, IsRowOf}
+use Rattle.reqtable_cases.specs.Lines.{marked}
+use Rattle.reqtable_table.specs.declared.table.Package.{Package}
+use Rattle.reqtable_table.specs.Answers.{kept_marks, kept_asked, is_asked, own_candidates, most_tests, most_tests_of}
+use Rattle.reqtable_table.specs.Answers.{IsRowFor, IsRowIf, AreRowsFor, SameLine, SamePackage}
+use Rattle.reqtable_table.specs.Counts.{tests_of, all_tests}
+use Rattle.reqtable_table.specs.Kept.{KeptLine, KeptPackage, kept_front}
+use Rattle.reqtable_table.specs.KeptLines.{package_record}
+use Rattle.reqtable_table.proofs.AskedLines.{same_fronts}
+use Rattle.reqtable_table.proofs.Marking.{marked_map}
+use Rattle.reqtable_table.proofs.Packages.{zip_pushed}
+use Rattle.reqtable_table.proofs.Same.{all_same, same_package, packages_on, marks_same}
+
+abbrev pub kept_records : List Package → List KeptPackage
+kept_records packages = map package_record packages
+
+-- ---- what lines ask for that stayed the same
+
+asked_same : (nodes : List NodeRecord) (v : Valuation) (a b : List KeptLine) → AllZip SameLine a b →
+    kept_asked nodes v a ≡ kept_asked nodes v b
+asked_same nodes v a b s =
+    sym (marked_map kept_front (kept_marks nodes v a) a)
+    ∙ (λ i. marked (marks_same nodes v a b s i) (same_fronts a b s i))
+    ∙ marked_map kept_front (kept_marks nodes v b) b
+
+any_same : (nodes : List NodeRecord) (v : Valuation) (a b : List KeptLine) → AllZip SameLine a b →
+    list_any (λ (l : KeptLine). holds nodes l.marker v) a ≡ list_any (λ (l : KeptLine). holds nodes l.marker v) b
+any_same nodes v [] [] s = refl
+any_same nodes v [] (y ∷ b) s = absurd s
+any_same nodes v (x ∷ a) [] s = absurd s
+any_same nodes v (x ∷ a) (y ∷ b) s =
+    let here = ap (λ t. holds nodes t v) s.0.marker in
+    let rest = any_same nodes v a b s.1 in
+    λ i. cond (here i) true (rest i)
+
+module _ (admits : Admits) (nodes : List NodeRecord) (v : Valuation) (candidates : List Candidate) where
+  row_same : (a b : KeptPackage) → SamePackage a b → (row : RowRecord) → IsRowFor admits nodes v candidates a row →
+      IsRowFor admits nodes v candidates b row
+  row_same a b s row is = record {
+    named = is.named ∙ s.name;
+    its =
+        subst (λ n. IsRowOf admits (kept_asked nodes v b.lines) (own_candidates candidates n) row) s.name
+        (subst (λ asks. IsRowOf admits asks (own_candidates candidates a.name) row) (asked_same nodes v a.lines b.lines s.lines) is.its);
+  }
+
+  pub row_if_same : (a b : KeptPackage) → SamePackage a b → (row : Option RowRecord) → IsRowIf admits nodes v candidates a row →
+      IsRowIf admits nodes v candidates b row
+  row_if_same a b s None is = sym (any_same nodes v a.lines b.lines s.lines) ∙ is
+  row_if_same a b s (Some row) is =
+      (sym (any_same nodes v a.lines b.lines s.lines) ∙ is.0, row_same a b s row is.1)
+
+  asked : KeptPackage → Bool
+  asked = is_asked nodes v
+
+  one_more : (table : List KeptPackage) (kept : KeptPackage) (b : Bool) → asked kept ≡ b →
+      filter asked (table ++ kept ∷ []) ≡ filter asked table ++ cond b (kept ∷ []) []
+  one_more table kept b e =
+      filter-append asked table (kept ∷ []) ∙ ap (λ t. filter asked table ++ cond t (kept ∷ []) []) e
+
+  pub none_more : (table : List KeptPackage) (kept : KeptPackage) (rows : List RowRecord) →
+      AreRowsFor admits nodes v candidates table rows → IsRowIf admits nodes v candidates kept None →
+      AreRowsFor admits nodes v candidates (table ++ kept ∷ []) rows
+  none_more table kept rows are is =
+      subst (λ l. AllZip (IsRowFor admits nodes v candidates) l rows)
+      (sym (one_more table kept false is ∙ append-nil (filter asked table))) are
+
+  pub row_more : (table : List KeptPackage) (kept : KeptPackage) (rows : List RowRecord) (row : RowRecord) →
+      AreRowsFor admits nodes v candidates table rows → IsRowIf admits nodes v candidates kept (Some row) →
+      AreRowsFor admits nodes v candidates (table ++ kept ∷ []) (rows ++ row ∷ [])
+  row_more table kept rows row are is =
+      zip_pushed (IsRowFor admits nodes v candidates) (filter asked table) (filter asked (table ++ kept ∷ [])) rows
+      (rows ++ row ∷ []) kept row (one_more table kept true is.0) refl are is.1
+
+-- ---- tests
+
+set_tests : (nodes : List NodeRecord) (v : Valuation) (candidates : List Candidate) (table : List KeptPackage) (kept : KeptPackage) →
+    most_tests_of nodes v candidates (table ++ kept ∷ [])
+    ≡ most_tests_of nodes v candidates table + most_tests (kept_asked nodes v kept.lines) (own_candidates candidates kept.name)
+set_tests nodes v candidates [] kept = omega arith
+set_tests nodes v candidates (p ∷ table) kept = let rest = set_tests nodes v candidates table kept in omega arith
+
+tests_set : (packages : List Package) (i k : ℕ) (kept new : Package) → i < length packages → kept ≡ get_or packages i kept →
+    tests_of (package_record new).lines ≤ tests_of (package_record kept).lines + k →
+    all_tests (kept_records (set packages i new)) ≤ all_tests (kept_records packages) + k
+tests_set [] i k kept new within is le = absurd (omega arith)
+tests_set (p ∷ packages) zero k kept new within is le =
+    let few = subst (λ q. tests_of (package_record new).lines ≤ tests_of (package_record q).lines + k) is le in
+    omega arith
+tests_set (p ∷ packages) (suc i) k kept new within is le =
+    let rest = tests_set packages i k kept new (omega arith) is le in
+    omega arith
+
+same_set : (packages : List Package) (i : ℕ) (kept new : Package) → i < length packages → kept ≡ get_or packages i kept →
+    SamePackage (package_record new) (package_record kept) → AllZip SamePackage (kept_records (set packages i new)) (kept_records packages)
+same_set [] i kept new within is same = absurd (omega arith)
+same_set (p ∷ packages) zero kept new within is same =
+    (subst (λ q. SamePackage (package_record new) (package_record q)) is same, all_same (kept_records packages))
+same_set (p ∷ packages) (suc i) kept new within is same =
+    (same_package (package_record p), same_set packages i kept new (omega arith) is same)
+
+-- what a package was at first
+was : (now old : List Package) (i : ℕ) (kept first : Package) → AllZip SamePackage (kept_records now) (kept_records old) →
+    i < length now → kept ≡ get_or now i kept → first ≡ get_or old i first → SamePackage (package_record kept) (package_record first)
+was [] old i kept first same within is at = absurd (omega arith)
+was (p ∷ now) [] i kept first same within is at = absurd same
+was (p ∷ now) (q ∷ old) zero kept first same within is at =
+    subst (λ a. SamePackage (package_record a) (package_record first)) (sym is)
+    (subst (λ b. SamePackage (package_record p) (package_record b)) (sym at) same.0)
+was (p ∷ now) (q ∷ old) (suc i) kept first same within is at = was now old i kept first same.1 (omega arith) is at
+
+as_long : (now old : List Package) → AllZip SamePackage (kept_records now) (kept_records old) → length now ≡ length old
+as_long [] [] same = refl
+as_long [] (q ∷ old) same = absurd same
+as_long (p ∷ now) [] same = absurd same
+as_long (p ∷ now) (q ∷ old) same = ap suc (as_long now old same.1)
+
+most_front : (nodes : List NodeRecord) (v : Valuation) (candidates : List Candidate) (packages : List Package) (i : ℕ) →
+    most_tests_of nodes v candidates (kept_records (take i packages)) ≤ most_tests_of nodes v candidates (kept_records packages)
+most_front nodes v candidates packages zero = omega arith
+most_front nodes v candidates [] (suc i) = omega arith
+most_front nodes v candidates (p ∷ packages) (suc i) = let rest = most_front nodes v candidates packages i in omega arith
+
+-- ---- the loop
+
+module _ (nodes : List NodeRecord) (v : Valuation) (candidates : List Candidate) (old : List Package) where
+  -- the packages are as they were, and at most so many tests more than the first i take
+  pub record AreAnswered (now : List Package) (i : ℕ) : Type 0 where
+    pub same : AllZip SamePackage (kept_records now) (kept_records old)
+    pub tests : all_tests (kept_records now)
+        ≤ all_tests (kept_records old) + most_tests_of nodes v candidates (kept_records (take i old))
+
+  pub none_answered : AreAnswered old 0
+  none_answered = record { same = all_same (kept_records old); tests = omega arith }
+
+  module _ (now : List Package) (i : ℕ) (kept : Package) (so_far : AreAnswered now i) (within : i < length now)
+      (is : kept ≡ get_or now i kept) where
+    first : Package
+    first = get_or old i kept
+
+    inside : i < length old
+    inside = let long = as_long now old so_far.same in omega arith
+
+    first_is : first ≡ get_or old i first
+    first_is = get_or_default old i kept first inside
+
+    pub was_here : SamePackage (package_record kept) (package_record first)
+    was_here = was now old i kept first so_far.same within is first_is
+
+    pub taken : kept_records (take (i + 1) old) ≡ kept_records (take i old) ++ package_record first ∷ []
+    taken =
+        ap kept_records (take_more old i first inside ∙ ap (λ y. take i old ++ y ∷ []) (sym first_is))
+        ∙ map-append package_record (take i old) (first ∷ [])
+
+    module _ (new : Package) (same : SamePackage (package_record new) (package_record kept))
+        (tests : tests_of (package_record new).lines ≤ tests_of (package_record kept).lines
+        + most_tests (kept_asked nodes v (package_record kept).lines) (own_candidates candidates kept.name)) where
+      pub next_answered : AreAnswered (set now i new) (i + 1)
+      next_answered =
+          let most : List KeptPackage → ℕ = most_tests_of nodes v candidates in
+          let his = most_tests (kept_asked nodes v (package_record kept).lines) (own_candidates candidates kept.name) in
+          let here : his ≡ most_tests (kept_asked nodes v (package_record first).lines) (own_candidates candidates first.name) =
+          (λ j. most_tests (asked_same nodes v (package_record kept).lines (package_record first).lines was_here.lines j)
+          (own_candidates candidates (was_here.name j))) in
+          let sum = ap most taken ∙ set_tests nodes v candidates (kept_records (take i old)) (package_record first) in
+          let more = tests_set now i his kept new within is tests in
+          let before = so_far.tests in
+          record {
+            same = packages_on (kept_records (set now i new)) (kept_records now) (kept_records old) (same_set now i kept new within is same) so_far.same;
+            tests = omega arith;
+          }
+
+      -- also where no more are looked at
+      pub answered_so_far : AllZip SamePackage (kept_records (set now i new)) (kept_records old)
+          × (all_tests (kept_records (set now i new)) ≤ all_tests (kept_records old) + most_tests_of nodes v candidates (kept_records old))
+      answered_so_far =
+          let next = next_answered in
+          let all = most_front nodes v candidates old (i + 1) in
+          let few = next.tests in
+          (next.same, omega arith)

@@ -1,0 +1,231 @@
+-- A case by the numbers of its lines.
+use Rattle.std.proofs.Common.{◌≡◌, ◌∙◌, ◌<◌, ◌≤◌, ◌+◌, ◌||◌, ◌⊎◌, ℕ, zero, suc, Bool, true, false, List, [], ◌∷◌, map, length, get_or, drop, refl, sym, ap, subst, arith, Less, Equal, Greater, inl, inr, true≢false}
+use Rattle.std.proofs.lemmas.Bool.{cases_Bool}
+use Rattle.std.proofs.lemmas.List.{length-map}
+use Rattle.std.proofs.lemmas.List.Sorted.{searchable_from_sorted}
+use Rattle.std.specs.List.{list_any, AllZip, AllByRecursion}
+use Rattle.std.specs.List.Sorted.{IsStrictlySortedBy, IsSortedBy, IsNonDecreasingBy, IsPartitionPoint}
+use Rattle.std.specs.Cmp.{nat_cmp_total, tied_itself}
+use Rattle.std.specs.Ordering.{nat_cmp, is_lt, ordering_index, ordering_then, ordering_reverse}
+use Rattle.std.specs.declared.cmp.Ordering.{Ordering}
+use Rattle.pep508_diagram.specs.Question.{Valuation}
+use Rattle.pep508_tree.specs.Tree.{Tree}
+use Rattle.pep508_tree.specs.Meaning.{NodeRecord, holds}
+use Rattle.pep508_cases.specs.Cases.{Marks, Marking, same_marks, marks_cmp, marks_of, sets_of}
+use Rattle.pep508_cases.proofs.Counting.{marks_total}
+use Rattle.pep508_cases.proofs.Marks.{marks_is}
+use Rattle.reqtable_cases.specs.Lines.{marked}
+use Rattle.reqtable_cases.specs.Usable.{IsRangeOf}
+use Rattle.reqtable_table.specs.declared.table.Case.{Case}
+use Rattle.reqtable_table.specs.declared.table.Package.{Package}
+use Rattle.reqtable_table.specs.declared.kept.TableLine.{TableLine}
+use Rattle.reqtable_table.specs.Answers.{kept_marks}
+use Rattle.reqtable_table.specs.Cases.{IsCaseOf, HasItsCases}
+use Rattle.reqtable_table.specs.Casing.{case_record, HaveMarks}
+use Rattle.reqtable_table.specs.Choosing.{case_asks, AreApplying}
+use Rattle.reqtable_table.specs.Kept.{KeptLine, KeptCase, KeptPackage, kept_front}
+use Rattle.reqtable_table.specs.KeptLines.{line_record, package_record}
+use Rattle.reqtable_table.specs.Numbers.{numbers_cmp}
+use Rattle.reqtable_table.specs.Standing.{HasItsLines}
+use Rattle.reqtable_table.proofs.Marking.{marked_map}
+use Rattle.reqtable_table.proofs.Packages.{have_marks}
+
+-- ---- sets of lines compare as the numbers of their lines
+
+abbrev AllAbove : ℕ → List ℕ → Type 0
+AllAbove n ns = AllByRecursion (λ m. nat_cmp n m ≡ Less) ns
+
+marked_above : (n : ℕ) (marks : Marks) (ns : List ℕ) → AllAbove n ns → AllAbove n (marked marks ns)
+marked_above n [] ns h = tt
+marked_above n (true ∷ marks) [] h = tt
+marked_above n (false ∷ marks) [] h = tt
+marked_above n (true ∷ marks) (m ∷ ns) h = (h.0, marked_above n marks ns h.1)
+marked_above n (false ∷ marks) (m ∷ ns) h = marked_above n marks ns h.1
+
+comes_first : (n : ℕ) (rest ns : List ℕ) → AllAbove n ns → numbers_cmp (n ∷ rest) ns ≡ Less
+comes_first n rest [] h = refl
+comes_first n rest (m ∷ ns) h = ap (λ o. ordering_then o (numbers_cmp rest ns)) h.0
+
+comes_last : (n : ℕ) (rest ns : List ℕ) → AllAbove n ns → numbers_cmp ns (n ∷ rest) ≡ Greater
+comes_last n rest [] h = refl
+comes_last n rest (m ∷ ns) h =
+    ap (λ o. ordering_then o (numbers_cmp ns rest)) (nat_cmp_total.antisymm m n ∙ ap ordering_reverse h.0)
+
+numbers_by_marks : (ns : List ℕ) (s t : Marks) → IsStrictlySortedBy nat_cmp ns → length s ≡ length ns → length t ≡ length ns →
+    numbers_cmp (marked s ns) (marked t ns) ≡ marks_cmp s t
+unfolding IsStrictlySortedBy
+numbers_by_marks [] [] [] h a b = refl
+numbers_by_marks [] (x ∷ s) t h a b = absurd (omega arith)
+numbers_by_marks [] [] (y ∷ t) h a b = absurd (omega arith)
+numbers_by_marks (n ∷ ns) [] t h a b = absurd (omega arith)
+numbers_by_marks (n ∷ ns) (x ∷ s) [] h a b = absurd (omega arith)
+numbers_by_marks (n ∷ ns) (true ∷ s) (true ∷ t) h a b =
+    ap (λ o. ordering_then o (numbers_cmp (marked s ns) (marked t ns))) (tied_itself nat_cmp_total n)
+    ∙ numbers_by_marks ns s t h.1 (omega arith) (omega arith)
+numbers_by_marks (n ∷ ns) (true ∷ s) (false ∷ t) h a b = comes_first n (marked s ns) (marked t ns) (marked_above n t ns h.0)
+numbers_by_marks (n ∷ ns) (false ∷ s) (true ∷ t) h a b = comes_last n (marked t ns) (marked s ns) (marked_above n s ns h.0)
+numbers_by_marks (n ∷ ns) (false ∷ s) (false ∷ t) h a b = numbers_by_marks ns s t h.1 (omega arith) (omega arith)
+
+-- ---- sets
+
+marked_equal : (s t : Marks) → marks_cmp s t ≡ Equal → s ≡ t
+marked_equal [] [] e = refl
+marked_equal [] (y ∷ t) e = absurd (cc)
+marked_equal (x ∷ s) [] e = absurd (cc)
+marked_equal (true ∷ s) (true ∷ t) e = ap (λ l. true ∷ l) (marked_equal s t e)
+marked_equal (true ∷ s) (false ∷ t) e = absurd (cc)
+marked_equal (false ∷ s) (true ∷ t) e = absurd (cc)
+marked_equal (false ∷ s) (false ∷ t) e = ap (λ l. false ∷ l) (marked_equal s t e)
+
+differ : (a b : Marks) → (marks_cmp a b ≡ Equal → ⊥) → same_marks b a ≡ false
+differ a b apart = elim (cases_Bool (same_marks b a)) [
+  | inl e ↦ absurd (apart (ap (λ m. marks_cmp m b) (sym (marks_is b a e)) ∙ tied_itself marks_total b))
+  | inr e ↦ e
+]
+
+adjacent : (sets : List Marks) → IsStrictlySortedBy marks_cmp sets → (k : ℕ) (d : Marks) → suc k < length sets →
+    marks_cmp (get_or sets k d) (get_or sets (suc k) d) ≡ Less
+unfolding IsStrictlySortedBy
+adjacent [] h k d within = absurd (omega arith)
+adjacent (s ∷ []) h k d within = absurd (omega arith)
+adjacent (s ∷ (t ∷ sets)) h zero d within = h.0.0
+adjacent (s ∷ (t ∷ sets)) h (suc k) d within = adjacent (t ∷ sets) h.1 k d (omega arith)
+
+sorted : (sets : List Marks) → IsStrictlySortedBy marks_cmp sets → IsSortedBy (λ (a b : Marks). is_lt (marks_cmp a b)) sets
+sorted sets h k d low within =
+    let next : k + 1 ≡ suc k = omega arith in
+    let less = adjacent sets h k d (omega arith) in
+    ap (λ n. is_lt (marks_cmp (get_or sets n d) (get_or sets k d))) next
+    ∙ ap is_lt (marks_total.antisymm (get_or sets (suc k) d) (get_or sets k d) ∙ ap ordering_reverse less)
+
+-- a case of some lines by its set
+record IsSetOf (lines : List KeptLine) (case : KeptCase) (set : Marks) : Type 0 where
+  numbers : case.numbers ≡ map (λ (l : KeptLine). l.number) (marked set lines)
+  long : length set ≡ length lines
+  range : IsRangeOf (map kept_front (marked set lines)) case.range
+
+sets_are : (lines : List KeptLine) (cases : List KeptCase) (sets : List (Marks × Tree)) → AllZip (IsCaseOf lines) cases sets →
+    AllByRecursion (HaveMarks (length lines)) sets → AllZip (IsSetOf lines) cases (sets_of sets)
+sets_are lines [] [] h long = tt
+sets_are lines [] (set ∷ sets) h long = absurd h
+sets_are lines (case ∷ cases) [] h long = absurd h
+sets_are lines (case ∷ cases) (set ∷ sets) h long = (
+  record { numbers = h.0.numbers; long = long.0; range = h.0.range },
+  sets_are lines cases sets h.1 long.1,
+)
+
+module _ {A B C : Type 0} (R : A → B → Type 0) (f : C → A) where
+  zip_at : (xs : List C) (ys : List B) (i : ℕ) (d : C) (e : B) → AllZip R (map f xs) ys → i < length xs →
+      R (f (get_or xs i d)) (get_or ys i e)
+  zip_at [] ys i d e h within = absurd (omega arith)
+  zip_at (x ∷ xs) [] i d e h within = absurd h
+  zip_at (x ∷ xs) (y ∷ ys) zero d e h within = h.0
+  zip_at (x ∷ xs) (y ∷ ys) (suc i) d e h within = zip_at xs ys i d e h.1 (omega arith)
+
+  zip_long : (xs : List C) (ys : List B) → AllZip R (map f xs) ys → length xs ≡ length ys
+  zip_long [] [] h = refl
+  zip_long [] (y ∷ ys) h = absurd h
+  zip_long (x ∷ xs) [] h = absurd h
+  zip_long (x ∷ xs) (y ∷ ys) h = ap suc (zip_long xs ys h.1)
+
+none_same : (marks : Marks) (cases : List Case) (sets : List Marks) → length cases ≡ length sets →
+    ((k : ℕ) (d : Case) → k < length cases → same_marks marks (get_or sets k []) ≡ false) →
+    list_any (same_marks marks) sets ≡ false
+none_same marks cases [] e h = refl
+none_same marks [] (set ∷ sets) e h = absurd (omega arith)
+none_same marks (case ∷ cases) (set ∷ sets) e h =
+    let here = h 0 case (omega arith) in
+    let rest = none_same marks cases sets (omega arith) (λ k d within. h (suc k) d (omega arith)) in
+    λ i. here i || rest i
+
+marks_of_lines : (nodes : List NodeRecord) (v : Valuation) (lines : List KeptLine) →
+    marks_of nodes (map (λ (l : KeptLine). l.marker) lines) v ≡ kept_marks nodes v lines
+marks_of_lines nodes v [] = refl
+marks_of_lines nodes v (line ∷ lines) = ap (λ l. holds nodes line.marker v ∷ l) (marks_of_lines nodes v lines)
+
+either_side : (k i : ℕ) → (k < i) ⊎ (i ≤ k)
+either_side k zero = inr (omega arith)
+either_side zero (suc i) = inl (omega arith)
+either_side (suc k) (suc i) = elim (either_side k i) [
+  | inl e ↦ inl (omega arith)
+  | inr e ↦ inr (omega arith)
+]
+
+less_apart : (a b : Marks) → marks_cmp a b ≡ Less → marks_cmp a b ≡ Equal → ⊥
+less_apart a b less equal = absurd (cc)
+
+greater_apart : (a b : Marks) → marks_cmp a b ≡ Greater → marks_cmp a b ≡ Equal → ⊥
+greater_apart a b greater equal = absurd (cc)
+
+-- ---- the case of the lines that apply
+
+module _ (kept : Package) (marks : Marks) (stands : HasItsLines (package_record kept))
+    (applying : AreApplying marks (package_record kept)) where
+  abbrev lines : List KeptLine
+  lines = map line_record kept.lines.items
+
+  abbrev pub numbers_at : List ℕ
+  numbers_at = map (λ (l : KeptLine). l.number) (marked marks lines)
+
+  abbrev sets : List Marks
+  sets = sets_of applying.has.sets
+
+  abbrev cases : List Case
+  cases = kept.cases.items
+
+  pub marks_long : length marks ≡ length lines
+  marks_long = ap length applying.are ∙ length-map lines (λ (l : KeptLine). holds applying.nodes l.marker applying.valuation)
+
+  are : AllZip (IsSetOf lines) (map case_record cases) sets
+  are =
+      let markers = map (λ (l : KeptLine). l.marker) lines in
+      sets_are lines (map case_record cases) applying.has.sets applying.has.each
+      (have_marks applying.nodes applying.nodes markers (length lines) applying.has.sets
+      (length-map lines (λ (l : KeptLine). l.marker)) applying.has.are.each)
+
+  order_at : (i : ℕ) (d : Case) → i < length cases →
+      numbers_cmp (get_or cases i d).lines.items numbers_at ≡ marks_cmp (get_or sets i []) marks
+  order_at i d within =
+      let number : KeptLine → ℕ = λ l. l.number in
+      let set = get_or sets i [] in
+      let is = zip_at (IsSetOf lines) case_record cases sets i d [] are within in
+      let long = length-map lines number in
+      let own = marks_long in
+      let his = is.long in
+      ap (λ l. numbers_cmp l numbers_at) (is.numbers ∙ sym (marked_map number set lines))
+      ∙ ap (numbers_cmp (marked set (map number lines))) (sym (marked_map number marks lines))
+      ∙ numbers_by_marks (map number lines) set marks stands.rising (omega arith) (omega arith)
+
+  cases_long : length cases ≡ length sets
+  cases_long = zip_long (IsSetOf lines) case_record cases sets are
+
+  pub searchable : IsNonDecreasingBy (λ (case : Case). ordering_index (numbers_cmp case.lines.items numbers_at)) cases
+  searchable i j d low within =
+      let long = cases_long in
+      let rises = searchable_from_sorted marks_total (λ (m : Marks). m) sets marks (sorted sets applying.has.are.rising) in
+      subst (λ o. ordering_index o ≤ ordering_index (numbers_cmp (get_or cases j d).lines.items numbers_at))
+      (sym (order_at i d (omega arith)))
+      (subst (λ o. ordering_index (marks_cmp (get_or sets i []) marks) ≤ ordering_index o) (sym (order_at j d within))
+      (rises i j [] low (omega arith)))
+
+  pub found_range : (place : ℕ) → place < length cases →
+      ((d : Case) → numbers_cmp (get_or cases place d).lines.items numbers_at ≡ Equal) →
+      (other : Case) → IsRangeOf (case_asks marks lines) (get_or cases place other).range
+  found_range place within equal other =
+      let is = zip_at (IsSetOf lines) case_record cases sets place other [] are within in
+      let same = marked_equal (get_or sets place []) marks (sym (order_at place other within) ∙ equal other) in
+      subst (λ m. IsRangeOf (map kept_front (marked m lines)) (get_or cases place other).range) same is.range
+
+  pub is_there : (i : ℕ) → IsPartitionPoint (λ (case : Case). numbers_cmp case.lines.items numbers_at ≡ Less)
+      (λ case. numbers_cmp case.lines.items numbers_at ≡ Greater) cases i → ⊥
+  is_there i parted =
+      let there : list_any (same_marks marks) sets ≡ true =
+      ap (λ m. list_any (same_marks m) sets)
+      (applying.are ∙ sym (marks_of_lines applying.nodes applying.valuation lines))
+      ∙ applying.has.are.all applying.valuation in
+      true≢false (sym there ∙ none_same marks cases sets cases_long (λ k d within. elim (either_side k i) [
+        | inl less ↦ differ (get_or sets k []) marks
+            (less_apart (get_or sets k []) marks (sym (order_at k d within) ∙ parted.0 k d (omega arith) less))
+        | inr not_less ↦ differ (get_or sets k []) marks
+            (greater_apart (get_or sets k []) marks (sym (order_at k d within) ∙ parted.1 k d not_less within))
+      ]))

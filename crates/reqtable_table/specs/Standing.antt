@@ -1,0 +1,31 @@
+-- What holds of each table, whichever text it was built of.
+use Rattle.std.specs.Prelude.{◌≡◌, true, List, [], map}
+use Rattle.std.specs.List.{list_any, AllByRecursion}
+use Rattle.std.specs.List.Sorted.{IsStrictlySortedBy}
+use Rattle.std.specs.Ordering.{nat_cmp}
+use Rattle.std.specs.Cmp.Lexicographic.{slice_cmp}
+use Rattle.pep440_version.specs.Changes.{is_prerelease}
+use Rattle.pep440_specifier.specs.Building.{IsBuilt}
+use Rattle.pep440_range.specs.Agreement.{IsSaid}
+use Rattle.reqtable_table.specs.Kept.{KeptLine, KeptPackage, names_in, is_bound}
+
+-- a line's flags are those of its specifiers, and one of a URL has none
+pub record HasItsFlags (line : KeptLine) : Type 0 where
+  pub bounded : line.bounded ≡ list_any (λ s. is_bound s.operator) line.specifiers.members
+  pub prerelease : line.prerelease ≡ list_any (λ s. is_prerelease s.version) line.specifiers.members
+  pub direct : line.url ≡ true → line.specifiers.members ≡ []
+
+-- a line's specifiers are as texts say them
+abbrev pub IsOfTexts : KeptLine → Type 0
+IsOfTexts line = AllByRecursion (λ s. IsBuilt s × IsSaid s.version) line.specifiers.members
+
+-- a package's lines, in the order of their text
+pub record HasItsLines (kept : KeptPackage) : Type 0 where
+  pub rising : IsStrictlySortedBy nat_cmp (map (λ line. line.number) kept.lines)
+  pub flags : AllByRecursion HasItsFlags kept.lines
+  pub read : AllByRecursion IsOfTexts kept.lines
+
+-- packages in the order of their names' bytes
+pub record IsTable (table : List KeptPackage) : Type 0 where
+  pub rising : IsStrictlySortedBy (slice_cmp nat_cmp) (names_in table)
+  pub lines : AllByRecursion HasItsLines table

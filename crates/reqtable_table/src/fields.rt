@@ -1,0 +1,71 @@
+use crate::kept::TableLine;
+use crate::table::{Case, Package, Table};
+use pep440_version::Version;
+use pep508_environment::{MarkerEnvironment, MarkerEnvironmentBuilder};
+use pep508_tree::Interner;
+use pep508_url::Vars;
+use reqtable_answer::Admission;
+use reqtable_requirements::Requirements;
+use reqtable_text::Candidates;
+use std::alloc::Global;
+use std::fmt;
+use std::test::Fail;
+
+const LINES: &str = "foo[x]>=1a1,<3 ; os_name == 'posix'\nfoo==2\nbar @ ./c\n";
+
+/// What a table keeps of a package; all its fields are named here, so that one more is seen.
+fn package_shown(alloc: Global, package: Package) -> Result<String, fmt::Error> {
+    let Package { name, cases, lines } = package;
+    let mut text = format!(in alloc; "{name}\n")?;
+    for line in lines {
+        text.push_str(line_shown(alloc, line)?.as_str())?;
+    }
+    for case in cases {
+        text.push_str(case_shown(alloc, case)?.as_str())?;
+    }
+    Ok(text)
+}
+
+fn line_shown(alloc: Global, line: TableLine) -> Result<String, fmt::Error> {
+    let TableLine {
+        number,
+        extras,
+        marker,
+        is_url,
+        is_bounded,
+        names_prerelease,
+        specifiers,
+    } = line;
+    let always = marker.is_true();
+    let extras = extras.len();
+    let tests = specifiers.tests();
+    Ok(format!(in alloc;
+        "line {number}: {extras} {always} {is_url} {is_bounded} {names_prerelease} {tests}\n"
+    )?)
+}
+
+fn case_shown(alloc: Global, case: Case) -> Result<String, fmt::Error> {
+    let Case { lines, tree, range } = case;
+    let never = tree.is_false();
+    let ranged = range.is_some();
+    Ok(format!(in alloc; "case {lines:?}: {never} {ranged}\n")?)
+}
+
+#[test]
+fn a_table_keeps_these_fields(rt: HostRuntime) -> Result<(), Fail> {
+    let alloc = rt.alloc();
+    let vars = Vars::new(alloc, &[], "/w")?;
+    let mut interner = Interner::new(alloc);
+    let read = Requirements::parse(alloc, LINES.as_bytes(), &mut interner, &vars);
+    let table = Table::build(alloc, read.expect(&rt, "lines"), &mut interner, 2);
+    let Table { packages } = table.expect(&rt, "a table");
+    let mut text = String::new(alloc);
+    for package in packages {
+        text.push_str(package_shown(alloc, package)?.as_str())?;
+    }
+    let want = "bar\nline 3: 0 true true false false 0\ncase [3]: false false\n\
+        foo\nline 1: 1 false false true true 0\nline 2: 0 true false false false 0\n\
+        case [1, 2]: false true\ncase [2]: false true\n";
+    assert_eq!(rt; text.as_str(), want);
+    Ok(())
+}

@@ -1,0 +1,152 @@
+//! The row of a package, where a line of it applies.
+
+ghost use Rattle.std.specs.Prelude.{◌≡◌, ◌≤◌, ◌<◌, ◌+◌, ℕ, length, map, option_map, All, IfOk, IfSome};
+ghost use Rattle.std.specs.List.{list_any, AllZip, AllByRecursion};
+ghost use Rattle.pep440_range.specs.Agreement.{IsSaid};
+ghost use Rattle.reqtable_text.specs.Candidates.{HavePrintableVersions};
+ghost use Rattle.reqtable_text.specs.Ordered.{placed_seen, AreInOrder};
+ghost use Rattle.reqtable_answer.specs.Admission.{Admits, AnswersBy};
+ghost use Rattle.reqtable_answer.specs.Rows.{row_seen, IsTakenBelow};
+ghost use Rattle.reqtable_cases.specs.Lines.{marked};
+ghost use Rattle.reqtable_cases.specs.Usable.{IsRangeOf};
+ghost use Rattle.reqtable_table.specs.Answers.{own_candidates, kept_asked, most_tests, most_tests_of};
+ghost use Rattle.reqtable_table.specs.Answers.{IsRowIf, AreRowsFor, SameLine, SamePackage};
+ghost use Rattle.reqtable_table.specs.Cases.{HasItsCases};
+ghost use Rattle.reqtable_table.specs.Choosing.{case_asks, outcome_in_order};
+ghost use Rattle.reqtable_table.specs.Counts.{tests_of, all_tests};
+ghost use Rattle.reqtable_table.specs.KeptLines.{line_record, package_record};
+ghost use Rattle.reqtable_table.specs.Standing.{HasItsFlags, IsOfTexts, HasItsLines};
+
+use crate::asked::{case_in, extras_of, marks_in};
+use crate::choosing::chosen;
+use crate::kept::TableLine;
+use crate::setting::Setting;
+use crate::table::Package;
+use pep440_version::Version;
+use reqtable_answer::{Admission, Outcome, Row};
+use reqtable_text::{Ordered, Placed};
+use std::alloc::{AllocError, Global};
+use version_ranges::Ranges;
+
+/// The rows of the packages of which a line applies.
+pub(crate) fn rows_of<F: Fn(&Version, bool) -> bool>(
+    alloc: Global,
+    packages: &mut [Package],
+    setting: &Setting<'_>,
+    ordered: &Ordered<'_>,
+    admission: &Admission<F>,
+) -> Result<Vec<Row>, AllocError>
+    requires callable { F.IsAlwaysCallable admission.now }
+    requires lines { AllByRecursion HasItsLines (map package_record packages.old) }
+    requires cases { AllByRecursion (HasItsCases setting.now.nodes) (map package_record packages.old) }
+    requires in_order { AreInOrder ordered.now.candidates ordered.now.placed }
+    requires printable { HavePrintableVersions ordered.now.candidates }
+    ensures rows { IfOk result (λ rows. (admits : Admits) → AnswersBy (F.post admission.now) admits →
+        AreRowsFor admits setting.now.nodes setting.now.valuation ordered.now.candidates
+        (map package_record packages.old) (map row_seen rows.items)) }
+    ensures places { IfOk result (λ rows.
+        All (λ row. IsTakenBelow (length ordered.now.candidates) row.outcome) rows.items) }
+    ensures kept { AllZip SamePackage (map package_record packages.new) (map package_record packages.old) }
+    ensures tests { all_tests (map package_record packages.new) ≤ all_tests (map package_record packages.old)
+        + most_tests_of setting.now.nodes setting.now.valuation ordered.now.candidates
+        (map package_record packages.old) }
+{
+    let mut rows = Vec::new(alloc);
+    for kept in packages.iter_mut() {
+        match row_of(alloc, kept, setting, ordered, admission) {
+            Ok(Some(row)) => rows.push(row)?,
+            Ok(None) => {}
+            Err(error) => return Err(error),
+        }
+    }
+    Ok(rows)
+}
+
+/// The row of a package, where a line of it applies.
+fn row_of<F: Fn(&Version, bool) -> bool>(
+    alloc: Global,
+    kept: &mut Package,
+    setting: &Setting<'_>,
+    ordered: &Ordered<'_>,
+    admission: &Admission<F>,
+) -> Result<Option<Row>, AllocError>
+    requires callable { F.IsAlwaysCallable admission.now }
+    requires lines { HasItsLines (package_record kept.old) }
+    requires cases { HasItsCases setting.now.nodes (package_record kept.old) }
+    requires in_order { AreInOrder ordered.now.candidates ordered.now.placed }
+    requires printable { HavePrintableVersions ordered.now.candidates }
+    ensures row { IfOk result (λ row. (admits : Admits) → AnswersBy (F.post admission.now) admits →
+        IsRowIf admits setting.now.nodes setting.now.valuation ordered.now.candidates (package_record kept.old)
+        (option_map row_seen row)) }
+    ensures below { IfOk result (λ row.
+        IfSome row (λ row. IsTakenBelow (length ordered.now.candidates) row.outcome)) }
+    ensures same { SamePackage (package_record kept.new) (package_record kept.old) }
+    ensures tests { tests_of (map line_record kept.new.lines.items) ≤ tests_of (map line_record kept.old.lines.items)
+        + most_tests (kept_asked setting.now.nodes setting.now.valuation (map line_record kept.old.lines.items))
+        (own_candidates ordered.now.candidates kept.old.name) }
+{
+    let marks = marks_in(alloc, &kept.lines, setting)?;
+    if !marks.contains(&true) {
+        return Ok(None);
+    }
+    let place = case_in(alloc, kept, &marks)?;
+    let name = kept.name.try_clone(alloc)?;
+    let extras = extras_of(alloc, &kept.lines, &marks)?;
+    let own = ordered.run_of(&kept.name);
+    let range = &kept.cases[place].range;
+    match outcome(alloc, &mut kept.lines, &marks, range, own, admission) {
+        Ok(outcome) => Ok(Some(Row {
+            package: name,
+            extras,
+            outcome,
+        })),
+        Err(error) => Err(error),
+    }
+}
+
+/// What becomes of a package by its marked lines, whose case has this range.
+fn outcome<F: Fn(&Version, bool) -> bool>(
+    alloc: Global,
+    lines: &mut [TableLine],
+    marks: &[bool],
+    range: &Option<Ranges<Version>>,
+    own: &[Placed<'_>],
+    admission: &Admission<F>,
+) -> Result<Outcome, AllocError>
+    requires callable { F.IsAlwaysCallable admission.now }
+    requires marks { length marks.now ≡ length lines.old }
+    requires ranged { IsRangeOf (case_asks marks.now (map line_record lines.old)) range.now }
+    requires flags { AllByRecursion HasItsFlags (map line_record lines.old) }
+    requires read { AllByRecursion IsOfTexts (map line_record lines.old) }
+    requires said { AllByRecursion (λ c. IsSaid c.1.version) (map placed_seen own.now) }
+    ensures outcome { IfOk result (λ outcome. (admits : Admits) → AnswersBy (F.post admission.now) admits →
+        outcome ≡ outcome_in_order admits (case_asks marks.now (map line_record lines.old))
+        (map placed_seen own.now)) }
+    ensures below { IfOk result (λ outcome. (count : ℕ) →
+        AllByRecursion (λ c. c.0 < count) (map placed_seen own.now) → IsTakenBelow count outcome) }
+    ensures kept { AllZip SameLine (map line_record lines.new) (map line_record lines.old) }
+    ensures tests { tests_of (map line_record lines.new) ≤ tests_of (map line_record lines.old)
+        + most_tests (case_asks marks.now (map line_record lines.old)) (map placed_seen own.now) }
+{
+    if any_url(lines, marks) {
+        return Ok(Outcome::Direct);
+    }
+    match chosen(alloc, lines, marks, range, own, admission) {
+        Ok(Some(place)) => Ok(Outcome::Taken(place)),
+        Ok(None) => Ok(Outcome::Nothing),
+        Err(error) => Err(error),
+    }
+}
+
+/// Whether a marked line asks for a URL.
+fn any_url(lines: &[TableLine], marks: &[bool]) -> bool
+    requires { length marks.now ≡ length lines.now }
+    ensures { result ≡ list_any (λ line. line.is_url) (marked marks.now lines.now) }
+{
+    for (index, line) in lines.iter().enumerate() {
+        if marks[index] && line.is_url {
+            return true;
+        }
+    }
+    false
+}
