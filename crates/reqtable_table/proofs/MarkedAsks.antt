@@ -3,17 +3,20 @@ use Rattle.std.proofs.Common.{◌≡◌, ◌∙◌, ◌≤◌, ◌<◌, ◌+◌,
 use Rattle.std.proofs.lemmas.List.{length-append, length-map, get_or-map, get_or_default, take_all}
 use Rattle.std.proofs.lemmas.List.Concat.{flat_map-append}
 use Rattle.std.proofs.lemmas.List.Folds.{list_all-append, list_any-append}
+use Rattle.std.specs.Borrow.{Bor}
 use Rattle.std.specs.List.{list_any, list_all, AllZip}
+use Rattle.std.specs.Str.{bytes_eq}
 use Rattle.pep440_version.specs.Record.{VersionRecord}
+use Rattle.pep440_specifier.specs.Matching.{SpecifierRecord}
 use Rattle.pep508_requirement_text.specs.FrontReading.{Front}
-use Rattle.reqtable_answer.specs.Asks.{specifiers_of, ask_takes}
+use Rattle.reqtable_answer.specs.Asks.{specifiers_of, is_url, has_url, has_extra, ask_takes}
 use Rattle.reqtable_answer.proofs.Tests.{any_mapped}
 use Rattle.reqtable_cases.specs.Lines.{marked}
 use Rattle.reqtable_cases.specs.Usable.{members_asked}
 use Rattle.reqtable_table.specs.declared.kept.TableLine.{TableLine}
 use Rattle.reqtable_table.specs.Answers.{SameLine}
 use Rattle.reqtable_table.specs.Choosing.{case_asks, AskedMore}
-use Rattle.reqtable_table.specs.Kept.{KeptLine, kept_front}
+use Rattle.reqtable_table.specs.Kept.{KeptLine, kept_source, kept_front}
 use Rattle.reqtable_table.specs.KeptLines.{line_record}
 use Rattle.reqtable_table.proofs.AskedLines.{records, same_fronts, none_more, more_on, more_within, more_at}
 use Rattle.reqtable_table.proofs.Marking.{marked_more, marked_map}
@@ -117,6 +120,30 @@ pub flag_seen : (flag : KeptLine → Bool) (marks : List Bool) (lines : List Tab
 flag_seen flag marks lines =
     sym (ap (list_any flag) (marked_map line_record marks lines)
     ∙ any_mapped flag line_record (marked marks lines))
+
+url_by : (b : Bool) (members : List SpecifierRecord) → is_url (kept_source b members) ≡ b
+url_by true members = refl
+url_by false members = refl
+
+-- whether marked lines ask for a URL
+pub urls_asked : (marks : List Bool) (lines : List TableLine) →
+    list_any (λ line. line.is_url) (marked marks lines) ≡ list_any has_url (case_asks marks (records lines))
+urls_asked marks lines =
+    flag_seen (λ l. l.url) marks lines
+    ∙ sym (any_mapped has_url kept_front (marked marks (records lines))
+    ∙ (λ i. list_any (λ (l : KeptLine). url_by l.url l.specifiers.members i) (marked marks (records lines))))
+
+-- and for an extra, by the lists of theirs
+pub extras_asked : (extra : List ℕ) (marks : List Bool) (lines : List TableLine) (lists : List (Bor (List (List ℕ)))) →
+    map (λ list. list.now) lists ≡ map (λ (line : TableLine). line.extras.items) (marked marks lines) →
+    list_any (λ list. list_any (bytes_eq extra) list.now) lists ≡ list_any (has_extra extra) (case_asks marks (records lines))
+extras_asked extra marks lines lists e =
+    let own : KeptLine → Bool = λ l. list_any (bytes_eq extra) l.extras in
+    sym (any_mapped (list_any (bytes_eq extra)) (λ (list : Bor (List (List ℕ))). list.now) lists)
+    ∙ ap (list_any (list_any (bytes_eq extra))) e
+    ∙ any_mapped (list_any (bytes_eq extra)) (λ (line : TableLine). line.extras.items) (marked marks lines)
+    ∙ flag_seen own marks lines
+    ∙ sym (any_mapped (has_extra extra) kept_front (marked marks (records lines)))
 
 -- the first so many were asked, and those that are marked take the version
 pub record AreAsked (version : VersionRecord) (marks : List Bool) (lines now : List TableLine)

@@ -6,17 +6,21 @@ use Rattle.std.specs.List.{list_any, AllZip, AllByRecursion}
 use Rattle.pep508_diagram.specs.Question.{Valuation}
 use Rattle.pep508_tree.specs.Meaning.{NodeRecord, holds}
 use Rattle.reqtable_text.specs.declared.candidates.Candidate.{Candidate}
+use Rattle.reqtable_text.specs.Ordered.{AreInOrder}
 use Rattle.reqtable_answer.specs.Admission.{Admits}
 use Rattle.reqtable_answer.specs.Answer.{RowRecord, IsRowOf}
+use Rattle.reqtable_answer.specs.Asks.{is_candidate}
 use Rattle.reqtable_cases.specs.Lines.{marked}
 use Rattle.reqtable_table.specs.declared.table.Package.{Package}
 use Rattle.reqtable_table.specs.Answers.{kept_marks, kept_asked, is_asked, own_candidates, most_tests, most_tests_of}
-use Rattle.reqtable_table.specs.Answers.{IsRowFor, IsRowIf, AreRowsFor, SameLine, SamePackage}
+use Rattle.reqtable_table.specs.Answers.{IsRowFor, AreRowsFor, SameLine, SamePackage}
+use Rattle.reqtable_table.specs.Choosing.{outcome_in_order, IsRowInOrder}
 use Rattle.reqtable_table.specs.Counts.{tests_of, all_tests}
 use Rattle.reqtable_table.specs.Kept.{KeptLine, KeptPackage, kept_front}
 use Rattle.reqtable_table.specs.KeptLines.{package_record}
 use Rattle.reqtable_table.proofs.AskedLines.{same_fronts}
 use Rattle.reqtable_table.proofs.Marking.{marked_map}
+use Rattle.reqtable_table.proofs.Own.{run_outcome, run_tests, run_said, run_below}
 use Rattle.reqtable_table.proofs.Packages.{zip_pushed}
 use Rattle.reqtable_table.proofs.Same.{all_same, same_package, packages_on, marks_same}
 
@@ -43,6 +47,11 @@ any_same nodes v (x ∷ a) (y ∷ b) s =
     λ i. cond (here i) true (rest i)
 
 module _ (admits : Admits) (nodes : List NodeRecord) (v : Valuation) (candidates : List Candidate) where
+  -- the row of a package of which a line applies
+  abbrev pub IsRowIf : KeptPackage → Option RowRecord → Type 0
+  IsRowIf kept None = is_asked nodes v kept ≡ false
+  IsRowIf kept (Some row) = (is_asked nodes v kept ≡ true) × IsRowFor admits nodes v candidates kept row
+
   row_same : (a b : KeptPackage) → SamePackage a b → (row : RowRecord) → IsRowFor admits nodes v candidates a row →
       IsRowFor admits nodes v candidates b row
   row_same a b s row is = record {
@@ -52,11 +61,25 @@ module _ (admits : Admits) (nodes : List NodeRecord) (v : Valuation) (candidates
         (subst (λ asks. IsRowOf admits asks (own_candidates candidates a.name) row) (asked_same nodes v a.lines b.lines s.lines) is.its);
   }
 
-  pub row_if_same : (a b : KeptPackage) → SamePackage a b → (row : Option RowRecord) → IsRowIf admits nodes v candidates a row →
-      IsRowIf admits nodes v candidates b row
+  pub row_if_same : (a b : KeptPackage) → SamePackage a b → (row : Option RowRecord) → IsRowIf a row → IsRowIf b row
   row_if_same a b s None is = sym (any_same nodes v a.lines b.lines s.lines) ∙ is
   row_if_same a b s (Some row) is =
       (sym (any_same nodes v a.lines b.lines s.lines) ∙ is.0, row_same a b s row is.1)
+
+  -- by the package's candidates in order
+  pub row_in_order : (placed : List (ℕ × Candidate)) → AreInOrder candidates placed → (kept : KeptPackage) (run : List (ℕ × Candidate)) →
+      run ≡ filter (is_candidate kept.name) placed → (row : Option RowRecord) → IsRowInOrder admits nodes v run kept row → IsRowIf kept row
+  row_in_order placed order kept run e None is = is
+  row_in_order placed order kept run e (Some row) is =
+      let asks = kept_asked nodes v kept.lines in
+      (is.asked, record {
+        named = is.named;
+        its = record {
+          extras_rise = is.extras_rise;
+          extras_are = is.extras_are;
+          outcome = is.outcome ∙ ap (outcome_in_order admits asks) e ∙ run_outcome candidates placed order kept.name admits asks;
+        };
+      })
 
   asked : KeptPackage → Bool
   asked = is_asked nodes v
@@ -67,14 +90,14 @@ module _ (admits : Admits) (nodes : List NodeRecord) (v : Valuation) (candidates
       filter-append asked table (kept ∷ []) ∙ ap (λ t. filter asked table ++ cond t (kept ∷ []) []) e
 
   pub none_more : (table : List KeptPackage) (kept : KeptPackage) (rows : List RowRecord) →
-      AreRowsFor admits nodes v candidates table rows → IsRowIf admits nodes v candidates kept None →
+      AreRowsFor admits nodes v candidates table rows → IsRowIf kept None →
       AreRowsFor admits nodes v candidates (table ++ kept ∷ []) rows
   none_more table kept rows are is =
       subst (λ l. AllZip (IsRowFor admits nodes v candidates) l rows)
       (sym (one_more table kept false is ∙ append-nil (filter asked table))) are
 
   pub row_more : (table : List KeptPackage) (kept : KeptPackage) (rows : List RowRecord) (row : RowRecord) →
-      AreRowsFor admits nodes v candidates table rows → IsRowIf admits nodes v candidates kept (Some row) →
+      AreRowsFor admits nodes v candidates table rows → IsRowIf kept (Some row) →
       AreRowsFor admits nodes v candidates (table ++ kept ∷ []) (rows ++ row ∷ [])
   row_more table kept rows row are is =
       zip_pushed (IsRowFor admits nodes v candidates) (filter asked table) (filter asked (table ++ kept ∷ [])) rows

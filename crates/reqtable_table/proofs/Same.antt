@@ -1,5 +1,5 @@
 -- What stays of packages of whose lines more was asked.
-use Rattle.std.proofs.Common.{◌≡◌, ◌∙◌, ℕ, Bool, true, false, cond, List, [], ◌∷◌, ◌++◌, map, refl, sym, ap, subst}
+use Rattle.std.proofs.Common.{◌≡◌, ◌∙◌, ℕ, Bool, true, false, cond, List, [], ◌∷◌, ◌++◌, map, filter, refl, sym, ap, subst}
 use Rattle.std.specs.List.{list_any, AllZip, AllByRecursion}
 use Rattle.std.specs.List.Sorted.{IsStrictlySortedBy}
 use Rattle.std.specs.Ordering.{nat_cmp}
@@ -14,7 +14,8 @@ use Rattle.pep508_tree.specs.Tree.{Tree}
 use Rattle.pep508_tree.specs.Meaning.{NodeRecord, IsTree, holds}
 use Rattle.pep508_marker_read.specs.MarkerOutcome.{IsTreeOf}
 use Rattle.pep508_cases.specs.Cases.{Marks, marks_of, AreCases}
-use Rattle.reqtable_answer.specs.Asks.{specifiers_of}
+use Rattle.reqtable_text.specs.declared.candidates.Candidate.{Candidate}
+use Rattle.reqtable_answer.specs.Asks.{specifiers_of, is_candidate}
 use Rattle.reqtable_requirements.specs.Asks.{lines_of}
 use Rattle.reqtable_requirements.specs.LineReading.{LineRecord}
 use Rattle.reqtable_cases.specs.Lines.{marked, is_named}
@@ -22,6 +23,7 @@ use Rattle.reqtable_cases.specs.Usable.{IsRangeOf}
 use Rattle.reqtable_table.specs.Answers.{SameLine, SamePackage, kept_marks, kept_asked}
 use Rattle.reqtable_table.specs.Cases.{IsCaseOf, HasItsCases}
 use Rattle.reqtable_table.specs.Kept.{KeptLine, KeptCase, KeptPackage, Keeps, KeepsAll, kept_front, kept_under, names_in, is_bound}
+use Rattle.reqtable_table.specs.Runs.{RunsRecord, AreRunsOf}
 use Rattle.reqtable_table.specs.Standing.{HasItsFlags, IsOfTexts, HasItsLines}
 use Rattle.reqtable_table.proofs.AskedLines.{same_all, same_fronts, same_on}
 use Rattle.reqtable_table.proofs.Marking.{marked_map}
@@ -194,3 +196,17 @@ keeps nodes a b said s h = record {
   named = λ q. ap (list_any (bytes_eq q)) (names_same a b s) ∙ h.named q;
   each = λ q. keeps_lines nodes (kept_under q a) (kept_under q b) (lines_of q said) (under_same q a b s) (h.each q);
 }
+
+runs_by : (placed : List (ℕ × Candidate)) (a b : List KeptPackage) (runs : List (List (ℕ × Candidate))) → AllZip SamePackage a b →
+    AllZip (λ kept run. run ≡ filter (is_candidate kept.name) placed) b runs →
+    AllZip (λ kept run. run ≡ filter (is_candidate kept.name) placed) a runs
+runs_by placed [] [] runs s h = h
+runs_by placed [] (y ∷ b) runs s h = absurd s
+runs_by placed (x ∷ a) [] runs s h = absurd s
+runs_by placed (x ∷ a) (y ∷ b) [] s h = absurd h
+runs_by placed (x ∷ a) (y ∷ b) (run ∷ runs) s h =
+    (h.0 ∙ ap (λ n. filter (is_candidate n) placed) (sym s.0.name), runs_by placed a b runs s.1 h.1)
+
+-- and so are the candidates of each
+pub runs_on : (all : RunsRecord) (a b : List KeptPackage) → AllZip SamePackage a b → AreRunsOf b all → AreRunsOf a all
+runs_on all a b s h = runs_by all.placed a b all.runs s h

@@ -115,14 +115,14 @@ sets_are lines (case ∷ cases) (set ∷ sets) h long = (
 )
 
 module _ {A B C : Type 0} (R : A → B → Type 0) (f : C → A) where
-  zip_at : (xs : List C) (ys : List B) (i : ℕ) (d : C) (e : B) → AllZip R (map f xs) ys → i < length xs →
+  pub zip_at : (xs : List C) (ys : List B) (i : ℕ) (d : C) (e : B) → AllZip R (map f xs) ys → i < length xs →
       R (f (get_or xs i d)) (get_or ys i e)
   zip_at [] ys i d e h within = absurd (omega arith)
   zip_at (x ∷ xs) [] i d e h within = absurd h
   zip_at (x ∷ xs) (y ∷ ys) zero d e h within = h.0
   zip_at (x ∷ xs) (y ∷ ys) (suc i) d e h within = zip_at xs ys i d e h.1 (omega arith)
 
-  zip_long : (xs : List C) (ys : List B) → AllZip R (map f xs) ys → length xs ≡ length ys
+  pub zip_long : (xs : List C) (ys : List B) → AllZip R (map f xs) ys → length xs ≡ length ys
   zip_long [] [] h = refl
   zip_long [] (y ∷ ys) h = absurd h
   zip_long (x ∷ xs) [] h = absurd h

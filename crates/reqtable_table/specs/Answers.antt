@@ -1,6 +1,6 @@
 -- What a table answers: the rows of the packages of which a line applies, and how many specifiers are asked for that.
-use Rattle.std.specs.Prelude.{◌≡◌, ◌+◌, ◌==◌, ◌&&◌, ℕ, Bool, true, false, List, [], ◌∷◌, map, filter, length}
-use Rattle.std.specs.Prelude.{Option, Some, None, is_none, if◌then◌else◌}
+use Rattle.std.specs.Prelude.{◌≡◌, ◌+◌, ◌==◌, ◌&&◌, ℕ, Bool, List, [], ◌∷◌, map, filter, length, is_none}
+use Rattle.std.specs.Prelude.{if◌then◌else◌}
 use Rattle.std.specs.List.{list_any, enumerate_from, AllZip}
 use Rattle.pep440_version.specs.Record.{VersionRecord}
 use Rattle.pep508_diagram.specs.Question.{Valuation}
@@ -35,12 +35,6 @@ pub record IsRowFor (admits : Admits) (nodes : List NodeRecord) (v : Valuation) 
     (kept : KeptPackage) (row : RowRecord) : Type 0 where
   pub named : row.name ≡ kept.name
   pub its : IsRowOf admits (kept_asked nodes v kept.lines) (own_candidates candidates kept.name) row
-
--- that row where a line of the package applies
-abbrev pub IsRowIf : Admits → List NodeRecord → Valuation → List Candidate → KeptPackage → Option RowRecord → Type 0
-IsRowIf admits nodes v candidates kept None = is_asked nodes v kept ≡ false
-IsRowIf admits nodes v candidates kept (Some row) =
-    (is_asked nodes v kept ≡ true) × IsRowFor admits nodes v candidates kept row
 
 -- a row for each package of which a line applies
 abbrev pub AreRowsFor : Admits → List NodeRecord → Valuation → List Candidate → List KeptPackage → List RowRecord

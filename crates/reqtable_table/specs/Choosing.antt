@@ -1,7 +1,11 @@
 -- Choosing by a case: what its lines ask for, of which versions its range tells, what asking them changes.
-use Rattle.std.specs.Prelude.{◌≡◌, ◌≤◌, ◌+◌, ◌==◌, ◌&&◌, ◌||◌, ℕ, Bool, true, not, List, map, length, find, is_none}
-use Rattle.std.specs.Prelude.{Option, option_map, if◌then◌else◌}
+use Rattle.std.specs.Prelude.{◌≡◌, ◌≤◌, ◌+◌, ◌==◌, ◌&&◌, ◌||◌, ℕ, Bool, true, false, not, List, map, length, find, is_none}
+use Rattle.std.specs.Prelude.{Option, Some, None, option_map, if◌then◌else◌}
 use Rattle.std.specs.List.{list_any, list_all, AllZip}
+use Rattle.std.specs.List.Sorted.{IsStrictlySortedBy}
+use Rattle.std.specs.Ordering.{nat_cmp}
+use Rattle.std.specs.Cmp.Lexicographic.{slice_cmp}
+use Rattle.std.specs.Str.{bytes_eq}
 use Rattle.version_ranges.specs.Point.{Point, At}
 use Rattle.pep440_version.specs.Record.{VersionRecord}
 use Rattle.pep440_range.specs.Agreement.{IsSaid}
@@ -13,14 +17,14 @@ use Rattle.reqtable_text.specs.declared.candidates.Candidate.{Candidate}
 use Rattle.reqtable_answer.specs.declared.answer.Outcome.{Outcome}
 use Rattle.reqtable_answer.specs.declared.answer.Outcome.TheVariants.{Direct}
 use Rattle.reqtable_answer.specs.Admission.{Admits}
-use Rattle.reqtable_answer.specs.Answer.{chosen}
-use Rattle.reqtable_answer.specs.Asks.{has_url, ask_takes, may_be_taken}
+use Rattle.reqtable_answer.specs.Answer.{RowRecord, chosen}
+use Rattle.reqtable_answer.specs.Asks.{has_url, has_extra, ask_takes, may_be_taken}
 use Rattle.reqtable_cases.specs.Lines.{marked}
 use Rattle.reqtable_cases.specs.Usable.{is_usable, members_asked, points_of, IsRangeOf}
 use Rattle.reqtable_table.specs.Kept.{KeptLine, KeptPackage, kept_front}
 use Rattle.reqtable_table.specs.Cases.{HasItsCases}
 use Rattle.reqtable_table.specs.Counts.{tests_of}
-use Rattle.reqtable_table.specs.Answers.{kept_marks, is_plain, SameLine}
+use Rattle.reqtable_table.specs.Answers.{kept_marks, kept_asked, is_asked, is_plain, SameLine}
 
 -- what the marked lines ask for
 abbrev pub case_asks : Marks → List KeptLine → List Front
@@ -58,3 +62,19 @@ abbrev pub outcome_in_order : Admits → List Front → List (ℕ × Candidate) 
 outcome_in_order admits asks run =
     if list_any has_url asks then Direct
     else chosen (option_map (λ found. found.0) (find (may_be_taken admits asks) run))
+
+-- the row of a package by its candidates from the greatest down
+pub record IsRowByRun (admits : Admits) (nodes : List NodeRecord) (v : Valuation) (run : List (ℕ × Candidate))
+    (kept : KeptPackage) (row : RowRecord) : Type 0 where
+  pub asked : is_asked nodes v kept ≡ true
+  pub named : row.name ≡ kept.name
+  pub extras_rise : IsStrictlySortedBy (slice_cmp nat_cmp) row.extras
+  pub extras_are : (extra : List ℕ) →
+      list_any (bytes_eq extra) row.extras ≡ list_any (has_extra extra) (kept_asked nodes v kept.lines)
+  pub outcome : row.outcome ≡ outcome_in_order admits (kept_asked nodes v kept.lines) run
+
+-- that row where a line of the package applies
+abbrev pub IsRowInOrder : Admits → List NodeRecord → Valuation → List (ℕ × Candidate) → KeptPackage
+    → Option RowRecord → Type 0
+IsRowInOrder admits nodes v run kept None = is_asked nodes v kept ≡ false
+IsRowInOrder admits nodes v run kept (Some row) = IsRowByRun admits nodes v run kept row

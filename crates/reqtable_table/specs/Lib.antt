@@ -9,5 +9,6 @@ pub mod Errors
 pub mod Standing
 pub mod Numbers
 pub mod Settings
+pub mod Runs
 pub mod Answers
 pub mod Choosing

@@ -12,8 +12,10 @@ ghost use Rattle.reqtable_table.specs.Answers.{most_tests_of, SamePackage};
 ghost use Rattle.reqtable_table.specs.Cases.{HasItsCases};
 ghost use Rattle.reqtable_table.specs.Counts.{all_tests};
 ghost use Rattle.reqtable_table.specs.Kept.{KeepsAll};
+ghost use Rattle.reqtable_table.specs.Runs.{AreRunsOf};
 
 use crate::row::rows_of;
+use crate::runs::Runs;
 use crate::setting::Setting;
 use crate::table::Table;
 use pep440_version::Version;
@@ -21,15 +23,16 @@ use pep508_environment::MarkerEnvironment;
 use pep508_name::ExtraName;
 use pep508_tree::Interner;
 use reqtable_answer::{Admission, Answer};
-use reqtable_text::{Candidates, Ordered};
+use reqtable_text::Candidates;
 use std::alloc::{AllocError, Global};
 
 impl Table {
     /// The answer of the lines that the table was built of, in an environment with extras: what
     /// `Requirements::judge` answers for them.
     ///
-    /// The interner is the one that the table was built with. Brings the candidates in order, and answers as
-    /// `answer_in_order` does.
+    /// The interner is the one that the table was built with. Brings the candidates in order, looks for those
+    /// of each package, and answers as
+    /// `answer_among` does.
     pub fn answer<F: Fn(&Version, bool) -> bool>(
         &mut self,
         alloc: Global,
@@ -52,40 +55,42 @@ impl Table {
             + most_tests_of interner.now.nodes (valuation_of environment.now extras.now) candidates.now self.old }
     {
         let ordered = candidates.in_order(alloc)?;
-        self.answer_in_order(alloc, interner, environment, extras, &ordered, admission)
+        let runs = self.runs(alloc, &ordered)?;
+        self.answer_among(alloc, interner, environment, extras, &runs, admission)
     }
 
-    /// `answer` for candidates that are in order, which serve any number of environments.
+    /// `answer` among the candidates that `runs` found for the packages, which serve any number of environments.
     ///
     /// Evaluates each line's marker, and finds a package's case in as many steps as the logarithm of its cases.
     /// Of a package of which a line applies, the candidates are looked at from the greatest version down, up to
     /// the one that is taken. The case's range tells of those without a local part that are no post-releases,
     /// and of post-releases too where no line of the case has `<` or `>`; the specifiers are asked of all
     /// others, or of all candidates where the case has no range.
-    pub fn answer_in_order<F: Fn(&Version, bool) -> bool>(
+    pub fn answer_among<F: Fn(&Version, bool) -> bool>(
         &mut self,
         alloc: Global,
         interner: &Interner,
         environment: &MarkerEnvironment,
         extras: &[ExtraName],
-        ordered: &Ordered<'_>,
+        runs: &Runs<'_, '_>,
         admission: &Admission<F>,
     ) -> Result<Answer, AllocError>
         requires callable { F.IsAlwaysCallable admission.now }
         requires cases { AllByRecursion (HasItsCases interner.now.nodes) self.old }
+        requires runs { AreRunsOf self.old runs.now }
         ensures answered { IfOk result (λ answer. (said : List LineRecord) (admits : Admits) →
             KeepsAll interner.now.nodes self.old said → AnswersBy (F.post admission.now) admits →
-            IsAnswer admits (asks_of (valuation_of environment.now extras.now) said) ordered.now.candidates
+            IsAnswer admits (asks_of (valuation_of environment.now extras.now) said) runs.now.candidates
             (map row_seen answer.rows.items)) }
         ensures places { IfOk result (λ answer.
-            All (λ row. IsTakenBelow (length ordered.now.candidates) row.outcome) answer.rows.items) }
+            All (λ row. IsTakenBelow (length runs.now.candidates) row.outcome) answer.rows.items) }
         ensures kept { AllZip SamePackage self.new self.old }
         ensures tests { all_tests self.new ≤ all_tests self.old + most_tests_of interner.now.nodes
-            (valuation_of environment.now extras.now) ordered.now.candidates self.old }
+            (valuation_of environment.now extras.now) runs.now.candidates self.old }
     {
         let setting = Setting::new(interner, environment, extras);
-        let _ = ordered.placed();
-        match rows_of(alloc, &mut self.packages, &setting, ordered, admission) {
+        runs.are_ordered();
+        match rows_of(alloc, &mut self.packages, &setting, runs, admission) {
             Ok(rows) => Ok(Answer { rows }),
             Err(error) => Err(error),
         }

@@ -12,7 +12,9 @@ mod grouping;
 mod kept;
 pub mod laws;
 mod row;
+mod runs;
 mod setting;
 mod table;
 
+pub use runs::Runs;
 pub use table::{Case, Table, TableError};

@@ -3,28 +3,29 @@
 ghost use Rattle.std.specs.Prelude.{◌≡◌, ◌≤◌, ◌<◌, ◌+◌, ℕ, length, map, option_map, All, IfOk, IfSome};
 ghost use Rattle.std.specs.List.{list_any, AllZip, AllByRecursion};
 ghost use Rattle.pep440_range.specs.Agreement.{IsSaid};
-ghost use Rattle.reqtable_text.specs.Candidates.{HavePrintableVersions};
-ghost use Rattle.reqtable_text.specs.Ordered.{placed_seen, AreInOrder};
+ghost use Rattle.reqtable_text.specs.Ordered.{placed_seen};
 ghost use Rattle.reqtable_answer.specs.Admission.{Admits, AnswersBy};
 ghost use Rattle.reqtable_answer.specs.Rows.{row_seen, IsTakenBelow};
 ghost use Rattle.reqtable_cases.specs.Lines.{marked};
 ghost use Rattle.reqtable_cases.specs.Usable.{IsRangeOf};
-ghost use Rattle.reqtable_table.specs.Answers.{own_candidates, kept_asked, most_tests, most_tests_of};
-ghost use Rattle.reqtable_table.specs.Answers.{IsRowIf, AreRowsFor, SameLine, SamePackage};
+ghost use Rattle.reqtable_table.specs.Answers.{kept_asked, most_tests, most_tests_of};
+ghost use Rattle.reqtable_table.specs.Answers.{AreRowsFor, SameLine, SamePackage};
 ghost use Rattle.reqtable_table.specs.Cases.{HasItsCases};
-ghost use Rattle.reqtable_table.specs.Choosing.{case_asks, outcome_in_order};
+ghost use Rattle.reqtable_table.specs.Choosing.{case_asks, outcome_in_order, IsRowInOrder};
 ghost use Rattle.reqtable_table.specs.Counts.{tests_of, all_tests};
 ghost use Rattle.reqtable_table.specs.KeptLines.{line_record, package_record};
+ghost use Rattle.reqtable_table.specs.Runs.{AreOrdered, AreRunsOf};
 ghost use Rattle.reqtable_table.specs.Standing.{HasItsFlags, IsOfTexts, HasItsLines};
 
 use crate::asked::{case_in, extras_of, marks_in};
 use crate::choosing::chosen;
 use crate::kept::TableLine;
+use crate::runs::Runs;
 use crate::setting::Setting;
 use crate::table::Package;
 use pep440_version::Version;
 use reqtable_answer::{Admission, Outcome, Row};
-use reqtable_text::{Ordered, Placed};
+use reqtable_text::Placed;
 use std::alloc::{AllocError, Global};
 use version_ranges::Ranges;
 
@@ -33,27 +34,27 @@ pub(crate) fn rows_of<F: Fn(&Version, bool) -> bool>(
     alloc: Global,
     packages: &mut [Package],
     setting: &Setting<'_>,
-    ordered: &Ordered<'_>,
+    runs: &Runs<'_, '_>,
     admission: &Admission<F>,
 ) -> Result<Vec<Row>, AllocError>
     requires callable { F.IsAlwaysCallable admission.now }
     requires lines { AllByRecursion HasItsLines (map package_record packages.old) }
     requires cases { AllByRecursion (HasItsCases setting.now.nodes) (map package_record packages.old) }
-    requires in_order { AreInOrder ordered.now.candidates ordered.now.placed }
-    requires printable { HavePrintableVersions ordered.now.candidates }
+    requires ordered { AreOrdered runs.now.candidates runs.now.placed }
+    requires runs { AreRunsOf (map package_record packages.old) runs.now }
     ensures rows { IfOk result (λ rows. (admits : Admits) → AnswersBy (F.post admission.now) admits →
-        AreRowsFor admits setting.now.nodes setting.now.valuation ordered.now.candidates
+        AreRowsFor admits setting.now.nodes setting.now.valuation runs.now.candidates
         (map package_record packages.old) (map row_seen rows.items)) }
     ensures places { IfOk result (λ rows.
-        All (λ row. IsTakenBelow (length ordered.now.candidates) row.outcome) rows.items) }
+        All (λ row. IsTakenBelow (length runs.now.candidates) row.outcome) rows.items) }
     ensures kept { AllZip SamePackage (map package_record packages.new) (map package_record packages.old) }
     ensures tests { all_tests (map package_record packages.new) ≤ all_tests (map package_record packages.old)
-        + most_tests_of setting.now.nodes setting.now.valuation ordered.now.candidates
+        + most_tests_of setting.now.nodes setting.now.valuation runs.now.candidates
         (map package_record packages.old) }
 {
     let mut rows = Vec::new(alloc);
-    for kept in packages.iter_mut() {
-        match row_of(alloc, kept, setting, ordered, admission) {
+    for (index, kept) in packages.iter_mut().enumerate() {
+        match row_of(alloc, kept, setting, runs.of_place(index), admission) {
             Ok(Some(row)) => rows.push(row)?,
             Ok(None) => {}
             Err(error) => return Err(error),
@@ -62,28 +63,27 @@ pub(crate) fn rows_of<F: Fn(&Version, bool) -> bool>(
     Ok(rows)
 }
 
-/// The row of a package, where a line of it applies.
+/// The row of a package with these candidates in order, where a line of it applies.
 fn row_of<F: Fn(&Version, bool) -> bool>(
     alloc: Global,
     kept: &mut Package,
     setting: &Setting<'_>,
-    ordered: &Ordered<'_>,
+    own: &[Placed<'_>],
     admission: &Admission<F>,
 ) -> Result<Option<Row>, AllocError>
     requires callable { F.IsAlwaysCallable admission.now }
     requires lines { HasItsLines (package_record kept.old) }
     requires cases { HasItsCases setting.now.nodes (package_record kept.old) }
-    requires in_order { AreInOrder ordered.now.candidates ordered.now.placed }
-    requires printable { HavePrintableVersions ordered.now.candidates }
+    requires said { AllByRecursion (λ c. IsSaid c.1.version) (map placed_seen own.now) }
     ensures row { IfOk result (λ row. (admits : Admits) → AnswersBy (F.post admission.now) admits →
-        IsRowIf admits setting.now.nodes setting.now.valuation ordered.now.candidates (package_record kept.old)
-        (option_map row_seen row)) }
-    ensures below { IfOk result (λ row.
-        IfSome row (λ row. IsTakenBelow (length ordered.now.candidates) row.outcome)) }
+        IsRowInOrder admits setting.now.nodes setting.now.valuation (map placed_seen own.now)
+        (package_record kept.old) (option_map row_seen row)) }
+    ensures below { IfOk result (λ row. (count : ℕ) → AllByRecursion (λ c. c.0 < count) (map placed_seen own.now) →
+        IfSome row (λ row. IsTakenBelow count row.outcome)) }
     ensures same { SamePackage (package_record kept.new) (package_record kept.old) }
     ensures tests { tests_of (map line_record kept.new.lines.items) ≤ tests_of (map line_record kept.old.lines.items)
         + most_tests (kept_asked setting.now.nodes setting.now.valuation (map line_record kept.old.lines.items))
-        (own_candidates ordered.now.candidates kept.old.name) }
+        (map placed_seen own.now) }
 {
     let marks = marks_in(alloc, &kept.lines, setting)?;
     if !marks.contains(&true) {
@@ -92,7 +92,6 @@ fn row_of<F: Fn(&Version, bool) -> bool>(
     let place = case_in(alloc, kept, &marks)?;
     let name = kept.name.try_clone(alloc)?;
     let extras = extras_of(alloc, &kept.lines, &marks)?;
-    let own = ordered.run_of(&kept.name);
     let range = &kept.cases[place].range;
     match outcome(alloc, &mut kept.lines, &marks, range, own, admission) {
         Ok(outcome) => Ok(Some(Row {
