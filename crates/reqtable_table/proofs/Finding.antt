@@ -17,7 +17,7 @@ use Rattle.reqtable_table.proofs.AskedLines.{records, more_on, more_within}
 use Rattle.reqtable_table.proofs.MarkedAsks.{same_asks}
 
 module _ {A B : Type 0} (f : A → B) where
-  seen_more : (xs : List A) (i : ℕ) (x : A) → i < length xs → x ≡ get_or xs i x →
+  pub seen_more : (xs : List A) (i : ℕ) (x : A) → i < length xs → x ≡ get_or xs i x →
       map f (take (i + 1) xs) ≡ map f (take i xs) ++ f x ∷ []
   seen_more xs i x within is =
       ap (map f) (take_more xs i x within ∙ ap (λ y. take i xs ++ y ∷ []) (sym is))

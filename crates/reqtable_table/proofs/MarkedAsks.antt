@@ -8,13 +8,15 @@ use Rattle.std.specs.List.{list_any, list_all, AllZip}
 use Rattle.std.specs.Str.{bytes_eq}
 use Rattle.pep440_version.specs.Record.{VersionRecord}
 use Rattle.pep440_specifier.specs.Matching.{SpecifierRecord}
+use Rattle.pep508_diagram.specs.Question.{Valuation}
+use Rattle.pep508_tree.specs.Meaning.{NodeRecord, holds}
 use Rattle.pep508_requirement_text.specs.FrontReading.{Front}
 use Rattle.reqtable_answer.specs.Asks.{specifiers_of, is_url, has_url, has_extra, ask_takes}
 use Rattle.reqtable_answer.proofs.Tests.{any_mapped}
 use Rattle.reqtable_cases.specs.Lines.{marked}
 use Rattle.reqtable_cases.specs.Usable.{members_asked}
 use Rattle.reqtable_table.specs.declared.kept.TableLine.{TableLine}
-use Rattle.reqtable_table.specs.Answers.{SameLine}
+use Rattle.reqtable_table.specs.Answers.{SameLine, kept_marks}
 use Rattle.reqtable_table.specs.Choosing.{case_asks, AskedMore}
 use Rattle.reqtable_table.specs.Kept.{KeptLine, kept_source, kept_front}
 use Rattle.reqtable_table.specs.KeptLines.{line_record}
@@ -40,11 +42,6 @@ marked_front (suc n) (true ∷ marks) (x ∷ xs) =
     (more.0, ap (λ l. x ∷ l) more.1)
 marked_front (suc n) (false ∷ marks) (x ∷ xs) = marked_front n marks xs
 
--- what stands at a place, whatever would stand behind the end
-read : (marks : List Bool) (i : ℕ) (mark : Bool) → i < length marks → mark ≡ get_or marks i false →
-    mark ≡ get_or marks i mark
-read marks i mark within is = is ∙ get_or_default marks i false mark within
-
 -- ---- flags of marked things
 
 any_here : {A : Type 0} (f : A → Bool) (x : A) (mark : Bool) → (mark && f x) ≡ false →
@@ -57,7 +54,7 @@ any_next : {A : Type 0} (f : A → Bool) (marks : List Bool) (xs : List A) (i : 
     list_any f (marked (take i marks) (take i xs)) ≡ false →
     list_any f (marked (take (i + 1) marks) (take (i + 1) xs)) ≡ list_any f (cond mark (x ∷ []) [])
 any_next f marks xs i mark x same within m e none =
-    ap (list_any f) (marked_more marks xs i mark x same within (read marks i mark (omega arith) m) e)
+    ap (list_any f) (marked_more marks xs i mark false x same within (sym m) e)
     ∙ list_any-append f (marked (take i marks) (take i xs)) (cond mark (x ∷ []) [])
     ∙ (λ k. none k || list_any f (cond mark (x ∷ []) []))
 
@@ -120,6 +117,21 @@ pub flag_seen : (flag : KeptLine → Bool) (marks : List Bool) (lines : List Tab
 flag_seen flag marks lines =
     sym (ap (list_any flag) (marked_map line_record marks lines)
     ∙ any_mapped flag line_record (marked marks lines))
+
+-- which lines apply
+pub marks_seen : (nodes : List NodeRecord) (v : Valuation) (lines : List TableLine) →
+    map (λ line. holds nodes line.marker v) lines ≡ kept_marks nodes v (records lines)
+marks_seen nodes v [] = refl
+marks_seen nodes v (line ∷ lines) = ap (λ l. holds nodes line.marker v ∷ l) (marks_seen nodes v lines)
+
+-- whether one does
+pub any_mark : (is_set : Bool → Bool) → ((b : Bool) → is_set b ≡ b) → (nodes : List NodeRecord) (v : Valuation) (lines : List KeptLine) →
+    list_any is_set (kept_marks nodes v lines) ≡ list_any (λ line. holds nodes line.marker v) lines
+any_mark is_set same nodes v [] = refl
+any_mark is_set same nodes v (line ∷ lines) =
+    let here = same (holds nodes line.marker v) in
+    let rest = any_mark is_set same nodes v lines in
+    λ i. here i || rest i
 
 url_by : (b : Bool) (members : List SpecifierRecord) → is_url (kept_source b members) ≡ b
 url_by true members = refl
@@ -200,7 +212,7 @@ module _ (version : VersionRecord) (marks : List Bool) (lines now : List TableLi
 
   next : (mark : Bool) → mark ≡ get_or marks i false →
       asks_to (i + 1) marks lines ≡ asks_to i marks lines ++ cond mark (here ∷ []) []
-  next mark m = marked_more marks (fronts lines) i mark here marks_fronts within_fronts (read marks i mark (omega arith) m) front_is
+  next mark m = marked_more marks (fronts lines) i mark false here marks_fronts within_fronts (sym m) front_is
 
   next_marked : true ≡ get_or marks i false → asks_to (i + 1) marks lines ≡ asks_to i marks lines ++ here ∷ []
   next_marked m = next true m

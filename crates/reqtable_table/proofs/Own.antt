@@ -1,9 +1,9 @@
 -- A package's candidates in order.
-use Rattle.std.proofs.Common.{◌≡◌, ◌∙◌, ◌<◌, ◌+◌, ℕ, cond, List, [], ◌∷◌, map, filter, find, length, option_map, refl, sym, ap, subst, arith}
+use Rattle.std.proofs.Common.{◌≡◌, ◌∙◌, ◌<◌, ◌+◌, ℕ, true, false, cond, Option, List, [], ◌∷◌, map, filter, find, length, option_map, refl, sym, ap, subst, arith}
 use Rattle.std.proofs.lemmas.List.Elements.{All-filter, All-from_recursion, recursion_from_All}
+use Rattle.std.proofs.lemmas.List.Recursion.{is_sum_by}
 use Rattle.std.proofs.lemmas.List.Sorted.{All-permutation, IsPermutation-sym, sum_by-IsPermutation}
 use Rattle.std.specs.List.{list_any, sum_by, enumerate_from, AllByRecursion}
-use Rattle.pep440_text.specs.Printable.{IsPrintable}
 use Rattle.pep440_range.specs.Agreement.{IsSaid}
 use Rattle.pep508_requirement_text.specs.FrontReading.{Front}
 use Rattle.reqtable_text.specs.Candidates.{HavePrintableVersions}
@@ -27,8 +27,21 @@ places count n [] e = tt
 places count n (x ∷ xs) e = (omega arith, places count (n + 1) xs (omega arith))
 
 as_sum : (asks : List Front) (cs : List (ℕ × Candidate)) → most_tests asks cs ≡ sum_by (tests_for asks) cs
-as_sum asks [] = refl
-as_sum asks (c ∷ cs) = ap (λ n. tests_for asks c + n) (as_sum asks cs)
+as_sum asks = is_sum_by (most_tests asks) (tests_for asks) refl (λ c cs. refl)
+
+-- ---- by candidates in order
+
+pub direct_first : (admits : Admits) (asks : List Front) (run : List (ℕ × Candidate)) → list_any has_url asks ≡ true →
+    Direct ≡ outcome_in_order admits asks run
+direct_first admits asks run e =
+    sym (ap (λ b. cond b Direct (chosen (option_map (λ c. c.0) (find (may_be_taken admits asks) run)))) e)
+
+pub found_first : (admits : Admits) (asks : List Front) (run : List (ℕ × Candidate)) (found : Option ℕ) →
+    list_any has_url asks ≡ false → found ≡ option_map (λ c. c.0) (find (may_be_taken admits asks) run) →
+    chosen found ≡ outcome_in_order admits asks run
+found_first admits asks run found none is =
+    ap chosen is
+    ∙ sym (ap (λ b. cond b Direct (chosen (option_map (λ c. c.0) (find (may_be_taken admits asks) run)))) none)
 
 module _ (candidates : List Candidate) (placed : List (ℕ × Candidate)) (order : AreInOrder candidates placed) (name : List ℕ) where
   abbrev pub run : List (ℕ × Candidate)

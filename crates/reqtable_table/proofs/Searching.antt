@@ -1,6 +1,7 @@
 -- A case by the numbers of its lines.
-use Rattle.std.proofs.Common.{◌≡◌, ◌∙◌, ◌<◌, ◌≤◌, ◌+◌, ◌||◌, ◌⊎◌, ℕ, zero, suc, Bool, true, false, List, [], ◌∷◌, map, length, get_or, drop, refl, sym, ap, subst, arith, Less, Equal, Greater, inl, inr, true≢false}
+use Rattle.std.proofs.Common.{◌≡◌, ◌∙◌, ◌<◌, ◌≤◌, ◌+◌, ◌||◌, ◌⊎◌, ℕ, zero, suc, Bool, true, false, List, [], ◌∷◌, map, length, get_or, drop, nat_lt, refl, sym, ap, subst, arith, Less, Equal, Greater, inl, inr, true≢false}
 use Rattle.std.proofs.lemmas.Bool.{cases_Bool}
+use Rattle.std.proofs.lemmas.Bool.Decides.{nat_tests}
 use Rattle.std.proofs.lemmas.List.{length-map}
 use Rattle.std.proofs.lemmas.List.Sorted.{searchable_from_sorted}
 use Rattle.std.specs.List.{list_any, AllZip, AllByRecursion}
@@ -65,6 +66,34 @@ numbers_by_marks (n ∷ ns) (true ∷ s) (true ∷ t) h a b =
 numbers_by_marks (n ∷ ns) (true ∷ s) (false ∷ t) h a b = comes_first n (marked s ns) (marked t ns) (marked_above n t ns h.0)
 numbers_by_marks (n ∷ ns) (false ∷ s) (true ∷ t) h a b = comes_last n (marked t ns) (marked s ns) (marked_above n s ns h.0)
 numbers_by_marks (n ∷ ns) (false ∷ s) (false ∷ t) h a b = numbers_by_marks ns s t h.1 (omega arith) (omega arith)
+
+-- ---- two lists of numbers, from a place on
+
+none_left : (i : ℕ) (none : List ℕ) → none ≡ [] → drop i none ≡ []
+none_left zero none e = e
+none_left (suc i) [] e = refl
+none_left (suc i) (n ∷ none) e = absurd (cc)
+
+ends_first : (ns others : List ℕ) (i : ℕ) → i < length ns → length others ≤ i → numbers_cmp (drop i ns) (drop i others) ≡ Less
+ends_first [] others i within past = absurd (omega arith)
+ends_first (n ∷ ns) [] zero within past = refl
+ends_first (n ∷ ns) (m ∷ others) zero within past = absurd (omega arith)
+ends_first (n ∷ ns) [] (suc i) within past =
+    ap (numbers_cmp (drop i ns)) (sym (none_left i [] refl)) ∙ ends_first ns [] i (omega arith) (omega arith)
+ends_first (n ∷ ns) (m ∷ others) (suc i) within past = ends_first ns others i (omega arith) (omega arith)
+
+pub other_ends : (ns others : List ℕ) (i : ℕ) → i < length ns → false ≡ nat_lt i (length others) →
+    numbers_cmp (drop i ns) (drop i others) ≡ Less
+other_ends ns others i within past = ends_first ns others i within (grind (arith, nat_tests))
+
+pub goes_on : (ns others : List ℕ) (i : ℕ) → length ns ≤ i → i ≤ length ns → length ns < length others →
+    numbers_cmp (drop i ns) (drop i others) ≡ Greater
+goes_on [] [] i past within longer = absurd (omega arith)
+goes_on [] (m ∷ others) zero past within longer = refl
+goes_on [] (m ∷ others) (suc i) past within longer = absurd (omega arith)
+goes_on (n ∷ ns) [] i past within longer = absurd (omega arith)
+goes_on (n ∷ ns) (m ∷ others) zero past within longer = absurd (omega arith)
+goes_on (n ∷ ns) (m ∷ others) (suc i) past within longer = goes_on ns others i (omega arith) (omega arith) (omega arith)
 
 -- ---- sets
 
@@ -157,6 +186,16 @@ less_apart a b less equal = absurd (cc)
 greater_apart : (a b : Marks) → marks_cmp a b ≡ Greater → marks_cmp a b ≡ Equal → ⊥
 greater_apart a b greater equal = absurd (cc)
 
+numbers_twice : (lines : List TableLine) → map (λ (l : KeptLine). l.number) (map line_record lines) ≡ map (λ (l : TableLine). l.number) lines
+numbers_twice [] = refl
+numbers_twice (line ∷ lines) = ap (λ l. line.number ∷ l) (numbers_twice lines)
+
+-- the numbers of marked lines
+pub numbers_seen : (marks : Marks) (lines : List TableLine) →
+    map (λ (l : TableLine). l.number) (marked marks lines) ≡ map (λ (l : KeptLine). l.number) (marked marks (map line_record lines))
+numbers_seen marks lines =
+    sym (ap (map (λ (l : KeptLine). l.number)) (marked_map line_record marks lines) ∙ numbers_twice (marked marks lines))
+
 -- ---- the case of the lines that apply
 
 module _ (kept : Package) (marks : Marks) (stands : HasItsLines (package_record kept))
@@ -175,6 +214,9 @@ module _ (kept : Package) (marks : Marks) (stands : HasItsLines (package_record 
 
   pub marks_long : length marks ≡ length lines
   marks_long = ap length applying.are ∙ length-map lines (λ (l : KeptLine). holds applying.nodes l.marker applying.valuation)
+
+  pub marks_lines_long : length marks ≡ length kept.lines.items
+  marks_lines_long = marks_long ∙ length-map kept.lines.items line_record
 
   are : AllZip (IsSetOf lines) (map case_record cases) sets
   are =

@@ -14,6 +14,7 @@ ghost use Rattle.reqtable_table.specs.Answers.{kept_marks};
 ghost use Rattle.reqtable_table.specs.Choosing.{case_asks, AreApplying};
 ghost use Rattle.reqtable_table.specs.KeptLines.{line_record, package_record};
 ghost use Rattle.reqtable_table.specs.Numbers.{numbers_cmp};
+ghost use Rattle.reqtable_table.specs.Settings.{nodes_in, valuation_in};
 ghost use Rattle.reqtable_table.specs.Standing.{HasItsLines};
 ghost use Rattle.reqtable_table.specs.declared.table.Case.{Case};
 
@@ -31,9 +32,9 @@ pub(crate) fn marks_in(
     lines: &[TableLine],
     setting: &Setting<'_>,
 ) -> Result<Vec<bool>, AllocError>
-    requires { AllByRecursion (λ line. IsTree setting.now.nodes line.marker) (map line_record lines.now) }
+    requires { AllByRecursion (λ line. IsTree (nodes_in setting.now) line.marker) (map line_record lines.now) }
     ensures { IfOk result (λ marks.
-        marks.items ≡ kept_marks setting.now.nodes setting.now.valuation (map line_record lines.now)) }
+        marks.items ≡ kept_marks (nodes_in setting.now) (valuation_in setting.now) (map line_record lines.now)) }
 {
     let mut marks = Vec::with_capacity(alloc, lines.len())?;
     for line in lines {

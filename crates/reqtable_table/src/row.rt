@@ -15,6 +15,7 @@ ghost use Rattle.reqtable_table.specs.Choosing.{case_asks, outcome_in_order, IsR
 ghost use Rattle.reqtable_table.specs.Counts.{tests_of, all_tests};
 ghost use Rattle.reqtable_table.specs.KeptLines.{line_record, package_record};
 ghost use Rattle.reqtable_table.specs.Runs.{AreOrdered, AreRunsOf};
+ghost use Rattle.reqtable_table.specs.Settings.{nodes_in, valuation_in};
 ghost use Rattle.reqtable_table.specs.Standing.{HasItsFlags, IsOfTexts, HasItsLines};
 
 use crate::asked::{case_in, extras_of, marks_in};
@@ -39,17 +40,17 @@ pub(crate) fn rows_of<F: Fn(&Version, bool) -> bool>(
 ) -> Result<Vec<Row>, AllocError>
     requires callable { F.IsAlwaysCallable admission.now }
     requires lines { AllByRecursion HasItsLines (map package_record packages.old) }
-    requires cases { AllByRecursion (HasItsCases setting.now.nodes) (map package_record packages.old) }
+    requires cases { AllByRecursion (HasItsCases (nodes_in setting.now)) (map package_record packages.old) }
     requires ordered { AreOrdered runs.now.candidates runs.now.placed }
     requires runs { AreRunsOf (map package_record packages.old) runs.now }
     ensures rows { IfOk result (λ rows. (admits : Admits) → AnswersBy (F.post admission.now) admits →
-        AreRowsFor admits setting.now.nodes setting.now.valuation runs.now.candidates
+        AreRowsFor admits (nodes_in setting.now) (valuation_in setting.now) runs.now.candidates
         (map package_record packages.old) (map row_seen rows.items)) }
     ensures places { IfOk result (λ rows.
         All (λ row. IsTakenBelow (length runs.now.candidates) row.outcome) rows.items) }
     ensures kept { AllZip SamePackage (map package_record packages.new) (map package_record packages.old) }
     ensures tests { all_tests (map package_record packages.new) ≤ all_tests (map package_record packages.old)
-        + most_tests_of setting.now.nodes setting.now.valuation runs.now.candidates
+        + most_tests_of (nodes_in setting.now) (valuation_in setting.now) runs.now.candidates
         (map package_record packages.old) }
 {
     let mut rows = Vec::new(alloc);
@@ -73,16 +74,16 @@ fn row_of<F: Fn(&Version, bool) -> bool>(
 ) -> Result<Option<Row>, AllocError>
     requires callable { F.IsAlwaysCallable admission.now }
     requires lines { HasItsLines (package_record kept.old) }
-    requires cases { HasItsCases setting.now.nodes (package_record kept.old) }
+    requires cases { HasItsCases (nodes_in setting.now) (package_record kept.old) }
     requires said { AllByRecursion (λ c. IsSaid c.1.version) (map placed_seen own.now) }
     ensures row { IfOk result (λ row. (admits : Admits) → AnswersBy (F.post admission.now) admits →
-        IsRowInOrder admits setting.now.nodes setting.now.valuation (map placed_seen own.now)
+        IsRowInOrder admits (nodes_in setting.now) (valuation_in setting.now) (map placed_seen own.now)
         (package_record kept.old) (option_map row_seen row)) }
     ensures below { IfOk result (λ row. (count : ℕ) → AllByRecursion (λ c. c.0 < count) (map placed_seen own.now) →
         IfSome row (λ row. IsTakenBelow count row.outcome)) }
     ensures same { SamePackage (package_record kept.new) (package_record kept.old) }
     ensures tests { tests_of (map line_record kept.new.lines.items) ≤ tests_of (map line_record kept.old.lines.items)
-        + most_tests (kept_asked setting.now.nodes setting.now.valuation (map line_record kept.old.lines.items))
+        + most_tests (kept_asked (nodes_in setting.now) (valuation_in setting.now) (map line_record kept.old.lines.items))
         (map placed_seen own.now) }
 {
     let marks = marks_in(alloc, &kept.lines, setting)?;

@@ -3,12 +3,12 @@
 ghost use Rattle.std.specs.Prelude.{◌≡◌};
 ghost use Rattle.pep508_evaluation.specs.Valuations.{valuation_of};
 ghost use Rattle.pep508_tree.specs.Meaning.{IsTree, holds};
+ghost use Rattle.reqtable_table.specs.Settings.{nodes_in, valuation_in};
 
 use pep508_environment::MarkerEnvironment;
 use pep508_evaluation::MarkerTreeEvaluation;
 use pep508_name::ExtraName;
 use pep508_tree::{Interner, MarkerTree};
-use std::marker::Model;
 
 /// An environment with extras, and the interner of the markers that are looked at in it.
 #[derive(Drop)]
@@ -18,26 +18,14 @@ pub(crate) struct Setting<'a> {
     pub(crate) extras: &'a [ExtraName],
 }
 
-impl<'a> Model for Setting<'a> {
-    ghost use Rattle.pep508_evaluation.specs.Valuations.{valuation_of};
-    ghost use Rattle.reqtable_table.specs.Settings.{SettingRecord};
-
-    ghost Value = { SettingRecord };
-
-    ghost view = { λ s. record {
-      nodes = s.interner.now.nodes;
-      valuation = valuation_of s.environment.now s.extras.now;
-    } };
-}
-
 impl<'a> Setting<'a> {
     pub(crate) fn new(
         interner: &'a Interner,
         environment: &'a MarkerEnvironment,
         extras: &'a [ExtraName],
     ) -> Setting<'a>
-        ensures nodes { result.nodes ≡ interner.now.nodes }
-        ensures valuation { result.valuation ≡ valuation_of environment.now extras.now }
+        ensures nodes { nodes_in result ≡ interner.now.nodes }
+        ensures valuation { valuation_in result ≡ valuation_of environment.now extras.now }
     {
         Setting {
             interner,
@@ -48,8 +36,8 @@ impl<'a> Setting<'a> {
 
     /// Whether a marker holds.
     pub(crate) fn holds(&self, marker: MarkerTree) -> bool
-        requires { IsTree self.now.nodes marker }
-        ensures { result ≡ holds self.now.nodes marker self.now.valuation }
+        requires { IsTree (nodes_in self.now) marker }
+        ensures { result ≡ holds (nodes_in self.now) marker (valuation_in self.now) }
     {
         marker.evaluate(self.interner, self.environment, self.extras)
     }

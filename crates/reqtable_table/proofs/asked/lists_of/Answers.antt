@@ -15,6 +15,7 @@ loop-index-preserved c =
       | then-marks-index+in_ok-push w ↦
           ap (λ lists. map (λ l. l.now) lists.items) w.lists-is ∙ ap (map (λ l. l.now)) w.in_ok-push.ensures.items
           ∙ map-append (λ l. l.now) before _
+          ∙ ap (λ l. map (λ x. x.now) before ++ l ∷ []) w.as_slice.ensures.value
           ∙ ap (λ l. l ++ line.extras.items ∷ []) c.loop-index.invariant
           ∙ sym (ap (map (λ l. l.extras.items))
           (marked_more marks lines i true _ line c.requires c.loop-index-test.true w.if-marks-index.true c.index-lines-index.is)

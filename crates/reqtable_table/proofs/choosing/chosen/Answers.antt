@@ -1,4 +1,4 @@
-use Rattle.std.proofs.Common.{◌∙◌, refl, sym, ap, subst, option_map}
+use Rattle.std.proofs.Common.{◌∙◌, ◌<◌, refl, sym, ap, subst, option_map}
 use Rattle.pep440_range.specs.Agreement.{IsSaid}
 use Rattle.reqtable_text.specs.Ordered.{placed_seen}
 use Rattle.reqtable_answer.specs.Asks.{may_be_taken}
@@ -46,6 +46,11 @@ returns-then-admits-clause-chosen g c = λ admits by.
     sym (ap (option_map (λ x. x.0))
     (find_here placed_seen (may_be_taken admits asks) c.args.own.now c.loop-placed.placed-index item
     c.loop-placed-test.true c.placed-item.is (c.loop-placed.invariant.none admits by) passes))
+
+pub returns-then-admits-clause-below : goal.returns-then-admits-clause-below
+returns-then-admits-clause-below g c = λ count below.
+    all_at (λ x. x.0 < count) placed_seen c.args.own.now c.loop-placed.placed-index c.placed-item.result
+    c.loop-placed-test.true c.placed-item.is below
 
 pub returns-then-admits-clause-kept : goal.returns-then-admits-clause-kept
 returns-then-admits-clause-kept g c =

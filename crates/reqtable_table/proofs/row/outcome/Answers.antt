@@ -1,0 +1,38 @@
+use Rattle.std.proofs.Common.{◌∙◌, ◌<◌, Some, None, map, sym, subst}
+use Rattle.std.specs.Option.{IfSome}
+use Rattle.reqtable_text.specs.Ordered.{placed_seen}
+use Rattle.reqtable_table.specs.Choosing.{case_asks}
+use Rattle.reqtable_table.proofs.AskedLines.{records, same_all}
+use Rattle.reqtable_table.proofs.MarkedAsks.{urls_asked}
+use Rattle.reqtable_table.proofs.Own.{direct_first, found_first}
+use Rattle.reqtable_table.proofs.row.outcome.Goals as goal
+
+pub returns-then-any_url-clause-outcome : goal.returns-then-any_url-clause-outcome
+returns-then-any_url-clause-outcome g c = λ admits by.
+    let marks = c.args.marks.now in
+    let lines = c.args.lines.now in
+    direct_first admits (case_asks marks (records lines)) (map placed_seen c.args.own.now)
+    (sym (urls_asked marks lines) ∙ sym c.any_url.ensures ∙ c.if-any_url.true)
+
+pub returns-then-any_url-clause-kept : goal.returns-then-any_url-clause-kept
+returns-then-any_url-clause-kept g c = same_all (records c.args.lines.now)
+
+pub returns-in-Ok-Some-clause-outcome : goal.returns-in-Ok-Some-clause-outcome
+returns-in-Ok-Some-clause-outcome g c = λ admits by.
+    let marks = c.args.marks.now in
+    let lines = c.args.lines.now in
+    found_first admits (case_asks marks (records lines)) (map placed_seen c.args.own.now) (Some c.in-Ok-Some.place)
+    (sym (urls_asked marks lines) ∙ sym c.any_url.ensures ∙ c.if-any_url.false)
+    (sym c.in-Ok-Some.field-0-is ∙ c.in-Ok-Some.ensures.chosen admits by)
+
+pub returns-in-Ok-Some-clause-below : goal.returns-in-Ok-Some-clause-below
+returns-in-Ok-Some-clause-below g c = λ count below.
+    subst (λ found. IfSome found (λ place. place < count)) c.in-Ok-Some.field-0-is (c.in-Ok-Some.ensures.below count below)
+
+pub returns-in-Ok-None-clause-outcome : goal.returns-in-Ok-None-clause-outcome
+returns-in-Ok-None-clause-outcome g c = λ admits by.
+    let marks = c.args.marks.now in
+    let lines = c.args.lines.now in
+    found_first admits (case_asks marks (records lines)) (map placed_seen c.args.own.now) None
+    (sym (urls_asked marks lines) ∙ sym c.any_url.ensures ∙ c.if-any_url.false)
+    (sym c.in-Ok-None.field-0-is ∙ c.in-Ok-None.ensures.chosen admits by)

@@ -1,0 +1,67 @@
+use Rattle.std.proofs.Common.{◌≡◌, ◌∙◌, Bool, true, false, map, refl, sym, ap}
+use mathlib.Core.Bool.{beq}
+use Rattle.std.specs.List.{list_any}
+use Rattle.reqtable_text.specs.Ordered.{placed_seen}
+use Rattle.reqtable_answer.specs.Asks.{has_extra}
+use Rattle.reqtable_table.specs.Answers.{kept_marks, kept_asked}
+use Rattle.reqtable_table.specs.Choosing.{case_asks, outcome_in_order}
+use Rattle.reqtable_table.specs.KeptLines.{package_record}
+use Rattle.reqtable_table.specs.Settings.{nodes_in, valuation_in}
+use Rattle.reqtable_table.proofs.AskedLines.{records}
+use Rattle.reqtable_table.proofs.MarkedAsks.{any_mark}
+use Rattle.reqtable_table.proofs.Same.{same_package}
+use Rattle.reqtable_table.proofs.row.row_of.Goals as goal
+
+pub returns-in_err-marks-clause-same : goal.returns-in_err-marks-clause-same
+returns-in_err-marks-clause-same g c = same_package (package_record c.args.kept.now)
+
+pub returns-then-not-contains-clause-same : goal.returns-then-not-contains-clause-same
+returns-then-not-contains-clause-same g c = same_package (package_record c.args.kept.now)
+
+pub returns-in_err-place-clause-same : goal.returns-in_err-place-clause-same
+returns-in_err-place-clause-same g c = same_package (package_record c.args.kept.now)
+
+pub returns-in_err-name-clause-same : goal.returns-in_err-name-clause-same
+returns-in_err-name-clause-same g c = same_package (package_record c.args.kept.now)
+
+pub returns-in_err-extras-clause-same : goal.returns-in_err-extras-clause-same
+returns-in_err-extras-clause-same g c = same_package (package_record c.args.kept.now)
+
+is_itself : (b : Bool) → beq b true ≡ b
+is_itself true = refl
+is_itself false = refl
+
+pub returns-then-not-contains-clause-row : goal.returns-then-not-contains-clause-row
+returns-then-not-contains-clause-row g c = λ admits by.
+    let nodes = nodes_in c.args.setting.now in
+    let v = valuation_in c.args.setting.now in
+    let lines = c.args.kept.now.lines.items in
+    let marks_are : c.in_ok-marks.marks.items ≡ kept_marks nodes v (records lines) =
+    c.in_ok-marks.ensures ∙ ap (λ l. kept_marks nodes v (records l)) c.deref.ensures.value in
+    sym (any_mark (λ b. beq b true) is_itself nodes v (records lines))
+    ∙ sym (ap (list_any (λ b. beq b true)) (c.deref-2.ensures.value ∙ marks_are))
+    ∙ sym c.contains.ensures.value ∙ c.if-not-contains.true
+
+pub returns-in-Ok-clause-row : goal.returns-in-Ok-clause-row
+returns-in-Ok-clause-row g c = λ admits by.
+    let nodes = nodes_in c.args.setting.now in
+    let v = valuation_in c.args.setting.now in
+    let lines = c.args.kept.now.lines.items in
+    let marks_are : c.in_ok-marks.marks.items ≡ kept_marks nodes v (records lines) =
+    c.in_ok-marks.ensures ∙ ap (λ l. kept_marks nodes v (records l)) c.deref.ensures.value in
+    let asks : c.deref-5.result.now ≡ c.in_ok-marks.marks.items → c.deref-4.result.now ≡ lines →
+    case_asks c.deref-5.result.now (records c.deref-4.result.now) ≡ kept_asked nodes v (records lines) =
+    (λ m l i. case_asks ((m ∙ marks_are) i) (records (l i))) in
+    record {
+      asked =
+          sym (any_mark (λ b. beq b true) is_itself nodes v (records lines))
+          ∙ sym (ap (list_any (λ b. beq b true)) (c.deref-2.ensures.value ∙ marks_are))
+          ∙ sym c.contains.ensures.value ∙ c.if-not-contains.false;
+      named = c.in_ok-name.ensures;
+      extras_rise = c.in_ok-extras.ensures.rise;
+      extras_are = λ extra. c.in_ok-extras.ensures.are extra
+          ∙ ap (list_any (has_extra extra)) (asks c.deref-5.ensures.value c.deref-4.ensures.value);
+      outcome = c.in-Ok.ensures.outcome admits by
+          ∙ (λ i. outcome_in_order admits (case_asks ((c.deref-6.ensures.value ∙ marks_are) i) (records (c.deref_mut.ensures.value i)))
+          (map placed_seen c.args.own.now));
+    }
