@@ -1,8 +1,10 @@
 -- The rows of the first packages of a table.
-use Rattle.std.proofs.Common.{◌≡◌, ◌∙◌, ◌≤◌, ◌<◌, ◌+◌, ℕ, zero, suc, Bool, true, false, cond, List, [], ◌∷◌, ◌++◌, map, filter, take, set, length, get_or, Option, Some, None, refl, sym, ap, subst, arith, append-nil}
+use Rattle.std.proofs.Common.{◌≡◌, ◌∙◌, ◌≤◌, ◌<◌, ◌+◌, ◌||◌, ℕ, zero, suc, Bool, true, false, cond, List, [], ◌∷◌, ◌++◌, map, filter, take, set, length, get_or, All, Option, Some, None, option_map, refl, sym, ap, subst, arith, append-nil}
 use Rattle.std.proofs.lemmas.List.{take_more, map-append, get_or_default}
-use Rattle.std.proofs.lemmas.List.Elements.{filter-append}
+use Rattle.std.proofs.lemmas.List.Elements.{filter-append, All-push}
+use Rattle.std.specs.Option.{IfSome, option_map_or}
 use Rattle.std.specs.List.{list_any, AllZip, AllByRecursion}
+use Rattle.pep440_range.specs.Agreement.{IsSaid}
 use Rattle.pep508_diagram.specs.Question.{Valuation}
 use Rattle.pep508_tree.specs.Meaning.{NodeRecord, holds}
 use Rattle.reqtable_text.specs.declared.candidates.Candidate.{Candidate}
@@ -11,10 +13,15 @@ use Rattle.reqtable_answer.specs.Admission.{Admits}
 use Rattle.reqtable_answer.specs.Answer.{RowRecord, IsRowOf}
 use Rattle.reqtable_answer.specs.Asks.{is_candidate}
 use Rattle.reqtable_cases.specs.Lines.{marked}
+use Rattle.reqtable_answer.specs.declared.answer.Row.{Row}
+use Rattle.reqtable_answer.specs.Rows.{row_seen}
 use Rattle.reqtable_table.specs.declared.table.Package.{Package}
 use Rattle.reqtable_table.specs.Answers.{kept_marks, kept_asked, is_asked, own_candidates, most_tests, most_tests_of}
 use Rattle.reqtable_table.specs.Answers.{IsRowFor, AreRowsFor, SameLine, SamePackage}
+use Rattle.reqtable_table.specs.Cases.{HasItsCases}
 use Rattle.reqtable_table.specs.Choosing.{outcome_in_order, IsRowInOrder}
+use Rattle.reqtable_table.specs.Runs.{RunsRecord, AreOrdered, AreRunsOf}
+use Rattle.reqtable_table.specs.Standing.{HasItsLines}
 use Rattle.reqtable_table.specs.Counts.{tests_of, all_tests}
 use Rattle.reqtable_table.specs.Kept.{KeptLine, KeptPackage, kept_front}
 use Rattle.reqtable_table.specs.KeptLines.{package_record}
@@ -22,7 +29,9 @@ use Rattle.reqtable_table.proofs.AskedLines.{same_fronts}
 use Rattle.reqtable_table.proofs.Marking.{marked_map}
 use Rattle.reqtable_table.proofs.Own.{run_outcome, run_tests, run_said, run_below}
 use Rattle.reqtable_table.proofs.Packages.{zip_pushed}
-use Rattle.reqtable_table.proofs.Same.{all_same, same_package, packages_on, marks_same}
+use Rattle.reqtable_table.proofs.Finding.{all_at}
+use Rattle.reqtable_table.proofs.Same.{all_same, same_package, packages_on, marks_same, have_lines, has_cases, runs_on}
+use Rattle.reqtable_table.proofs.Searching.{zip_at, zip_long}
 
 abbrev pub kept_records : List Package → List KeptPackage
 kept_records packages = map package_record packages
@@ -44,7 +53,7 @@ any_same nodes v (x ∷ a) [] s = absurd s
 any_same nodes v (x ∷ a) (y ∷ b) s =
     let here = ap (λ t. holds nodes t v) s.0.marker in
     let rest = any_same nodes v a b s.1 in
-    λ i. cond (here i) true (rest i)
+    λ i. here i || rest i
 
 module _ (admits : Admits) (nodes : List NodeRecord) (v : Valuation) (candidates : List Candidate) where
   -- the row of a package of which a line applies
@@ -81,7 +90,7 @@ module _ (admits : Admits) (nodes : List NodeRecord) (v : Valuation) (candidates
         };
       })
 
-  asked : KeptPackage → Bool
+  abbrev asked : KeptPackage → Bool
   asked = is_asked nodes v
 
   one_more : (table : List KeptPackage) (kept : KeptPackage) (b : Bool) → asked kept ≡ b →
@@ -166,7 +175,7 @@ module _ (nodes : List NodeRecord) (v : Valuation) (candidates : List Candidate)
 
   module _ (now : List Package) (i : ℕ) (kept : Package) (so_far : AreAnswered now i) (within : i < length now)
       (is : kept ≡ get_or now i kept) where
-    first : Package
+    abbrev pub first : Package
     first = get_or old i kept
 
     inside : i < length old
@@ -209,3 +218,94 @@ module _ (nodes : List NodeRecord) (v : Valuation) (candidates : List Candidate)
           let all = most_front nodes v candidates old (i + 1) in
           let few = next.tests in
           (next.same, omega arith)
+
+-- ---- one more package, with its candidates
+
+module _ (nodes : List NodeRecord) (v : Valuation) (runs : RunsRecord) (ordered : AreOrdered runs.candidates runs.placed)
+    (old : List Package) (lines : AllByRecursion HasItsLines (kept_records old))
+    (cases : AllByRecursion (HasItsCases nodes) (kept_records old)) (are : AreRunsOf (kept_records old) runs)
+    (now : List Package) (i : ℕ) (kept : Package) (so_far : AreAnswered nodes v runs.candidates old now i) (within : i < length now)
+    (is : kept ≡ get_or now i kept) where
+  are_now : AreRunsOf (kept_records now) runs
+  are_now = runs_on runs (kept_records now) (kept_records old) so_far.same are
+
+  pub lines_here : HasItsLines (package_record kept)
+  lines_here = all_at HasItsLines package_record now i kept within is (have_lines (kept_records now) (kept_records old) so_far.same lines)
+
+  pub cases_here : HasItsCases nodes (package_record kept)
+  cases_here =
+      all_at (HasItsCases nodes) package_record now i kept within is (has_cases nodes (kept_records now) (kept_records old) so_far.same cases)
+
+  pub within_runs : i < length runs.runs
+  within_runs =
+      let long = zip_long (λ (k : KeptPackage) run. run ≡ filter (is_candidate k.name) runs.placed) package_record now runs.runs are_now in
+      omega arith
+
+  module _ (own : List (ℕ × Candidate)) (own_at : (other : List (ℕ × Candidate)) → own ≡ get_or runs.runs i other) where
+    own_is : own ≡ filter (is_candidate kept.name) runs.placed
+    own_is =
+        own_at [] ∙ zip_at (λ (k : KeptPackage) run. run ≡ filter (is_candidate k.name) runs.placed) package_record now runs.runs i kept [] are_now within
+        ∙ ap (λ (k : Package). filter (is_candidate k.name) runs.placed) (sym is)
+
+    pub said_here : AllByRecursion (λ c. IsSaid c.1.version) own
+    said_here =
+        subst (AllByRecursion (λ (c : ℕ × Candidate). IsSaid c.1.version)) (sym own_is)
+        (run_said runs.candidates runs.placed ordered.in_order kept.name ordered.printable)
+
+    pub below_here : AllByRecursion (λ c. c.0 < length runs.candidates) own
+    below_here =
+        subst (AllByRecursion (λ (c : ℕ × Candidate). c.0 < length runs.candidates)) (sym own_is)
+        (run_below runs.candidates runs.placed ordered.in_order kept.name)
+
+    module _ (new : Package) (same : SamePackage (package_record new) (package_record kept))
+        (tests : tests_of (package_record new).lines ≤ tests_of (package_record kept).lines
+        + most_tests (kept_asked nodes v (package_record kept).lines) own) where
+      tests_here : tests_of (package_record new).lines ≤ tests_of (package_record kept).lines
+          + most_tests (kept_asked nodes v (package_record kept).lines) (own_candidates runs.candidates kept.name)
+      tests_here =
+          let asks = kept_asked nodes v (package_record kept).lines in
+          subst (λ n. tests_of (package_record new).lines ≤ tests_of (package_record kept).lines + n)
+          (ap (most_tests asks) own_is ∙ run_tests runs.candidates runs.placed ordered.in_order kept.name asks) tests
+
+      pub next_here : AreAnswered nodes v runs.candidates old (set now i new) (i + 1)
+      next_here = next_answered nodes v runs.candidates old now i kept so_far within is new same tests_here
+
+      pub end_here : AllZip SamePackage (kept_records (set now i new)) (kept_records old)
+          × (all_tests (kept_records (set now i new)) ≤ all_tests (kept_records old) + most_tests_of nodes v runs.candidates (kept_records old))
+      end_here = answered_so_far nodes v runs.candidates old now i kept so_far within is new same tests_here
+
+    module _ (admits : Admits) (rows : List RowRecord)
+        (before : AreRowsFor admits nodes v runs.candidates (kept_records (take i old)) rows) where
+      row_if : (row : Option RowRecord) → IsRowInOrder admits nodes v own (package_record kept) row →
+          IsRowIf admits nodes v runs.candidates (package_record (first nodes v runs.candidates old now i kept so_far within is)) row
+      row_if row h =
+          row_if_same admits nodes v runs.candidates (package_record kept)
+          (package_record (first nodes v runs.candidates old now i kept so_far within is))
+          (was_here nodes v runs.candidates old now i kept so_far within is) row
+          (row_in_order admits nodes v runs.candidates runs.placed ordered.in_order (package_record kept) own own_is row h)
+
+      -- with its row, where it has one
+      pub rows_here : (row : Option RowRecord) → IsRowInOrder admits nodes v own (package_record kept) row →
+          AreRowsFor admits nodes v runs.candidates (kept_records (take (i + 1) old)) (rows ++ option_map_or (λ r. r ∷ []) row [])
+      rows_here None h =
+          subst (λ t. AreRowsFor admits nodes v runs.candidates t (rows ++ [])) (sym (taken nodes v runs.candidates old now i kept so_far within is))
+          (subst (AreRowsFor admits nodes v runs.candidates (kept_records (take i old) ++ package_record (first nodes v runs.candidates old now i kept so_far within is) ∷ []))
+          (sym (append-nil rows))
+          (none_more admits nodes v runs.candidates (kept_records (take i old))
+          (package_record (first nodes v runs.candidates old now i kept so_far within is)) rows before (row_if None h)))
+      rows_here (Some row) h =
+          subst (λ t. AreRowsFor admits nodes v runs.candidates t (rows ++ row ∷ [])) (sym (taken nodes v runs.candidates old now i kept so_far within is))
+          (row_more admits nodes v runs.candidates (kept_records (take i old))
+          (package_record (first nodes v runs.candidates old now i kept so_far within is)) rows row before (row_if (Some row) h))
+
+-- ---- the rows themselves
+
+pub seen_added : (rows : List Row) (row : Option Row) →
+    map row_seen (rows ++ option_map_or (λ r. r ∷ []) row []) ≡ map row_seen rows ++ option_map_or (λ r. r ∷ []) (option_map row_seen row) []
+seen_added rows None = map-append row_seen rows []
+seen_added rows (Some row) = map-append row_seen rows (row ∷ [])
+
+pub all_added : (P : Row → Type 0) (rows : List Row) (row : Option Row) → All P rows → IfSome row P →
+    All P (rows ++ option_map_or (λ r. r ∷ []) row [])
+all_added P rows None all h = subst (All P) (sym (append-nil rows)) all
+all_added P rows (Some row) all h = All-push P rows row all h

@@ -1,6 +1,8 @@
 //! The row of a package, where a line of it applies.
 
-ghost use Rattle.std.specs.Prelude.{◌≡◌, ◌≤◌, ◌<◌, ◌+◌, ℕ, length, map, option_map, All, IfOk, IfSome};
+ghost use Rattle.std.specs.Prelude.{◌≡◌, ◌≤◌, ◌<◌, ◌+◌, ℕ, ◌++◌, ◌∷◌, [], length, map, option_map, All};
+ghost use Rattle.std.specs.Prelude.{IfOk, OnOk, IfSome};
+ghost use Rattle.std.specs.Option.{option_map_or};
 ghost use Rattle.std.specs.List.{list_any, AllZip, AllByRecursion};
 ghost use Rattle.pep440_range.specs.Agreement.{IsSaid};
 ghost use Rattle.reqtable_text.specs.Ordered.{placed_seen};
@@ -55,13 +57,20 @@ pub(crate) fn rows_of<F: Fn(&Version, bool) -> bool>(
 {
     let mut rows = Vec::new(alloc);
     for (index, kept) in packages.iter_mut().enumerate() {
-        match row_of(alloc, kept, setting, runs.of_place(index), admission) {
-            Ok(Some(row)) => rows.push(row)?,
-            Ok(None) => {}
-            Err(error) => return Err(error),
-        }
+        let row = row_of(alloc, kept, setting, runs.of_place(index), admission)?;
+        add_row(&mut rows, row)?;
     }
     Ok(rows)
+}
+
+/// Adds a row, where there is one.
+fn add_row(rows: &mut Vec<Row>, row: Option<Row>) -> Result<(), AllocError>
+    ensures { OnOk result (rows.new.items ≡ rows.old.items ++ option_map_or (λ row. row ∷ []) row []) }
+{
+    if let Some(row) = row {
+        rows.push(row)?;
+    }
+    Ok(())
 }
 
 /// The row of a package with these candidates in order, where a line of it applies.
