@@ -80,15 +80,17 @@ module _ (admits : Admits) (nodes : List NodeRecord) (v : Valuation) (candidates
       run ≡ filter (is_candidate kept.name) placed → (row : Option RowRecord) → IsRowInOrder admits nodes v run kept row → IsRowIf kept row
   row_in_order placed order kept run e None is = is
   row_in_order placed order kept run e (Some row) is =
-      let asks = kept_asked nodes v kept.lines in
-      (is.asked, record {
-        named = is.named;
-        its = record {
-          extras_rise = is.extras_rise;
-          extras_are = is.extras_are;
-          outcome = is.outcome ∙ ap (outcome_in_order admits asks) e ∙ run_outcome candidates placed order kept.name admits asks;
-        };
-      })
+      let asks = kept_asked nodes v kept.lines in (
+        is.asked,
+        record {
+          named = is.named;
+          its = record {
+            extras_rise = is.extras_rise;
+            extras_are = is.extras_are;
+            outcome = is.outcome ∙ ap (outcome_in_order admits asks) e ∙ run_outcome candidates placed order kept.name admits asks;
+          };
+        },
+      )
 
   abbrev asked : KeptPackage → Bool
   asked = is_asked nodes v

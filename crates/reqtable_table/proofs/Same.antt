@@ -24,7 +24,7 @@ use Rattle.reqtable_table.specs.Answers.{SameLine, SamePackage, kept_marks, kept
 use Rattle.reqtable_table.specs.Cases.{IsCaseOf, HasItsCases}
 use Rattle.reqtable_table.specs.Kept.{KeptLine, KeptCase, KeptPackage, Keeps, KeepsAll, kept_front, kept_under, names_in, is_bound}
 use Rattle.reqtable_table.specs.Runs.{RunsRecord, AreRunsOf}
-use Rattle.reqtable_table.specs.Standing.{HasItsFlags, IsOfTexts, HasItsLines}
+use Rattle.reqtable_table.specs.Standing.{HasItsFlags, IsOfTexts, HasItsLines, IsTable}
 use Rattle.reqtable_table.proofs.AskedLines.{same_all, same_fronts, same_on}
 use Rattle.reqtable_table.proofs.Marking.{marked_map}
 
@@ -210,3 +210,9 @@ runs_by placed (x ∷ a) (y ∷ b) (run ∷ runs) s h =
 -- and so are the candidates of each
 pub runs_on : (all : RunsRecord) (a b : List KeptPackage) → AllZip SamePackage a b → AreRunsOf b all → AreRunsOf a all
 runs_on all a b s h = runs_by all.placed a b all.runs s h
+
+pub table_same : (a b : List KeptPackage) → AllZip SamePackage a b → IsTable b → IsTable a
+table_same a b s h = record {
+  rising = subst (IsStrictlySortedBy _) (sym (names_same a b s)) h.rising;
+  lines = have_lines a b s h.lines;
+}

@@ -90,9 +90,7 @@ impl Table {
     {
         let setting = Setting::new(interner, environment, extras);
         runs.are_ordered();
-        match rows_of(alloc, &mut self.packages, &setting, runs, admission) {
-            Ok(rows) => Ok(Answer { rows }),
-            Err(error) => Err(error),
-        }
+        let rows = rows_of(alloc, &mut self.packages, &setting, runs, admission)?;
+        Ok(Answer { rows })
     }
 }

@@ -1,0 +1,22 @@
+use Rattle.std.proofs.Common.{◌∙◌, map, subst}
+use Rattle.std.proofs.lemmas.Result.{IfOk-weaker}
+use Rattle.pep508_evaluation.specs.Valuations.{valuation_of}
+use Rattle.reqtable_answer.specs.Answer.{IsAnswer}
+use Rattle.reqtable_answer.specs.Rows.{row_seen}
+use Rattle.reqtable_requirements.specs.Asks.{asks_of}
+use Rattle.reqtable_table.proofs.Same.{all_same}
+use Rattle.reqtable_table.proofs.table.Table.answer.Goals as goal
+
+pub returns-in_err-ordered-clause-kept : goal.returns-in_err-ordered-clause-kept
+returns-in_err-ordered-clause-kept g c = all_same c.args.self.now
+
+pub returns-in_err-runs-clause-kept : goal.returns-in_err-runs-clause-kept
+returns-in_err-runs-clause-kept g c = all_same c.args.self.now
+
+pub returns-clause-answered : goal.returns-clause-answered
+returns-clause-answered g c =
+    IfOk-weaker c.answer_among.result _ _
+    (λ answer h said admits keeps by.
+    subst (λ candidates. IsAnswer admits (asks_of (valuation_of c.args.environment.now c.args.extras.now) said) candidates
+    (map row_seen answer.rows.items)) (c.in_ok-runs.ensures.candidates ∙ c.in_ok-ordered.ensures) (h said admits keeps by))
+    c.answer_among.ensures.answered

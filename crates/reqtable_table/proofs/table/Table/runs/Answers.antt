@@ -1,0 +1,24 @@
+use Rattle.std.proofs.Common.{◌≡◌, ◌∙◌, ◌+◌, map, filter, take, ap}
+use Rattle.std.proofs.lemmas.List.{map-append}
+use Rattle.reqtable_text.specs.Ordered.{placed_seen}
+use Rattle.reqtable_answer.specs.Asks.{is_candidate}
+use Rattle.reqtable_table.specs.Kept.{KeptPackage}
+use Rattle.reqtable_table.specs.KeptLines.{package_record}
+use Rattle.reqtable_table.proofs.Finding.{seen_more}
+use Rattle.reqtable_table.proofs.Packages.{zip_pushed}
+use Rattle.reqtable_table.proofs.table.Table.runs.Goals as goal
+
+pub loop-kept-preserved : goal.loop-kept-preserved
+loop-kept-preserved c =
+    let items = c.deref-kept-items.result.now in
+    let i = c.loop-kept.kept-index in
+    let kept = c.kept-item.result in
+    let runs = c.loop-kept.runs.items in
+    let placed = c.args.ordered.now.placed in
+    let own = map placed_seen c.run_of.result.now in
+    zip_pushed (λ (k : KeptPackage) run. run ≡ filter (is_candidate k.name) placed) (map package_record (take i items))
+    (map package_record (take (i + 1) items)) (map (λ run. map placed_seen run.now) runs)
+    (map (λ run. map placed_seen run.now) c.push.new.self.items) (package_record kept) own
+    (seen_more package_record items i kept c.loop-kept-test.true c.kept-item.is)
+    (ap (map (λ run. map placed_seen run.now)) c.in_ok-push.ensures.items ∙ map-append (λ run. map placed_seen run.now) runs _)
+    c.loop-kept.invariant c.run_of.ensures
