@@ -1,5 +1,5 @@
--- What a table answers: the rows of the packages of which a line applies, and how many specifiers are asked for
--- that.
+-- What a table answers: the rows of the packages of which a line applies, and how many specifiers are asked
+-- for that.
 use Rattle.std.specs.Prelude.{◌≡◌, ◌+◌, ◌==◌, ◌&&◌, ℕ, Bool, List, [], ◌∷◌, map, filter, length, is_none}
 use Rattle.std.specs.Prelude.{if◌then◌else◌}
 use Rattle.std.specs.List.{list_any, enumerate_from, AllZip}
