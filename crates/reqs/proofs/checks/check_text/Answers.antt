@@ -1,10 +1,10 @@
 use Rattle.std.proofs.Common.{◌∙◌, Ok, ap, sym}
 use Rattle.std.proofs.lemmas.Result.{err_from_is_err_and}
-use Rattle.reqs.specs.declared.fault.Input.TheVariants.{First}
-use Rattle.reqs.specs.Faults.{IsPlain, IsOfTexts}
-use Rattle.reqs.specs.Inputs.{texts_of}
+use Rattle.reqs_ends.specs.declared.fault.Input.TheVariants.{First}
+use Rattle.reqs_ends.specs.Faults.{IsPlain, IsOfTexts}
+use Rattle.reqs_ends.specs.Inputs.{texts_of}
 use Rattle.reqtable_requirements.proofs.Asked.{are_of_nodes}
-use Rattle.reqs.proofs.Steps.{refuses_rest, refuses_texts, whole}
+use Rattle.reqs_ends.proofs.Steps.{refuses_rest, refuses_texts, whole}
 use Rattle.reqs.proofs.checks.check_text.Goals as goal
 
 pub returns-in_err-extras : goal.returns-in_err-extras

@@ -1,0 +1,4 @@
+pub mod Texts
+pub mod Extras
+pub mod Reading
+pub mod Steps
