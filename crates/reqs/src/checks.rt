@@ -18,8 +18,10 @@ use pep508_environment::MarkerEnvironment;
 use pep508_name::ExtraName;
 use pep508_tree::Interner;
 use pep508_url::Vars;
-use reqs_ends::{Input, RunFault, Status};
-use reqs_ends::{read_candidates, read_environment, read_extras, read_input, read_requirements};
+use reqs_ends::{
+    Input, RunFault, Status, read_candidates, read_environment, read_extras, read_input,
+    read_requirements,
+};
 use reqs_io::write_whole;
 use reqtable_answer::Admission;
 use reqtable_requirements::Requirements;

@@ -23,8 +23,10 @@ use pep508_environment::MarkerEnvironment;
 use pep508_name::ExtraName;
 use pep508_tree::Interner;
 use pep508_url::Vars;
-use reqs_ends::{Input, RunFault, Status};
-use reqs_ends::{read_candidates, read_environments, read_extras, read_input, read_requirements};
+use reqs_ends::{
+    Input, RunFault, Status, read_candidates, read_environments, read_extras, read_input,
+    read_requirements,
+};
 use reqs_io::write_whole;
 use reqtable_answer::Admission;
 use reqtable_requirements::Requirements;
@@ -145,7 +147,11 @@ fn read_text(
     ensures { (vars : Variables) (said : List LineRecord) →
         AllZip (StandsFor vars interner.old.nodes) requirements said →
         AnswersRead limit (record {
-          extras = extras.now; lines = said; second = environments.now; candidates = candidates.now }) result }
+          extras = extras.now;
+          lines = said;
+          second = environments.now;
+          candidates = candidates.now;
+        }) result }
 {
     let mut table = match Table::build(alloc, requirements, interner, limit) {
         Ok(table) => table,
@@ -216,8 +222,7 @@ fn answer_text(
     ensures kept { AllZip SamePackage table.new table.old }
 {
     let admission = Admission::new(|_, _| true);
-    let answer =
-        table.answer_in_order(alloc, interner, environment, extras, ordered, &admission)?;
+    let answer = table.answer_in_order(alloc, interner, environment, extras, ordered, &admission)?;
     answer.text(alloc, ordered.candidates())
 }
 

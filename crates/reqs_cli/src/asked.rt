@@ -15,9 +15,7 @@ const VERSION: &str = "0.1.0";
 pub enum Asked {
     Check,
     /// No package may have more cases than the limit.
-    Matrix {
-        limit: u64,
-    },
+    Matrix { limit: u64 },
 }
 
 impl Asked {
@@ -72,8 +70,9 @@ fn check_command(alloc: Global) -> Result<Command<'static>, AllocError> {
     let environment = Arg::new(alloc, "ENV")
         .help("The environment, a JSON object in a file")
         .required(true);
-    let check = Command::new(alloc, "check")
-        .about("Prints the greatest candidate of each package that the lines ask for");
+    let check = Command::new(alloc, "check").about(
+        "Prints the greatest candidate of each package that the lines ask for",
+    );
     with_inputs(alloc, check, environment)
 }
 

@@ -77,11 +77,7 @@ fn refuse_words<R: Runtime>(rt: &R, error: &Error) -> ExitCode {
 }
 
 /// Runs a command on the files that were named.
-fn run_asked<R: Runtime + AllocGlobal>(
-    rt: &R,
-    asked: Asked,
-    given: &ArgMatches<'_>,
-) -> ExitCode {
+fn run_asked<R: Runtime + AllocGlobal>(rt: &R, asked: Asked, given: &ArgMatches<'_>) -> ExitCode {
     let paths = asked.paths(given);
     if paths.iter().filter(|path| **path == STANDARD_INPUT).count() > 1 {
         return end(

@@ -44,8 +44,8 @@ member_text path index name what =
 
 -- that a package of a file has more cases than the limit
 abbrev pub cases_text : List ℕ → ℕ → List ℕ → List ℕ
-cases_text path limit package =
-    path ++ codes ": more than " ++ decimal limit ++ codes " cases for " ++ package
+cases_text path limit name =
+    path ++ codes ": more than " ++ decimal limit ++ codes " cases for " ++ name
 
 -- what is said first of a line that is no requirement: the place in bytes of what is at fault
 abbrev pub requirement_front : List ℕ → ℕ → Pep508Error Verbatim VerbatimUrlError → List ℕ
@@ -80,7 +80,7 @@ fault_text said (Version input index name) =
     Some (member_text (said input) index (member_name name) (codes "no version"))
 fault_text said (Candidate input number cause) =
     Some (line_text (said input) number (cause_text cause))
-fault_text said (TooManyCases input limit package) = Some (cases_text (said input) limit package)
+fault_text said (TooManyCases input limit name) = Some (cases_text (said input) limit name)
 
 -- a text that says of a line that it is no requirement says so and where first, whatever stands behind that
 abbrev pub HasItsFront : (Input → List ℕ) → RunFault → List ℕ → Type 0

@@ -10,6 +10,4 @@ mod input;
 
 pub use environments::read_environments;
 pub use fault::{Input, JsonShape, RefusedWord, RunFault, Status};
-pub use input::{
-    read_candidates, read_environment, read_extras, read_input, read_requirements,
-};
+pub use input::{read_candidates, read_environment, read_extras, read_input, read_requirements};
