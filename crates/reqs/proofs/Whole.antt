@@ -1,12 +1,7 @@
 -- What is answered behind a list of requirements is what is answered to all texts.
-use Rattle.std.proofs.Common.{◌≡◌, ◌⊎◌, inl, inr, ℕ, List, Result, Ok, Err, String, refl, sym, subst}
+use Rattle.std.proofs.Common.{◌≡◌, ◌⊎◌, inl, inr, ℕ, List, Result, Ok, Err, String, sym, subst}
 use Rattle.pep508_url.specs.Vars.{Variables}
-use Rattle.reqtable_cases.specs.Lines.{HasTooMany}
 use Rattle.reqtable_requirements.specs.LineReading.{LineRecord}
-use Rattle.reqtable_table.specs.declared.table.TableError.{TableError}
-use Rattle.reqtable_table.specs.declared.table.TableError.TheVariants as tables
-use Rattle.reqtable_table.specs.Cases.{Builds}
-use Rattle.pep508_tree.specs.Meaning.{NodeRecord}
 use Rattle.pep508_environment.specs.Environment.{EnvironmentRecord}
 use Rattle.reqs_ends.specs.declared.fault.Input.{Input}
 use Rattle.reqs_ends.specs.declared.fault.Input.TheVariants.{First, Second}
@@ -16,7 +11,7 @@ use Rattle.reqs_ends.specs.Faults.{IsPlain, IsOfTexts, Refuses}
 use Rattle.reqs_ends.specs.Inputs.{extras_of, lines_from, environment_from, environments_from}
 use Rattle.reqs_ends.proofs.Steps.{refuses_texts}
 use Rattle.reqs.specs.Check.{AnswersText}
-use Rattle.reqs.specs.Matrix.{MatrixTexts, IsRead, IsOverLimit, AnswersRead, AnswersAll, of_table}
+use Rattle.reqs.specs.Matrix.{MatrixTexts, IsRead, IsOverLimit, AnswersAll}
 use Rattle.reqs.specs.Texts.{ReadTexts, behind_lines, texts_of}
 
 module _ {Y : Type 0} (vars : Variables) (extras : List (List ℕ)) (x y z : List ℕ) (names : List (List ℕ))
@@ -38,25 +33,18 @@ module _ {Y : Type 0} (vars : Variables) (extras : List (List ℕ)) (x y z : Lis
       rw (e, l) (inl (refuses_texts vars First x fault (behind_lines (environments_from Second) names said y z) h))
   whole_matrix limit (Err fault) (inr h) = rw (e, l) (inr h)
 
--- what is answered once all is read
-pub behind : {Y : Type 0} (limit : ℕ) (read : ReadTexts (List EnvironmentRecord)) (texts : MatrixTexts)
-    (result : Result (String Y) RunFault) → texts ≡ Ok read → AnswersRead limit read result
-    → AnswersAll IsPlain limit result texts
-behind limit read texts (Ok text) e h = (read, (e, h))
-behind limit read texts (Err fault) e (inl m) =
-    let P : RunFault → Type 0 = λ f. Refuses IsPlain f texts in inl (subst P (sym m) (tt, tt))
-behind limit read texts (Err fault) e (inr h) = inr (read, (e, h))
-
 -- what refuses all texts may be said of them
-pub is_of_texts : (vars : Variables) (list : Input) (bytes : List ℕ) (limit : ℕ) (fault : RunFault) (texts : MatrixTexts)
-    → Refuses (IsOfTexts vars list bytes) fault texts ⊎ IsRead texts (λ read. IsOverLimit limit read fault)
+pub may_be_said : (vars : Variables) (list : Input) (bytes : List ℕ) (limit : ℕ) (fault : RunFault) (texts : MatrixTexts)
+    → Refuses (IsOfTexts vars list bytes) fault texts ⊎ IsRead texts (λ read. IsOverLimit limit read.lines fault)
     → IsOfTexts vars list bytes fault
-is_of_texts vars list bytes limit fault texts (inl h) = h.0
-is_of_texts vars list bytes limit fault texts (inr h) =
+may_be_said vars list bytes limit fault texts (inl h) = h.0
+may_be_said vars list bytes limit fault texts (inr h) =
     let P : RunFault → Type 0 = λ f. IsOfTexts vars list bytes f in subst P (sym h.2.2.1) tt
 
--- a table that isn't built
-pub unbuilt : {Y : Type 0} (limit : ℕ) (nodes : List NodeRecord) (read : ReadTexts (List EnvironmentRecord)) (error : TableError)
-    → Builds limit nodes read.lines (Err error) → AnswersRead {Y} limit read (Err (of_table limit error))
-unbuilt limit nodes read (tables.TooManyCases name) h = inr (name, (refl, h))
-unbuilt limit nodes read tables.Memory h = inl refl
+-- no table of what is read
+pub unbuilt : (limit : ℕ) (read : ReadTexts (List EnvironmentRecord)) (texts : MatrixTexts) (fault : RunFault) → texts ≡ Ok read
+    → (fault ≡ Memory) ⊎ IsOverLimit limit read.lines fault
+    → Refuses IsPlain fault texts ⊎ IsRead texts (λ read. IsOverLimit limit read.lines fault)
+unbuilt limit read texts fault e (inl m) =
+    let P : RunFault → Type 0 = λ f. Refuses IsPlain f texts in inl (subst P (sym m) (tt, tt))
+unbuilt limit read texts fault e (inr h) = inr (read, (e, h))

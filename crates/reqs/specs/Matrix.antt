@@ -3,6 +3,7 @@ use Rattle.std.specs.Prelude.{◌≡◌, ◌⊎◌, ℕ, suc, List, [], ◌∷�
 use Rattle.std.specs.String.{string_bytes}
 use Rattle.std.specs.Fmt.{decimal}
 use Rattle.pep508_url.specs.Vars.{Variables}
+use Rattle.pep508_tree.specs.Meaning.{NodeRecord}
 use Rattle.pep508_environment.specs.Environment.{EnvironmentRecord}
 use Rattle.pep508_evaluation.specs.Valuations.{valuation_of}
 use Rattle.reqtable_text.specs.declared.candidates.Candidate.{Candidate}
@@ -10,8 +11,8 @@ use Rattle.reqtable_answer.specs.Answer.{Admits, IsAnswerText}
 use Rattle.reqtable_requirements.specs.Asks.{asks_of}
 use Rattle.reqtable_requirements.specs.LineReading.{LineRecord}
 use Rattle.reqtable_cases.specs.Lines.{HasTooMany, IsFirstTooMany}
-use Rattle.reqtable_table.specs.declared.table.TableError.{TableError}
-use Rattle.reqtable_table.specs.declared.table.TableError.TheVariants as tables
+use Rattle.reqtable_table.specs.Cases.{Builds}
+use Rattle.reqtable_table.specs.Kept.{KeptPackage}
 use Rattle.reqs_ends.specs.declared.fault.Input.TheVariants.{First, Second, Third}
 use Rattle.reqs_ends.specs.declared.fault.RunFault.{RunFault}
 use Rattle.reqs_ends.specs.declared.fault.RunFault.TheVariants.{TooManyCases, Memory}
@@ -50,26 +51,25 @@ pub record IsWithinLimit (limit : ℕ) (read : ReadTexts (List EnvironmentRecord
   pub is_text : IsMatrixText any read.extras read.lines read.candidates 1 read.second text
 
 -- the fault names the first package that has more
-abbrev pub IsOverLimit : ℕ → ReadTexts (List EnvironmentRecord) → RunFault → Type 0
-IsOverLimit limit read fault =
-    (name : List ℕ) × (fault ≡ TooManyCases First limit name) × IsFirstTooMany limit read.lines name
+abbrev pub IsOverLimit : ℕ → List LineRecord → RunFault → Type 0
+IsOverLimit limit lines fault =
+    (name : List ℕ) × (fault ≡ TooManyCases First limit name) × IsFirstTooMany limit lines name
 
 -- texts are read as what has this property
 abbrev pub IsRead : MatrixTexts → (ReadTexts (List EnvironmentRecord) → Type 0) → Type 0
 IsRead texts Holds = (read : ReadTexts (List EnvironmentRecord)) × (texts ≡ Ok read) × Holds read
-
--- what texts that are read are answered with
-abbrev pub AnswersRead : {Y : Type 0} → ℕ → ReadTexts (List EnvironmentRecord) → Result (String Y) RunFault
-    → Type 0
-AnswersRead limit read (Ok text) = IsWithinLimit limit read (string_bytes text)
-AnswersRead limit read (Err fault) = (fault ≡ Memory) ⊎ IsOverLimit limit read fault
 
 -- the text has the answers; or the texts are refused for what the fault says, or, once all are read, for a
 -- package that has too many cases
 abbrev pub AnswersAll : {Y : Type 0} → (RunFault → Type 0) → ℕ → Result (String Y) RunFault → MatrixTexts → Type 0
 AnswersAll IsOne limit (Ok text) texts = IsRead texts (λ read. IsWithinLimit limit read (string_bytes text))
 AnswersAll IsOne limit (Err fault) texts =
-    Refuses IsOne fault texts ⊎ IsRead texts (λ read. IsOverLimit limit read fault)
+    Refuses IsOne fault texts ⊎ IsRead texts (λ read. IsOverLimit limit read.lines fault)
+
+-- a table of lines is built, with these nodes, or refused
+abbrev pub TablesAs : ℕ → List NodeRecord → List LineRecord → Result (List KeptPackage) RunFault → Type 0
+TablesAs limit nodes lines (Ok table) = Builds limit nodes lines (Ok table)
+TablesAs limit nodes lines (Err fault) = (fault ≡ Memory) ⊎ IsOverLimit limit lines fault
 
 abbrev pub matrix_texts : Variables → List (List ℕ) → List (List ℕ) → MatrixTexts
 matrix_texts vars extras inputs =
@@ -85,7 +85,7 @@ MatrixAnswersAs limit vars extras inputs status text =
 abbrev pub MatrixRefuses : ℕ → Variables → List (List ℕ) → List (List ℕ) → RunFault → Type 0
 MatrixRefuses limit vars extras inputs fault =
     Refuses (IsOfTexts vars First (of_input inputs First)) fault (matrix_texts vars extras inputs)
-    ⊎ IsRead (matrix_texts vars extras inputs) (λ read. IsOverLimit limit read fault)
+    ⊎ IsRead (matrix_texts vars extras inputs) (λ read. IsOverLimit limit read.lines fault)
 
 -- `matrix` ends so, with what its readers tell of the requirements, the environments and the candidates
 abbrev pub RunsMatrix : {W : Type 0} → ℕ → Variables → List (List ℕ) → Option (List ℕ) → Option (List ℕ)
@@ -93,8 +93,3 @@ abbrev pub RunsMatrix : {W : Type 0} → ℕ → Variables → List (List ℕ) �
 RunsMatrix limit vars extras requirements environments candidates contents old new result =
     Runs (MatrixAnswersAs limit vars extras) (MatrixRefuses limit vars extras)
     (requirements ∷ environments ∷ candidates ∷ []) contents old new result
-
--- the fault of a table of the first input's requirements
-abbrev pub of_table : ℕ → TableError → RunFault
-of_table limit (tables.TooManyCases name) = TooManyCases First limit name
-of_table limit tables.Memory = Memory

@@ -15,8 +15,8 @@ ghost use Rattle.reqs_ends.specs.declared.fault.Input.TheVariants.{First, Second
 ghost use Rattle.reqs_ends.specs.Faults.{IsPlain, IsOfTexts};
 ghost use Rattle.reqs_ends.specs.Inputs.{environments_from};
 ghost use Rattle.reqs.specs.Check.{any};
-ghost use Rattle.reqs.specs.Matrix.{environment_line, IsMatrixText, AnswersAll, AnswersRead};
-ghost use Rattle.reqs.specs.Matrix.{of_table, RunsMatrix};
+ghost use Rattle.reqs.specs.Matrix.{environment_line, IsMatrixText, AnswersAll, TablesAs};
+ghost use Rattle.reqs.specs.Matrix.{RunsMatrix};
 ghost use Rattle.reqs.specs.Texts.{behind_lines, texts_of};
 
 use pep508_environment::MarkerEnvironment;
@@ -122,65 +122,39 @@ fn matrix_behind(
 {
     let environments = read_environments(alloc, Input::Second, environments)?;
     let candidates = read_candidates(alloc, Input::Third, candidates)?;
-    read_text(
-        alloc,
-        requirements,
-        interner,
-        &environments,
-        extras,
-        &candidates,
-        limit,
-    )
-}
-
-/// The text of all answers once all is read.
-fn read_text(
-    alloc: Global,
-    requirements: Requirements,
-    interner: &mut Interner,
-    environments: &[MarkerEnvironment],
-    extras: &[ExtraName],
-    candidates: &Candidates,
-    limit: u64,
-) -> Result<String, RunFault>
-    requires { AreOfNodes interner.old.nodes requirements }
-    ensures { (vars : Variables) (said : List LineRecord) →
-        AllZip (StandsFor vars interner.old.nodes) requirements said →
-        AnswersRead limit (record {
-          extras = extras.now;
-          lines = said;
-          second = environments.now;
-          candidates = candidates.now;
-        }) result }
-{
-    let mut table = match Table::build(alloc, requirements, interner, limit) {
-        Ok(table) => table,
-        Err(error) => return Err(of_table(limit, error)),
-    };
+    let mut table = table_of(alloc, requirements, interner, limit)?;
     match answers_text(
         alloc,
         &mut table,
         interner,
-        environments,
+        &environments,
         extras,
-        candidates,
+        &candidates,
     ) {
         Ok(text) => Ok(text),
         Err(_) => Err(RunFault::Memory),
     }
 }
 
-/// The fault of a table of the first input's requirements.
-fn of_table(limit: u64, error: TableError) -> RunFault
-    ensures { result ≡ of_table limit error }
+/// The table of the first input's requirements.
+fn table_of(
+    alloc: Global,
+    requirements: Requirements,
+    interner: &mut Interner,
+    limit: u64,
+) -> Result<Table, RunFault>
+    requires { AreOfNodes interner.old.nodes requirements }
+    ensures { (vars : Variables) (said : List LineRecord) →
+        AllZip (StandsFor vars interner.old.nodes) requirements said → TablesAs limit interner.new.nodes said result }
 {
-    match error {
-        TableError::TooManyCases { package } => RunFault::TooManyCases {
+    match Table::build(alloc, requirements, interner, limit) {
+        Ok(table) => Ok(table),
+        Err(TableError::TooManyCases { package }) => Err(RunFault::TooManyCases {
             input: Input::First,
             limit,
             package,
-        },
-        TableError::Memory => RunFault::Memory,
+        }),
+        Err(TableError::Memory) => Err(RunFault::Memory),
     }
 }
 

@@ -410,9 +410,9 @@ fn at_package(
     alloc: Global,
     path: &str,
     limit: u64,
-    package: &PackageName,
+    name: &PackageName,
 ) -> Result<String, AllocError>
-    ensures { IfOk result (λ text. string_bytes text ≡ cases_text path.now limit package.now) }
+    ensures { IfOk result (λ text. string_bytes text ≡ cases_text path.now limit name.now) }
 {
-    format!(in alloc; "{path}: more than {limit} cases for {package}")
+    format!(in alloc; "{path}: more than {limit} cases for {name}")
 }
