@@ -1,29 +1,41 @@
 -- Answers for environments one after another.
-use Rattle.std.proofs.Common.{◌≡◌, ◌∙◌, ◌++◌, ◌+◌, ◌<◌, ◌∷◌, [], ℕ, suc, List, length, drop, get_or, ap, refl, sym, subst, append_assoc, add-one, drop-cons}
+use Rattle.std.proofs.Common.{◌≡◌, ◌∙◌, ◌++◌, ◌+◌, ◌<◌, ◌∷◌, [], ℕ, suc, List, length, map, drop, get_or, ap, refl, sym, subst, append_assoc, add-one, drop-cons}
 use Rattle.pep508_environment.specs.Environment.{EnvironmentRecord}
 use Rattle.pep508_evaluation.specs.Valuations.{valuation_of}
 use Rattle.reqtable_text.specs.declared.candidates.Candidate.{Candidate}
-use Rattle.reqtable_answer.specs.Answer.{IsAnswerText}
+use Rattle.reqtable_answer.specs.Answer.{RowRecord, IsAnswer, answer_text}
 use Rattle.reqtable_requirements.specs.Asks.{asks_of}
 use Rattle.reqtable_requirements.specs.LineReading.{LineRecord}
 use Rattle.reqs.specs.Check.{any}
 use Rattle.reqs.specs.Matrix.{environment_line, IsMatrixText}
 
-module _ (extras : List (List ℕ)) (lines : List LineRecord) (candidates : List Candidate) (all : List EnvironmentRecord) where
-  -- a text has the answers for the environments before this place: any text for those behind it makes it whole
-  abbrev pub IsFront : ℕ → List ℕ → Type 0
-  IsFront place front = (rest : List ℕ) → IsMatrixText any extras lines candidates (suc place) (drop place all) rest
-      → IsMatrixText any extras lines candidates 1 all (front ++ rest)
+-- a text has the answers for the environments before a place: any text for those behind it makes it whole
+abbrev pub IsFront : List (List ℕ) → List LineRecord → List Candidate → List EnvironmentRecord → ℕ → List ℕ → Type 0
+IsFront extras lines candidates all place front =
+    (rest : List ℕ) → IsMatrixText any extras lines candidates (place + 1) (drop place all) rest
+    → IsMatrixText any extras lines candidates 1 all (front ++ rest)
 
-  pub starts : IsFront 0 []
-  starts rest h = h
+module _ (extras : List (List ℕ)) (lines : List LineRecord) (candidates : List Candidate) (all : List EnvironmentRecord)
+    (place : ℕ) (x : EnvironmentRecord) (below : place < length all) (is : x ≡ get_or all place x)
+    (front : List ℕ) (so_far : IsFront extras lines candidates all place front) (rows : List RowRecord)
+    (answered : IsAnswer any (asks_of (valuation_of x extras) lines) candidates rows) where
+  here : List ℕ
+  here = environment_line (place + 1) ++ answer_text candidates rows
 
-  pub goes_on : (place : ℕ) (d : EnvironmentRecord) → place < length all → (front answer : List ℕ) → IsFront place front
-      → IsAnswerText any (asks_of (valuation_of (get_or all place d) extras) lines) candidates answer
-      → IsFront (suc place) ((front ++ environment_line (suc place)) ++ answer)
-  goes_on place d below front answer so_far is rest h =
-      let line = environment_line (suc place) in
-      let P : List EnvironmentRecord → Type 0 = λ left. IsMatrixText any extras lines candidates (suc place) left (line ++ answer ++ rest) in
-      let Q : List ℕ → Type 0 = λ text. IsMatrixText any extras lines candidates 1 all text in
-      subst Q (simp append_assoc)
-      (so_far (line ++ answer ++ rest) (subst P (sym (drop-cons all place d below)) (answer, (rest, (is, (h, refl))))))
+  -- one more answer
+  pub one_more : IsFront extras lines candidates all (place + 1) ((front ++ environment_line (place + 1)) ++ answer_text candidates rows)
+  unfolding here
+  one_more rest h =
+      let answer = answer_text candidates rows in
+      let line = environment_line (place + 1) in
+      let P : ℕ → Type 0 = λ n. IsMatrixText any extras lines candidates n (drop (place + 1) all) rest in
+      let Q : ℕ → Type 0 = λ k. IsMatrixText any extras lines candidates (suc (place + 1)) (drop k all) rest in
+      let behind : IsMatrixText any extras lines candidates (suc (place + 1)) (drop (suc place) all) rest =
+      subst Q (add-one place) (subst P (add-one (place + 1)) h) in
+      let R : EnvironmentRecord → Type 0 = λ e. IsMatrixText any extras lines candidates (place + 1) (e ∷ drop (suc place) all) (line ++ answer ++ rest) in
+      let S : List EnvironmentRecord → Type 0 = λ left. IsMatrixText any extras lines candidates (place + 1) left (line ++ answer ++ rest) in
+      let T : List ℕ → Type 0 = λ text. IsMatrixText any extras lines candidates 1 all text in
+      let whole : IsMatrixText any extras lines candidates (place + 1) (x ∷ drop (suc place) all) (line ++ answer ++ rest) =
+      (answer, (rest, ((rows, (answered, refl)), (behind, refl)))) in
+      subst T (simp append_assoc)
+      (so_far (line ++ answer ++ rest) (subst S (sym (drop-cons all place x below)) (subst R is whole)))

@@ -1,14 +1,14 @@
 //! `matrix`: the answers for many environments, from one table of the requirements.
 
-ghost use Rattle.std.specs.Prelude.{◌≡◌, ◌≢◌, ◌++◌, ℕ, List, map, IfErr, IfOk, OnOk, string_bytes};
+ghost use Rattle.std.specs.Prelude.{◌≡◌, ◌≢◌, ◌++◌, List, length, map, All, IfErr, IfOk, OnOk};
+ghost use Rattle.std.specs.Prelude.{string_bytes};
 ghost use Rattle.std.specs.List.{AllZip, AllByRecursion};
 ghost use Rattle.pep508_url.specs.Vars.{Variables};
-ghost use Rattle.pep508_evaluation.specs.Valuations.{valuation_of};
-ghost use Rattle.reqtable_answer.specs.Answer.{IsAnswerText};
-ghost use Rattle.reqtable_requirements.specs.Asks.{AreOfNodes, asks_of};
+ghost use Rattle.reqtable_answer.specs.Answer.{answer_text};
+ghost use Rattle.reqtable_answer.specs.Rows.{row_seen, IsTakenBelow};
+ghost use Rattle.reqtable_requirements.specs.Asks.{AreOfNodes};
 ghost use Rattle.reqtable_requirements.specs.LineReading.{LineRecord};
 ghost use Rattle.reqtable_requirements.specs.Requirements.{StandsFor};
-ghost use Rattle.reqtable_table.specs.Answers.{SamePackage};
 ghost use Rattle.reqtable_table.specs.Cases.{HasItsCases};
 ghost use Rattle.reqtable_table.specs.Kept.{KeepsAll};
 ghost use Rattle.reqs_ends.specs.declared.fault.Input.TheVariants.{First, Second};
@@ -28,10 +28,10 @@ use reqs_ends::{
     read_requirements,
 };
 use reqs_io::write_whole;
-use reqtable_answer::Admission;
+use reqtable_answer::{Admission, Answer};
 use reqtable_requirements::Requirements;
 use reqtable_table::{Table, TableError};
-use reqtable_text::{Candidates, Ordered};
+use reqtable_text::Candidates;
 use std::alloc::{AllocError, Global};
 use std::io::{Read, Write};
 
@@ -172,32 +172,14 @@ fn answers_text(
         IsMatrixText any extras.now said candidates.now 1 environments.now (string_bytes text)) }
 {
     let ordered = candidates.in_order(alloc)?;
+    let runs = table.runs(alloc, &ordered)?;
+    let admission = Admission::new(|_, _| true);
     let mut text = String::new(alloc);
     for (place, environment) in environments.iter().enumerate() {
-        let answer = answer_text(alloc, table, interner, environment, extras, &ordered)?;
-        push_answer(alloc, &mut text, place + 1, answer.as_str())?;
+        let answer = table.answer_among(alloc, interner, environment, extras, &runs, &admission)?;
+        push_answer(alloc, &mut text, place + 1, &answer, candidates)?;
     }
     Ok(text)
-}
-
-/// The answer of a table in an environment with the extras.
-fn answer_text(
-    alloc: Global,
-    table: &mut Table,
-    interner: &Interner,
-    environment: &MarkerEnvironment,
-    extras: &[ExtraName],
-    ordered: &Ordered<'_>,
-) -> Result<String, AllocError>
-    requires { AllByRecursion (HasItsCases interner.now.nodes) table.old }
-    ensures answered { IfOk result (λ text. (said : List LineRecord) → KeepsAll interner.now.nodes table.old said →
-        IsAnswerText any (asks_of (valuation_of environment.now extras.now) said)
-        ordered.now.candidates (string_bytes text)) }
-    ensures kept { AllZip SamePackage table.new table.old }
-{
-    let admission = Admission::new(|_, _| true);
-    let answer = table.answer_in_order(alloc, interner, environment, extras, ordered, &admission)?;
-    answer.text(alloc, ordered.candidates())
 }
 
 /// Adds the line of an environment and its answer to a text.
@@ -205,12 +187,15 @@ fn push_answer(
     alloc: Global,
     text: &mut String,
     number: usize,
-    answer: &str,
+    answer: &Answer,
+    candidates: &Candidates,
 ) -> Result<(), AllocError>
-    ensures { OnOk result (string_bytes text.new
-        ≡ (string_bytes text.old ++ environment_line number) ++ answer.now) }
+    requires { All (λ row. IsTakenBelow (length candidates.now) row.outcome) answer.now.rows.items }
+    ensures { OnOk result (string_bytes text.new ≡ (string_bytes text.old ++ environment_line number)
+        ++ answer_text candidates.now (map row_seen answer.now.rows.items)) }
 {
     let line = format!(in alloc; "env {number}\n")?;
     text.push_str(line.as_str())?;
-    text.push_str(answer)
+    let rows = answer.text(alloc, candidates)?;
+    text.push_str(rows.as_str())
 }
