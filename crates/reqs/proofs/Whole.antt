@@ -39,7 +39,7 @@ pub may_be_said : (vars : Variables) (list : Input) (bytes : List ℕ) (limit : 
     → IsOfTexts vars list bytes fault
 may_be_said vars list bytes limit fault texts (inl h) = h.0
 may_be_said vars list bytes limit fault texts (inr h) =
-    let P : RunFault → Type 0 = λ f. IsOfTexts vars list bytes f in subst P (sym h.2.2.1) tt
+    let P : RunFault → Type 0 = λ f. IsOfTexts vars list bytes f in subst P (sym h.2.1) tt
 
 -- no table of what is read
 pub unbuilt : (limit : ℕ) (read : ReadTexts (List EnvironmentRecord)) (texts : MatrixTexts) (fault : RunFault) → texts ≡ Ok read
@@ -47,4 +47,4 @@ pub unbuilt : (limit : ℕ) (read : ReadTexts (List EnvironmentRecord)) (texts :
     → Refuses IsPlain fault texts ⊎ IsRead texts (λ read. IsOverLimit limit read.lines fault)
 unbuilt limit read texts fault e (inl m) =
     let P : RunFault → Type 0 = λ f. Refuses IsPlain f texts in inl (subst P (sym m) (tt, tt))
-unbuilt limit read texts fault e (inr h) = inr (read, (e, h))
+unbuilt limit read texts fault e (inr h) = inr (read, e, h)

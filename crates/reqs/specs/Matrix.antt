@@ -1,6 +1,7 @@
 -- What `matrix` does, from the bytes of its inputs to the bytes of its answers.
 use Rattle.std.specs.Prelude.{◌≡◌, ◌⊎◌, ℕ, suc, List, [], ◌∷◌, ◌++◌, codes, Option, Result, Ok, Err, String}
 use Rattle.std.specs.String.{string_bytes}
+use Rattle.std.specs.List.{AllZip}
 use Rattle.std.specs.Fmt.{decimal}
 use Rattle.pep508_url.specs.Vars.{Variables}
 use Rattle.pep508_tree.specs.Meaning.{NodeRecord}
@@ -10,6 +11,8 @@ use Rattle.reqtable_text.specs.declared.candidates.Candidate.{Candidate}
 use Rattle.reqtable_answer.specs.Answer.{Admits, IsAnswerText}
 use Rattle.reqtable_requirements.specs.Asks.{asks_of}
 use Rattle.reqtable_requirements.specs.LineReading.{LineRecord}
+use Rattle.reqtable_requirements.specs.Requirements.{StandsFor}
+use Rattle.reqtable_requirements.specs.declared.requirements.Line.{Line}
 use Rattle.reqtable_cases.specs.Lines.{HasTooMany, IsFirstTooMany}
 use Rattle.reqtable_table.specs.Cases.{Builds}
 use Rattle.reqtable_table.specs.Kept.{KeptPackage}
@@ -65,6 +68,10 @@ abbrev pub AnswersAll : {Y : Type 0} → (RunFault → Type 0) → ℕ → Resul
 AnswersAll IsOne limit (Ok text) texts = IsRead texts (λ read. IsWithinLimit limit read (string_bytes text))
 AnswersAll IsOne limit (Err fault) texts =
     Refuses IsOne fault texts ⊎ IsRead texts (λ read. IsOverLimit limit read.lines fault)
+
+-- lines stand for those of some text
+abbrev pub AreRead : List NodeRecord → List Line → Type 0
+AreRead nodes lines = (vars : Variables) × (said : List LineRecord) × AllZip (StandsFor vars nodes) lines said
 
 -- a table of lines is built, with these nodes, or refused
 abbrev pub TablesAs : ℕ → List NodeRecord → List LineRecord → Result (List KeptPackage) RunFault → Type 0

@@ -11,11 +11,12 @@ ghost use Rattle.reqtable_requirements.specs.LineReading.{LineRecord};
 ghost use Rattle.reqtable_requirements.specs.Requirements.{StandsFor};
 ghost use Rattle.reqtable_table.specs.Cases.{HasItsCases};
 ghost use Rattle.reqtable_table.specs.Kept.{KeepsAll};
+ghost use Rattle.reqtable_table.specs.Runs.{AreRunsOf};
 ghost use Rattle.reqs_ends.specs.declared.fault.Input.TheVariants.{First, Second};
 ghost use Rattle.reqs_ends.specs.Faults.{IsPlain, IsOfTexts};
 ghost use Rattle.reqs_ends.specs.Inputs.{environments_from};
 ghost use Rattle.reqs.specs.Check.{any};
-ghost use Rattle.reqs.specs.Matrix.{environment_line, IsMatrixText, AnswersAll, TablesAs};
+ghost use Rattle.reqs.specs.Matrix.{environment_line, IsMatrixText, AreRead, AnswersAll, TablesAs};
 ghost use Rattle.reqs.specs.Matrix.{RunsMatrix};
 ghost use Rattle.reqs.specs.Texts.{behind_lines, texts_of};
 
@@ -30,7 +31,7 @@ use reqs_ends::{
 use reqs_io::write_whole;
 use reqtable_answer::{Admission, Answer};
 use reqtable_requirements::Requirements;
-use reqtable_table::{Table, TableError};
+use reqtable_table::{Runs, Table, TableError};
 use reqtable_text::Candidates;
 use std::alloc::{AllocError, Global};
 use std::io::{Read, Write};
@@ -114,7 +115,7 @@ fn matrix_behind(
     candidates: &mut Vec<u8>,
     limit: u64,
 ) -> Result<String, RunFault>
-    requires { AreOfNodes interner.old.nodes requirements }
+    requires { AreRead interner.old.nodes requirements }
     ensures { (vars : Variables) (said : List LineRecord) →
         AllZip (StandsFor vars interner.old.nodes) requirements said →
         AnswersAll IsPlain limit result (behind_lines (environments_from Second) extras.now said
@@ -173,10 +174,37 @@ fn answers_text(
 {
     let ordered = candidates.in_order(alloc)?;
     let runs = table.runs(alloc, &ordered)?;
+    answers_among(
+        alloc,
+        table,
+        interner,
+        environments,
+        extras,
+        &runs,
+        candidates,
+    )
+}
+
+/// The same among the candidates of the table's packages.
+fn answers_among(
+    alloc: Global,
+    table: &mut Table,
+    interner: &Interner,
+    environments: &[MarkerEnvironment],
+    extras: &[ExtraName],
+    runs: &Runs<'_, '_>,
+    candidates: &Candidates,
+) -> Result<String, AllocError>
+    requires cases { AllByRecursion (HasItsCases interner.now.nodes) table.old }
+    requires runs { AreRunsOf table.old runs.now }
+    requires candidates { runs.now.candidates ≡ candidates.now }
+    ensures { IfOk result (λ text. (said : List LineRecord) → KeepsAll interner.now.nodes table.old said →
+        IsMatrixText any extras.now said candidates.now 1 environments.now (string_bytes text)) }
+{
     let admission = Admission::new(|_, _| true);
     let mut text = String::new(alloc);
     for (place, environment) in environments.iter().enumerate() {
-        let answer = table.answer_among(alloc, interner, environment, extras, &runs, &admission)?;
+        let answer = table.answer_among(alloc, interner, environment, extras, runs, &admission)?;
         push_answer(alloc, &mut text, place + 1, &answer, candidates)?;
     }
     Ok(text)

@@ -3,7 +3,6 @@ use Rattle.std.proofs.lemmas.Result.{err_from_is_err_and}
 use Rattle.reqs_ends.specs.declared.fault.Input.TheVariants.{First}
 use Rattle.reqs_ends.specs.Faults.{IsPlain, IsOfTexts}
 use Rattle.reqs.specs.Texts.{texts_of}
-use Rattle.reqtable_requirements.proofs.Asked.{are_of_nodes}
 use Rattle.reqs_ends.proofs.Steps.{refuses_rest, refuses_texts}
 use Rattle.reqs.proofs.Whole.{whole_matrix}
 use Rattle.reqs.proofs.matrices.matrix_text.Goals as goal
@@ -21,8 +20,7 @@ returns-in_err-requirements c =
     rw (p.1, p.2, c.in_ok-extras.ensures) (inl (refuses_rest (IsOfTexts c.args.vars.now First c.args.requirements.now.items) _ _ _ c.in_err-requirements.ensures))
 
 pub matrix_behind-requires : goal.matrix_behind-requires
-matrix_behind-requires c =
-    are_of_nodes c.args.vars.now _ _ c.in_ok-requirements.ensures.0 c.in_ok-requirements.ensures.2
+matrix_behind-requires c = (c.args.vars.now, c.in_ok-requirements.ensures.0, c.in_ok-requirements.ensures.2)
 
 pub returns : goal.returns
 returns c =
