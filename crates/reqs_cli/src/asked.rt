@@ -66,7 +66,7 @@ pub fn matches<'a>(alloc: Global, words: &'a [String]) -> Result<ArgMatches<'a>,
     reqs.try_get_matches_from(words)
 }
 
-fn check_command(alloc: Global) -> Result<Command<'static>, AllocError> {
+fn check_command<'a>(alloc: Global) -> Result<Command<'a>, AllocError> {
     let environment = Arg::new(alloc, "ENV")
         .help("The environment, a JSON object in a file")
         .required(true);
@@ -76,7 +76,7 @@ fn check_command(alloc: Global) -> Result<Command<'static>, AllocError> {
     with_inputs(alloc, check, environment)
 }
 
-fn matrix_command(alloc: Global) -> Result<Command<'static>, AllocError> {
+fn matrix_command<'a>(alloc: Global) -> Result<Command<'a>, AllocError> {
     let environments = Arg::new(alloc, "ENVS")
         .help("The environments, a JSON list of objects in a file")
         .required(true);
@@ -93,11 +93,11 @@ fn matrix_command(alloc: Global) -> Result<Command<'static>, AllocError> {
 }
 
 /// A command with its inputs, of which this is the second, and extras.
-fn with_inputs(
+fn with_inputs<'a>(
     alloc: Global,
-    command: Command<'static>,
-    second: Arg<'static>,
-) -> Result<Command<'static>, AllocError> {
+    command: Command<'a>,
+    second: Arg<'a>,
+) -> Result<Command<'a>, AllocError> {
     let requirements = Arg::new(alloc, "REQS")
         .help(
             "The requirements, one a line, a file; - is standard input, here or in place of another file",
