@@ -195,6 +195,9 @@ for example in "$top"/examples/*/expected.txt; do
     fi
 done
 
+run matrix "$top"/examples/first/{requirements.txt,environments.json,candidates.txt}
+wants "examples/first: answers for two environments" 0 "$(cat "$top/examples/first/expected_matrix.txt")$n" ""
+
 # The scripts of examples/: what is installed for the machine's own python3, and what is asked of it.
 script() {
     python3 "$top/examples/$1" "${@:2}" >out 2>err
