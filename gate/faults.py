@@ -72,7 +72,7 @@ FAULTS = [
           "tests/wrong/underline/marks_are_the_blanks.edit", "",
           "file: src/lib.rt\nold: c.width().unwrap_or(0)\nnew: match c.width() { Some(it) => it, None => 0 }\n"),
     Fault("a definition by the code's own table", None, ["gate/constants.py"],
-          "crates/reqs/specs/Inputs.antt", "abbrev pub IsWithin :", "abbrev pub IsShort :"),
+          "crates/reqs_ends/specs/Inputs.antt", "abbrev pub IsWithin :", "abbrev pub IsShort :"),
     Fault("a lent call that is passed on", None, ["gate/lent.py"],
           "crates/pep508_rs/src/lib.rt", "{Interner, MarkerTree}", "{Interner, MarkerTree, uncounted_conjunction}"),
     Fault("no edits", None, [*WRONG, "--texts"], "tests/wrong/gate.txt", "", ""),

@@ -50,7 +50,7 @@ def counts(programs):
     for name in programs:
         yield f"questions {name}", len(list(refused.questions(name)))
     stored = json.loads(read("tests", "runs.json"))
-    yield "runs", len(stored["runs"]) + len(stored["worked"])
+    yield "runs", sum(len(stored[it]) for it in ("runs", "worked", "matrix"))
     with tempfile.TemporaryDirectory(prefix="floors-") as room:
         yield "commands", len(list(refused.commands(room)))
 

@@ -153,6 +153,32 @@ if [ "$(ulimit -H -s)" = unlimited ] || [ "$(ulimit -H -s)" -ge 65536 ]; then
     wants "a path of 50,000 extras" 0 "" ""
 fi
 
+# Answers for many environments.
+{ printf '['; environment | tr '\n' ','; environment os_name | sed 's/}/, "os_name": "nt"}]/'; } >M
+printf "foo>=1.0\nbar ; os_name == 'nt'\n" >some
+printf 'foo 1.0\nbar 2.0\n' >foos
+run matrix some M foos
+wants "matrix" 0 "env 1${n}foo 1.0${n}env 2${n}bar 2.0${n}foo 1.0$n" ""
+run matrix extras M C dev
+wants "matrix with an extra" 0 "env 1${n}foo-bar[a,b] 2.0${n}env 2${n}foo-bar[a,b] 2.0$n" ""
+run matrix --limit 2 some M foos
+wants "matrix with a limit" 0 "env 1${n}foo 1.0${n}env 2${n}bar 2.0${n}foo 1.0$n" ""
+run matrix some M foos --limit=1
+wants "matrix with a limit of one case" 2 "" "reqs: some: more than 1 cases for bar$n"
+for i in {01..13}; do printf "foo ; extra == 'x%s'\n" "$i"; done >thirteen
+head -n 12 thirteen >twelve
+run matrix twelve M foos x02
+wants "4096 cases" 0 "env 1${n}foo 1.0${n}env 2${n}foo 1.0$n" ""
+run matrix thirteen M foos
+wants "more cases than the limit where none is named" 2 "" "reqs: thirteen: more than 4096 cases for foo$n"
+run matrix thirteen M foos x02 x13 --limit 8192
+wants "8192 cases" 0 "env 1${n}foo 1.0${n}env 2${n}foo 1.0$n" ""
+printf '[]' >none
+run matrix some none foos
+wants "matrix without environments" 0 "" ""
+run matrix some E foos
+wants "matrix on one environment that is no list" 2 "" "reqs: E: not a list$n"
+
 # Examples.
 for example in "$top"/examples/*/expected.txt; do
     example=${example%/*}
@@ -168,6 +194,9 @@ for example in "$top"/examples/*/expected.txt; do
         diff example.out "$example/expected.txt" | head -n 5
     fi
 done
+
+run matrix "$top"/examples/first/{requirements.txt,environments.json,candidates.txt}
+wants "examples/first: answers for two environments" 0 "$(cat "$top/examples/first/expected_matrix.txt")$n" ""
 
 # The scripts of examples/: what is installed for the machine's own python3, and what is asked of it.
 script() {
@@ -326,6 +355,8 @@ run check long E C
 wants "requirements that are too long" 2 "" "reqs: long: longer than 16777216 bytes$n"
 run check R long C
 wants "an environment that is too long" 2 "" "reqs: long: longer than 16777216 bytes$n"
+run matrix R long C
+wants "environments that are too long" 2 "" "reqs: long: longer than 16777216 bytes$n"
 run check R E long
 wants "candidates that are too long" 2 "" "reqs: long: longer than 16777216 bytes$n"
 rm long fits
@@ -337,6 +368,8 @@ run check R absent C
 wants "an environment that doesn't open" 3 "" "reqs: absent: read fault$n"
 run check R E absent
 wants "candidates that don't open" 3 "" "reqs: absent: read fault$n"
+run matrix R absent C
+wants "environments that don't open" 3 "" "reqs: absent: read fault$n"
 run check bytes E absent
 wants "all files are opened before any is read" 3 "" "reqs: absent: read fault$n"
 mkdir folder
@@ -363,6 +396,9 @@ wants "an environment from standard input" 0 "foo-bar 1.19$n" ""
 "$program" check R E - >out 2>err < <(cat C)
 status=$?
 wants "candidates from a pipe" 0 "foo-bar 1.19$n" ""
+"$program" matrix some - foos >out 2>err <M
+status=$?
+wants "environments from standard input" 0 "env 1${n}foo 1.0${n}env 2${n}bar 2.0${n}foo 1.0$n" ""
 "$program" check unread E - >out 2>err <C
 status=$?
 wants "a refused list beside standard input" 2 "" "reqs: unread: $no_name"
@@ -371,6 +407,8 @@ status=$?
 wants "a refused list from standard input" 2 "" "reqs: -: $no_name"
 run check - E -
 wants "standard input twice" 2 "" "reqs: standard input (-) can be one input alone$n"
+run matrix R - - dev
+wants "standard input twice, for matrix" 2 "" "reqs: standard input (-) can be one input alone$n"
 run check R - - dev
 wants "standard input twice, with an extra" 2 "" "reqs: standard input (-) can be one input alone$n"
 cp R ./-
@@ -382,6 +420,12 @@ wants "a file named -" 0 "foo-bar 1.19$n" ""
 "$program" check R E C >/dev/full 2>err </dev/null
 status=$?
 wants "a full standard output" 3 "" "reqs: write fault$n"
+"$program" matrix R M C >/dev/full 2>err </dev/null
+status=$?
+wants "a full standard output, for matrix" 3 "" "reqs: write fault$n"
+"$program" matrix R none C >/dev/full 2>err </dev/null
+status=$?
+wants "no environments, and nothing to write" 0 "" ""
 "$program" check R E C >&- 2>err </dev/null
 status=$?
 wants "a closed standard output" 3 "" "reqs: write fault$n"
@@ -407,6 +451,8 @@ run --help
 wants "--help" 0 "$(cat "$top/tests/help.txt")$n" ""
 run check --help
 wants "check --help" 0 SOMETHING ""
+run matrix --help
+wants "matrix --help" 0 SOMETHING ""
 run help
 wants "help" 0 SOMETHING ""
 run --version
@@ -427,6 +473,20 @@ run check
 wants "check without files" 2 "" SOMETHING
 run check R E
 wants "too few files" 2 "" SOMETHING
+run matrix R M
+wants "matrix with too few files" 2 "" SOMETHING
+for limit in 1000001 x '' -1; do
+    run matrix R M C --limit "$limit"
+    wants "a limit of '$limit'" 2 "" SOMETHING
+done
+run matrix R M C --limit 0000000
+wants "a limit of no cases" 2 "" "reqs: R: more than 0 cases for foo-bar$n"
+run matrix R M C --limit 1000000
+wants "the greatest limit" 0 "env 1${n}foo-bar 1.19${n}env 2${n}foo-bar 1.19$n" ""
+run matrix R M C --limit 5 --limit 6
+wants "two limits" 2 "" SOMETHING
+run check R E C --limit 1
+wants "a limit for check" 2 "" SOMETHING
 run check --frobnicate R E C
 wants "an unknown option" 2 "" SOMETHING
 

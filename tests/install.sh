@@ -119,7 +119,7 @@ spelled() {
             fish:-*) echo "-s ${word#-}" ;;
             man:* | *:-* | *:[a-z]*) echo "$word" ;;
         esac
-    done < <(words_of "$1"; words_of "$1" check)
+    done < <(words_of "$1"; words_of "$1" check; words_of "$1" matrix)
 }
 for it in "${pages[@]}"; do
     kind=${it#share/}
@@ -129,7 +129,7 @@ for it in "${pages[@]}"; do
     holds "$it has all options and commands of the help" has_words "$prefix/$it" cat words
 done
 sentences() {
-    for it in "" check; do
+    for it in "" check matrix; do
         "$prefix/bin/reqs" ${it:+"$it"} --help | sed -n 's/^Usage: //p; s/^  .*[^ ]   *\([^ ]\)/\1/p; 1p'
     done
 }
@@ -177,6 +177,7 @@ completed() {
 holds "bash completes a command" [ "$(completed reqs ch)" = "check " ]
 holds "bash completes an option" [ "$(completed reqs --v)" = "--version " ]
 holds "bash completes a command's option" [ "$(completed reqs check --)" = "--help " ]
+holds "bash completes an option of matrix" [ "$(completed reqs matrix --l)" = "--limit " ]
 holds "bash leaves files to the shell" [ "$(completed reqs check R)" = " " ]
 
 # Once more, and away again.

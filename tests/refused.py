@@ -10,12 +10,12 @@ of memory, and write nothing else; or it gives its whole answer after all, since
 for itself. Where an input is refused and its text can't be made, the text of want of memory comes with the status of
 the refusal. The last run gives the answer with ample memory.
 
-The commands are `reqs check` on each example and on lists that are refused, its help, and the questions of
-crates/pep440_vectors and crates/pep508_vectors and every eighth of crates/pep508_marker_vectors, one a run; each stands
-with the answer that it has with ample memory. To questions of KEPT the program goes on: it makes a call that was refused
-memory again, and answers by it and by the trees that it made before. There some run has to give the whole answer after a
-refusal. tests/least.txt says how many commands and questions there are at least. The last line is `refused: N passed, M
-failed`, a command or a kind of question each.
+The commands are `reqs check` on each example and on lists that are refused, `reqs matrix`, the program's help, and
+the questions of crates/pep440_vectors and crates/pep508_vectors and every eighth of crates/pep508_marker_vectors, one a
+run; each stands with the answer that it has with ample memory. To questions of KEPT the program goes on: it makes a call
+that was refused memory again, and answers by it and by the trees that it made before. There some run has to give the
+whole answer after a refusal. tests/least.txt says how many commands and questions there are at least. The last line is
+`refused: N passed, M failed`, a command or a kind of question each.
 """
 
 import json
@@ -151,6 +151,14 @@ def commands(room):
     for name, text in (("unread", b"foo>=1.0\n\nfoo- @ x\n"), ("name", b"foo 1.0\nfoo- 1.0\n"), ("version", b"foo 1.0\nfoo 1.0+\n")):
         with open(os.path.join(room, name), "wb") as file:
             file.write(text)
+    environment = read(os.path.join(example, "environment.json"))
+    with open(os.path.join(room, "environments"), "wb") as file:
+        file.write(b"[" + environment + b"," + environment + b"]")
+    environments = [files[0], "environments", files[2]]
+    yield "matrix:", ["matrix", *environments], room, (0, b"env 1\nfoo-bar 1.19\nenv 2\nfoo-bar 1.19\n", b"")
+    cases = b"reqs: requirements.txt: more than 0 cases for foo-bar\n"
+    yield "too many cases:", ["matrix", *environments, "--limit", "0"], room, (2, b"", cases)
+    yield "no list of environments:", ["matrix", *files], room, (2, b"", b"reqs: environment.json: not a list\n")
     yield "a line that is no requirement:", ["check", "unread", *files[1:]], room, (2, b"", UNREAD)
     yield "a candidate's name:", ["check", *files[:2], "name"], room, (2, b"", b"reqs: name: line 2: name\n")
     yield "a candidate's version:", ["check", *files[:2], "version"], room, (2, b"", b"reqs: version: line 2: version\n")

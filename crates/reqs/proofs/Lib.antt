@@ -1,5 +1,3 @@
-pub mod Texts
-pub mod Extras
-pub mod Reading
-pub mod Steps
 pub mod Answered
+pub mod Whole
+pub mod Numbered

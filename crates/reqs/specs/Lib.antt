@@ -1,5 +1,3 @@
-pub mod Faults
-pub mod Inputs
-pub mod Ends
-pub mod FaultText
+pub mod Texts
 pub mod Check
+pub mod Matrix

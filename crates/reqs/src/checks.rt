@@ -8,15 +8,20 @@ ghost use Rattle.reqtable_answer.specs.Answer.{IsAnswerText};
 ghost use Rattle.reqtable_requirements.specs.Asks.{AreOfNodes, asks_of};
 ghost use Rattle.reqtable_requirements.specs.LineReading.{LineRecord};
 ghost use Rattle.reqtable_requirements.specs.Requirements.{StandsFor};
-ghost use Rattle.reqs.specs.Check.{any, AnswersBehind, AnswersText, RunsCheck};
-ghost use Rattle.reqs.specs.Inputs.{behind_lines, texts_of};
+ghost use Rattle.reqs_ends.specs.declared.fault.Input.TheVariants.{First, Second};
+ghost use Rattle.reqs_ends.specs.Faults.{IsPlain, IsOfTexts};
+ghost use Rattle.reqs_ends.specs.Inputs.{environment_from};
+ghost use Rattle.reqs.specs.Check.{any, AnswersText, RunsCheck};
+ghost use Rattle.reqs.specs.Texts.{behind_lines, texts_of};
 
-use crate::fault::{Input, RunFault, Status};
-use crate::input::{read_candidates, read_environment, read_extras, read_input, read_requirements};
 use pep508_environment::MarkerEnvironment;
 use pep508_name::ExtraName;
 use pep508_tree::Interner;
 use pep508_url::Vars;
+use reqs_ends::{
+    Input, RunFault, Status, read_candidates, read_environment, read_extras, read_input,
+    read_requirements,
+};
 use reqs_io::write_whole;
 use reqtable_answer::Admission;
 use reqtable_requirements::Requirements;
@@ -73,8 +78,8 @@ fn check_text(
     extras: &[&str],
     vars: &Vars,
 ) -> Result<String, RunFault>
-    ensures { AnswersText vars.now requirements.old.items result
-        (texts_of vars.now (map (λ e. e.now) extras.now)
+    ensures { AnswersText (IsOfTexts vars.now First requirements.old.items) result
+        (texts_of (environment_from Second 1) vars.now (map (λ e. e.now) extras.now)
         requirements.old.items environment.old.items candidates.old.items) }
 {
     let extras = read_extras(alloc, extras)?;
@@ -102,7 +107,8 @@ fn text_behind(
     requires { AreOfNodes interner.now.nodes requirements.now }
     ensures { (vars : Variables) (said : List LineRecord) →
         AllZip (StandsFor vars interner.now.nodes) requirements.now said →
-        AnswersBehind result (behind_lines extras.now said environment.old.items candidates.old.items) }
+        AnswersText IsPlain result (behind_lines (environment_from Second 1) extras.now said
+        environment.old.items candidates.old.items) }
 {
     let environment = read_environment(alloc, Input::Second, 1, environment)?;
     let candidates = read_candidates(alloc, Input::Third, candidates)?;

@@ -2,10 +2,9 @@
 #![tactic(auto)]
 
 mod checks;
-mod display;
-mod fault;
-mod input;
+mod matrices;
 
 pub use checks::check;
-pub use fault::{Input, JsonShape, RefusedWord, RunFault, Status};
+pub use matrices::matrix;
 pub use pep508_url::Vars;
+pub use reqs_ends::{Input, JsonShape, RefusedWord, RunFault, Status};

@@ -1,9 +1,9 @@
 -- The exit status of the program.
 use Rattle.std.specs.Prelude.{ℕ, Result, Ok, Err}
-use Rattle.reqs.specs.Faults.{status_of}
-use Rattle.reqs.specs.declared.fault.RunFault.{RunFault}
-use Rattle.reqs.specs.declared.fault.Status.{Status}
-use Rattle.reqs.specs.declared.fault.Status.TheVariants.{Answered, Different}
+use Rattle.reqs_ends.specs.Faults.{status_of}
+use Rattle.reqs_ends.specs.declared.fault.RunFault.{RunFault}
+use Rattle.reqs_ends.specs.declared.fault.Status.{Status}
+use Rattle.reqs_ends.specs.declared.fault.Status.TheVariants.{Answered, Different}
 
 -- how a command ended, as an exit status
 abbrev pub status_after : Result Status RunFault → ℕ

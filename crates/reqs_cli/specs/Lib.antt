@@ -1,4 +1,4 @@
 pub mod Variables
-pub mod Paths
+pub mod Asked
 pub mod Opened
 pub mod Exits

@@ -2,19 +2,18 @@
 
 ghost use Rattle.std.specs.Prelude.{◌≡◌, map, string_bytes, Result, IfErr};
 ghost use Rattle.std.specs.Process.{exit_status};
-ghost use Rattle.clap.specs.Words.{found_of};
-ghost use Rattle.reqs.specs.Ends.{of_input};
+ghost use Rattle.reqs_ends.specs.Ends.{of_input};
 ghost use Rattle.reqs_cli.specs.Exits.{status_after};
-ghost use Rattle.reqs_cli.specs.Opened.{ChecksOpened};
-ghost use Rattle.reqs_cli.specs.Paths.{paths_in};
+ghost use Rattle.reqs_cli.specs.Opened.{RunsAsked, RunsOpened};
 ghost use Rattle.reqs_cli.specs.Variables.{variables_in};
 
+use crate::asked::{Asked, matches};
 use crate::source::Source;
 use crate::variables::{entries, variables};
 use crate::words::{WordsFault, words};
 use clap::error::ErrorKind;
-use clap::{Arg, ArgMatches, Command, Error};
-use reqs::{Input, RunFault, Status, check};
+use clap::{ArgMatches, Error};
+use reqs::{Input, RunFault, Status, Vars, check, matrix};
 use std::alloc::Global;
 use std::fs::File;
 use std::io::{self, Read, Write};
@@ -27,9 +26,6 @@ const USAGE_STATUS: u8 = 2;
 /// The exit status where memory is refused.
 const MEMORY_STATUS: u8 = 3;
 
-/// What `--version` says beside the program's name.
-const VERSION: &str = "0.1.0";
-
 /// The path that stands for standard input.
 const STANDARD_INPUT: &str = "-";
 
@@ -41,42 +37,20 @@ pub fn run<R: Runtime + AllocGlobal>(rt: &R) -> ExitCode {
         Err(WordsFault::Memory) => return end(rt, MEMORY_STATUS, "out of memory"),
     };
     match matches(rt.alloc(), words.as_slice()) {
-        Ok(matches) => match matches.subcommand_matches("check") {
-            Some(given) => run_check(rt, given),
+        Ok(matches) => match matches.subcommand() {
+            Some((name, given)) => run_named(rt, name, given),
             None => ExitCode::from(USAGE_STATUS),
         },
         Err(error) => refuse_words(rt, &error),
     }
 }
 
-/// What the words ask for.
-fn matches<'a>(alloc: Global, words: &'a [String]) -> Result<ArgMatches<'a>, Error> {
-    let requirements = Arg::new(alloc, "REQS")
-        .help(
-            "The requirements, one a line, a file; - is standard input, here or in place of another file",
-        )
-        .required(true);
-    let environment = Arg::new(alloc, "ENV")
-        .help("The environment, a JSON object in a file")
-        .required(true);
-    let candidates = Arg::new(alloc, "CANDIDATES")
-        .help("The candidates, a name and a version a line, a file")
-        .required(true);
-    let extras = Arg::new(alloc, "EXTRA")
-        .help("The extras that are asked for")
-        .num_args(0..);
-    let check = Command::new(alloc, "check")
-        .about("Prints the greatest candidate of each package that the lines ask for")
-        .arg(requirements)?
-        .arg(environment)?
-        .arg(candidates)?
-        .arg(extras)?;
-    let reqs = Command::new(alloc, "reqs")
-        .version(VERSION)
-        .about("Judges lists of Python requirements")
-        .subcommand_required(true)
-        .subcommand(check)?;
-    reqs.try_get_matches_from(words)
+/// Runs the command of this name.
+fn run_named<R: Runtime + AllocGlobal>(rt: &R, name: &str, given: &ArgMatches<'_>) -> ExitCode {
+    match Asked::of_words(name, given) {
+        Some(asked) => run_asked(rt, asked, given),
+        None => ExitCode::from(USAGE_STATUS),
+    }
 }
 
 /// Names the word of the command line that is no text.
@@ -102,9 +76,9 @@ fn refuse_words<R: Runtime>(rt: &R, error: &Error) -> ExitCode {
     }
 }
 
-/// Runs `check` on the files that were named.
-fn run_check<R: Runtime + AllocGlobal>(rt: &R, given: &ArgMatches<'_>) -> ExitCode {
-    let paths = paths_of(given);
+/// Runs a command on the files that were named.
+fn run_asked<R: Runtime + AllocGlobal>(rt: &R, asked: Asked, given: &ArgMatches<'_>) -> ExitCode {
+    let paths = asked.paths(given);
     if paths.iter().filter(|path| **path == STANDARD_INPUT).count() > 1 {
         return end(
             rt,
@@ -115,25 +89,15 @@ fn run_check<R: Runtime + AllocGlobal>(rt: &R, given: &ArgMatches<'_>) -> ExitCo
     let Ok(entries) = entries(rt, rt.alloc()) else {
         return end(rt, MEMORY_STATUS, "out of memory");
     };
-    end_check(
+    end_asked(
         rt,
+        asked,
         &paths,
         given.get_strs("EXTRA").unwrap_or(&[]),
         &entries,
         |input| open(rt, input, path_of(&paths, input)),
         &mut io::writer(rt),
     )
-}
-
-/// The paths of the inputs, in the order of the command line.
-fn paths_of<'a>(given: &ArgMatches<'a>) -> [&'a str; 3]
-    ensures { map (λ p. p.now) result ≡ paths_in (found_of given.now) }
-{
-    [
-        given.get_str("REQS").unwrap_or(""),
-        given.get_str("ENV").unwrap_or(""),
-        given.get_str("CANDIDATES").unwrap_or(""),
-    ]
 }
 
 /// The path of an input.
@@ -147,9 +111,10 @@ fn path_of<'a>(paths: &[&'a str; 3], input: Input) -> &'a str
     }
 }
 
-/// Judges the inputs that `opener` gives, and ends the program as that ended.
-fn end_check<R, S, F, W>(
+/// Runs a command on the inputs that `opener` gives, and ends the program as that ended.
+fn end_asked<R, S, F, W>(
     rt: &R,
+    asked: Asked,
     paths: &[&str],
     extras: &[&str],
     entries: &[String],
@@ -162,18 +127,19 @@ where
     F: Fn(Input) -> Result<S, RunFault>,
     W: Write,
     requires { F.IsAlwaysCallable opener }
-    ensures { (ended : Result Status RunFault) × ChecksOpened (F.post opener) S.remaining
+    ensures { (ended : Result Status RunFault) × RunsOpened asked (F.post opener) S.remaining
         (variables_in (map string_bytes entries.now)) (map (λ e. e.now) extras.now)
         W.contents output.old output.new ended × (exit_status result ≡ status_after ended) }
 {
-    let ended = check_opened(rt.alloc(), extras, entries, opener, output);
+    let ended = run_opened(rt.alloc(), asked, extras, entries, opener, output);
     exit_after(rt, &ended, paths)
 }
 
-/// Opens all inputs, in the order of the command line, and judges them with the variables that stand in
-/// entries.
-fn check_opened<S, F, W>(
+/// Opens all inputs, in the order of the command line, and runs a command on them with the variables that
+/// stand in entries.
+fn run_opened<S, F, W>(
     alloc: Global,
+    asked: Asked,
     extras: &[&str],
     entries: &[String],
     opener: F,
@@ -184,22 +150,60 @@ where
     F: Fn(Input) -> Result<S, RunFault>,
     W: Write,
     requires { F.IsAlwaysCallable opener }
-    ensures { ChecksOpened (F.post opener) S.remaining (variables_in (map string_bytes entries.now))
+    ensures { RunsOpened asked (F.post opener) S.remaining (variables_in (map string_bytes entries.now))
         (map (λ e. e.now) extras.now) W.contents output.old output.new result }
 {
     let mut requirements = opener(Input::First)?;
-    let mut environment = opener(Input::Second)?;
+    let mut environments = opener(Input::Second)?;
     let mut candidates = opener(Input::Third)?;
     let vars = variables(alloc, entries)?;
-    check(
+    run_read(
         alloc,
+        asked,
         &mut requirements,
-        &mut environment,
+        &mut environments,
         &mut candidates,
         extras,
         &vars,
         output,
     )
+}
+
+/// Runs a command on its inputs.
+fn run_read<S: Read, W: Write>(
+    alloc: Global,
+    asked: Asked,
+    requirements: &mut S,
+    environments: &mut S,
+    candidates: &mut S,
+    extras: &[&str],
+    vars: &Vars,
+    output: &mut W,
+) -> Result<Status, RunFault>
+    ensures { RunsAsked asked vars.now (map (λ e. e.now) extras.now) (S.remaining requirements.old)
+        (S.remaining environments.old) (S.remaining candidates.old) W.contents output.old output.new result }
+{
+    match asked {
+        Asked::Check => check(
+            alloc,
+            requirements,
+            environments,
+            candidates,
+            extras,
+            vars,
+            output,
+        ),
+        Asked::Matrix { limit } => matrix(
+            alloc,
+            requirements,
+            environments,
+            candidates,
+            extras,
+            vars,
+            limit,
+            output,
+        ),
+    }
 }
 
 /// Ends the program as a command ended, and says why where it was refused.

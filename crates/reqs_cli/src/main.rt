@@ -1,6 +1,7 @@
 //! `reqs`: reads Python requirement lists and judges them.
 #![tactic(auto)]
 
+mod asked;
 mod command;
 mod source;
 mod variables;

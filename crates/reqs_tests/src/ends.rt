@@ -1,7 +1,7 @@
 //! Readers and writers that are interrupted, fail or never end, and the limits up to which they are
 //! borne with.
 
-use reqs::{RunFault, Status, Vars, check};
+use reqs::{RunFault, Status, Vars, check, matrix};
 use reqs_io::{ASK_LIMIT, ReadFault, WriteFault, read_whole, write_whole};
 use std::alloc::{AllocError, Global};
 use std::io::{self, ErrorKind, Read, Write};
@@ -145,6 +145,8 @@ const REQUIREMENTS: &[u8] = b"foo>=1\nbar==2";
 const CANDIDATES: &[u8] = b"foo 1.5\nbar 3";
 
 const ANSWER: &str = "bar none\nfoo 1.5\n";
+
+const ANSWERS: &str = "env 1\nbar none\nfoo 1.5\nenv 2\nbar none\nfoo 1.5\n";
 
 /// What was written, and then how the command ended.
 fn told(
@@ -351,5 +353,55 @@ fn reads_up_to_its_limit(rt: HostRuntime) -> Result<(), Fail> {
     let mut reader = text.as_slice();
     let read = read_whole(rt.alloc(), &mut reader, text.len() - 1, 2);
     assert_eq!(rt; read.err(), Some(ReadFault::TooLong));
+    Ok(())
+}
+
+/// The environment above twice, as a list.
+fn environments(alloc: Global) -> Result<String, AllocError> {
+    format!(in alloc; "[{ENVIRONMENT}, {ENVIRONMENT}]")
+}
+
+/// Runs `matrix` with a reader in the place of each input, of which the one of this number fails at its end, and
+/// with a narrow writer with room for so many bytes.
+fn matrix_with(alloc: Global, failing: usize, room: usize) -> Result<String, AllocError> {
+    let environments = environments(alloc)?;
+    let mut requirements = hesitantly(REQUIREMENTS, failing == 1);
+    let mut environments = hesitantly(environments.as_bytes(), failing == 2);
+    let mut candidates = hesitantly(CANDIDATES, failing == 3);
+    let mut output = Narrow {
+        taken: Vec::new(alloc),
+        room,
+        ready: false,
+    };
+    let vars = Vars::new(alloc, &[], "/")?;
+    let result = matrix(
+        alloc,
+        &mut requirements,
+        &mut environments,
+        &mut candidates,
+        &[],
+        &vars,
+        4096,
+        &mut output,
+    );
+    told(alloc, &output.taken, result)
+}
+
+// Each reader and the writer, with all of the answers or a front of them.
+#[test]
+fn tells_what_failed_for_matrix(rt: HostRuntime) -> Result<(), Fail> {
+    for (failing, room, wanted) in [
+        (
+            0,
+            ANSWERS.len(),
+            "env 1\nbar none\nfoo 1.5\nenv 2\nbar none\nfoo 1.5\nstatus 0",
+        ),
+        (0, 8, "env 1\nbastatus 3, write fault"),
+        (1, 8, "status 3, REQS: read fault"),
+        (2, 8, "status 3, ENV: read fault"),
+        (3, 8, "status 3, CANDIDATES: read fault"),
+    ] {
+        assert_eq!(rt; matrix_with(rt.alloc(), failing, room)?.as_str(), wanted);
+    }
     Ok(())
 }

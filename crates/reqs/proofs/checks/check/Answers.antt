@@ -1,7 +1,7 @@
 use Rattle.std.proofs.Common.{◌≡◌, ℕ, ◌∷◌, [], Vec, Global, refl, rules, string_bytes}
 use Rattle.std.proofs.lemmas.Result.{err_from_is_err_and}
-use Rattle.reqs.specs.declared.fault.Status.TheVariants.{Answered}
-use Rattle.reqs.proofs.Steps.{first_unread, second_unread, third_unread, texts_refused}
+use Rattle.reqs_ends.specs.declared.fault.Status.TheVariants.{Answered}
+use Rattle.reqs_ends.proofs.Steps.{first_unread, second_unread, third_unread, texts_refused}
 use Rattle.reqs.proofs.checks.check.Goals as goal
 
 pub returns-in_err-requirements-clause-runs : goal.returns-in_err-requirements-clause-runs

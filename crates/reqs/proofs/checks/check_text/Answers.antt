@@ -1,10 +1,11 @@
 use Rattle.std.proofs.Common.{◌∙◌, Ok, ap, sym}
 use Rattle.std.proofs.lemmas.Result.{err_from_is_err_and}
-use Rattle.reqs.specs.declared.fault.Input.TheVariants.{First}
-use Rattle.reqs.specs.Faults.{IsPlain, IsOfTexts}
-use Rattle.reqs.specs.Inputs.{texts_of}
+use Rattle.reqs_ends.specs.declared.fault.Input.TheVariants.{First}
+use Rattle.reqs_ends.specs.Faults.{IsPlain, IsOfTexts}
+use Rattle.reqs.specs.Texts.{texts_of}
 use Rattle.reqtable_requirements.proofs.Asked.{are_of_nodes}
-use Rattle.reqs.proofs.Steps.{refuses_rest, refuses_texts, whole}
+use Rattle.reqs_ends.proofs.Steps.{refuses_rest, refuses_texts}
+use Rattle.reqs.proofs.Whole.{whole_check}
 use Rattle.reqs.proofs.checks.check_text.Goals as goal
 
 pub returns-in_err-extras : goal.returns-in_err-extras
@@ -25,7 +26,7 @@ text_behind-requires c =
 
 pub returns : goal.returns
 returns c =
-    whole c.args.vars.now _ c.args.requirements.now.items c.args.environment.now.items c.args.candidates.now.items c.deref.result.now
+    whole_check c.args.vars.now _ c.args.requirements.now.items c.args.environment.now.items c.args.candidates.now.items c.deref.result.now
     c.in_ok-requirements.ensures.0 (c.in_ok-extras.ensures ∙ ap (λ l. Ok l) (sym c.deref.ensures.value))
     c.in_ok-requirements.ensures.1 c.text_behind.result
     (c.text_behind.ensures c.args.vars.now c.in_ok-requirements.ensures.0 c.in_ok-requirements.ensures.2)

@@ -1,8 +1,8 @@
 use Rattle.std.proofs.Common.{refl}
 use Rattle.std.proofs.lemmas.Result.{err_from_is_err_and}
-use Rattle.reqs.specs.Faults.{IsPlain}
-use Rattle.reqs.specs.Inputs.{behind_lines}
-use Rattle.reqs.proofs.Steps.{refuses_rest}
+use Rattle.reqs_ends.specs.Faults.{IsPlain}
+use Rattle.reqs.specs.Texts.{behind_lines}
+use Rattle.reqs_ends.proofs.Steps.{refuses_rest}
 use Rattle.reqs.proofs.checks.text_behind.Goals as goal
 
 pub returns-in_err-environment : goal.returns-in_err-environment
@@ -20,7 +20,7 @@ returns-in_err-candidates c = λ vars said stands.
 pub returns-in-Ok : goal.returns-in-Ok
 unfolding behind_lines
 returns-in-Ok c = λ vars said stands. record {
-  read = record { extras = c.args.extras.now; lines = said; environment = c.in_ok-environment.environment; candidates = c.in_ok-candidates.candidates };
+  read = record { extras = c.args.extras.now; lines = said; second = c.in_ok-environment.environment; candidates = c.in_ok-candidates.candidates };
   is_read = rw (c.in_ok-environment.ensures, c.in_ok-candidates.ensures) refl;
   is_text = c.in-Ok.ensures vars said stands;
 }

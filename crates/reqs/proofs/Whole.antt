@@ -1,0 +1,50 @@
+-- What is answered behind a list of requirements is what is answered to all texts.
+use Rattle.std.proofs.Common.{◌≡◌, ◌⊎◌, inl, inr, ℕ, List, Result, Ok, Err, String, sym, subst}
+use Rattle.pep508_url.specs.Vars.{Variables}
+use Rattle.reqtable_requirements.specs.LineReading.{LineRecord}
+use Rattle.pep508_environment.specs.Environment.{EnvironmentRecord}
+use Rattle.reqs_ends.specs.declared.fault.Input.{Input}
+use Rattle.reqs_ends.specs.declared.fault.Input.TheVariants.{First, Second}
+use Rattle.reqs_ends.specs.declared.fault.RunFault.{RunFault}
+use Rattle.reqs_ends.specs.declared.fault.RunFault.TheVariants.{Memory}
+use Rattle.reqs_ends.specs.Faults.{IsPlain, IsOfTexts, Refuses}
+use Rattle.reqs_ends.specs.Inputs.{extras_of, lines_from, environment_from, environments_from}
+use Rattle.reqs_ends.proofs.Steps.{refuses_texts}
+use Rattle.reqs.specs.Check.{AnswersText}
+use Rattle.reqs.specs.Matrix.{MatrixTexts, IsRead, IsOverLimit, AnswersAll}
+use Rattle.reqs.specs.Texts.{ReadTexts, behind_lines, texts_of}
+
+module _ {Y : Type 0} (vars : Variables) (extras : List (List ℕ)) (x y z : List ℕ) (names : List (List ℕ))
+    (said : List LineRecord) (e : extras_of extras ≡ Ok names) (l : lines_from vars First x ≡ Ok said) where
+  pub whole_check : (result : Result (String Y) RunFault)
+      → AnswersText IsPlain result (behind_lines (environment_from Second 1) names said y z)
+      → AnswersText (IsOfTexts vars First x) result (texts_of (environment_from Second 1) vars extras x y z)
+  unfolding texts_of
+  whole_check (Ok text) h = rw (e, l) h
+  whole_check (Err fault) h =
+      rw (e, l) (refuses_texts vars First x fault (behind_lines (environment_from Second 1) names said y z) h)
+
+  pub whole_matrix : (limit : ℕ) (result : Result (String Y) RunFault)
+      → AnswersAll IsPlain limit result (behind_lines (environments_from Second) names said y z)
+      → AnswersAll (IsOfTexts vars First x) limit result (texts_of (environments_from Second) vars extras x y z)
+  unfolding texts_of
+  whole_matrix limit (Ok text) h = rw (e, l) h
+  whole_matrix limit (Err fault) (inl h) =
+      rw (e, l) (inl (refuses_texts vars First x fault (behind_lines (environments_from Second) names said y z) h))
+  whole_matrix limit (Err fault) (inr h) = rw (e, l) (inr h)
+
+-- what refuses all texts may be said of them
+pub may_be_said : (vars : Variables) (list : Input) (bytes : List ℕ) (limit : ℕ) (fault : RunFault) (texts : MatrixTexts)
+    → Refuses (IsOfTexts vars list bytes) fault texts ⊎ IsRead texts (λ read. IsOverLimit limit read.lines fault)
+    → IsOfTexts vars list bytes fault
+may_be_said vars list bytes limit fault texts (inl h) = h.0
+may_be_said vars list bytes limit fault texts (inr h) =
+    let P : RunFault → Type 0 = λ f. IsOfTexts vars list bytes f in subst P (sym h.2.1) tt
+
+-- no table of what is read
+pub unbuilt : (limit : ℕ) (read : ReadTexts (List EnvironmentRecord)) (texts : MatrixTexts) (fault : RunFault) → texts ≡ Ok read
+    → (fault ≡ Memory) ⊎ IsOverLimit limit read.lines fault
+    → Refuses IsPlain fault texts ⊎ IsRead texts (λ read. IsOverLimit limit read.lines fault)
+unbuilt limit read texts fault e (inl m) =
+    let P : RunFault → Type 0 = λ f. Refuses IsPlain f texts in inl (subst P (sym m) (tt, tt))
+unbuilt limit read texts fault e (inr h) = inr (read, e, h)

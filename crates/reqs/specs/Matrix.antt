@@ -1,0 +1,102 @@
+-- What `matrix` does, from the bytes of its inputs to the bytes of its answers.
+use Rattle.std.specs.Prelude.{◌≡◌, ◌⊎◌, ℕ, suc, List, [], ◌∷◌, ◌++◌, codes, Option, Result, Ok, Err, String}
+use Rattle.std.specs.String.{string_bytes}
+use Rattle.std.specs.List.{AllZip}
+use Rattle.std.specs.Fmt.{decimal}
+use Rattle.pep508_url.specs.Vars.{Variables}
+use Rattle.pep508_tree.specs.Meaning.{NodeRecord}
+use Rattle.pep508_environment.specs.Environment.{EnvironmentRecord}
+use Rattle.pep508_evaluation.specs.Valuations.{valuation_of}
+use Rattle.reqtable_text.specs.declared.candidates.Candidate.{Candidate}
+use Rattle.reqtable_answer.specs.Answer.{Admits, IsAnswerText}
+use Rattle.reqtable_requirements.specs.Asks.{asks_of}
+use Rattle.reqtable_requirements.specs.LineReading.{LineRecord}
+use Rattle.reqtable_requirements.specs.Requirements.{StandsFor}
+use Rattle.reqtable_requirements.specs.declared.requirements.Line.{Line}
+use Rattle.reqtable_cases.specs.Lines.{HasTooMany, IsFirstTooMany}
+use Rattle.reqtable_table.specs.Cases.{Builds}
+use Rattle.reqtable_table.specs.Kept.{KeptPackage}
+use Rattle.reqs_ends.specs.declared.fault.Input.TheVariants.{First, Second, Third}
+use Rattle.reqs_ends.specs.declared.fault.RunFault.{RunFault}
+use Rattle.reqs_ends.specs.declared.fault.RunFault.TheVariants.{TooManyCases, Memory}
+use Rattle.reqs_ends.specs.declared.fault.Status.{Status}
+use Rattle.reqs_ends.specs.declared.fault.Status.TheVariants.{Answered}
+use Rattle.reqs_ends.specs.Faults.{Cause, IsOfTexts, Refuses}
+use Rattle.reqs_ends.specs.Inputs.{environments_from}
+use Rattle.reqs_ends.specs.Ends.{of_input, Runs}
+use Rattle.reqs.specs.Check.{any}
+use Rattle.reqs.specs.Texts.{ReadTexts, texts_of}
+
+-- ---- the text
+
+-- what stands before the answer for an environment
+abbrev pub environment_line : ℕ → List ℕ
+environment_line number = codes "env " ++ decimal number ++ codes "\n"
+
+-- for each environment, numbered from this number on, its line and then the text of the answer
+abbrev pub IsMatrixText : Admits → List (List ℕ) → List LineRecord → List Candidate → ℕ
+    → List EnvironmentRecord → List ℕ → Type 0
+IsMatrixText admits extras lines candidates number [] text = text ≡ []
+IsMatrixText admits extras lines candidates number (environment ∷ environments) text =
+    (answer : List ℕ) × (rest : List ℕ)
+    × IsAnswerText admits (asks_of (valuation_of environment extras) lines) candidates answer
+    × IsMatrixText admits extras lines candidates (suc number) environments rest
+    × (text ≡ environment_line number ++ answer ++ rest)
+
+-- ---- what texts are answered with
+
+abbrev pub MatrixTexts : Type 0
+MatrixTexts = Result (ReadTexts (List EnvironmentRecord)) Cause
+
+-- no package has more cases than the limit, and the text has the answers for all environments
+pub record IsWithinLimit (limit : ℕ) (read : ReadTexts (List EnvironmentRecord)) (text : List ℕ) : Type 0 where
+  pub few : (name : List ℕ) → HasTooMany limit read.lines name → ⊥
+  pub is_text : IsMatrixText any read.extras read.lines read.candidates 1 read.second text
+
+-- the fault names the first package that has more
+abbrev pub IsOverLimit : ℕ → List LineRecord → RunFault → Type 0
+IsOverLimit limit lines fault =
+    (name : List ℕ) × (fault ≡ TooManyCases First limit name) × IsFirstTooMany limit lines name
+
+-- texts are read as what has this property
+abbrev pub IsRead : MatrixTexts → (ReadTexts (List EnvironmentRecord) → Type 0) → Type 0
+IsRead texts Holds = (read : ReadTexts (List EnvironmentRecord)) × (texts ≡ Ok read) × Holds read
+
+-- the text has the answers; or the texts are refused for what the fault says, or, once all are read, for a
+-- package that has too many cases
+abbrev pub AnswersAll : {Y : Type 0} → (RunFault → Type 0) → ℕ → Result (String Y) RunFault → MatrixTexts → Type 0
+AnswersAll IsOne limit (Ok text) texts = IsRead texts (λ read. IsWithinLimit limit read (string_bytes text))
+AnswersAll IsOne limit (Err fault) texts =
+    Refuses IsOne fault texts ⊎ IsRead texts (λ read. IsOverLimit limit read.lines fault)
+
+-- lines stand for those of some text
+abbrev pub AreRead : List NodeRecord → List Line → Type 0
+AreRead nodes lines = (vars : Variables) × (said : List LineRecord) × AllZip (StandsFor vars nodes) lines said
+
+-- a table of lines is built, with these nodes, or refused
+abbrev pub TablesAs : ℕ → List NodeRecord → List LineRecord → Result (List KeptPackage) RunFault → Type 0
+TablesAs limit nodes lines (Ok table) = Builds limit nodes lines (Ok table)
+TablesAs limit nodes lines (Err fault) = (fault ≡ Memory) ⊎ IsOverLimit limit lines fault
+
+abbrev pub matrix_texts : Variables → List (List ℕ) → List (List ℕ) → MatrixTexts
+matrix_texts vars extras inputs =
+    texts_of (environments_from Second) vars extras
+    (of_input inputs First) (of_input inputs Second) (of_input inputs Third)
+
+-- ---- the command
+
+abbrev pub MatrixAnswersAs : ℕ → Variables → List (List ℕ) → List (List ℕ) → Status → List ℕ → Type 0
+MatrixAnswersAs limit vars extras inputs status text =
+    (status ≡ Answered) × IsRead (matrix_texts vars extras inputs) (λ read. IsWithinLimit limit read text)
+
+abbrev pub MatrixRefuses : ℕ → Variables → List (List ℕ) → List (List ℕ) → RunFault → Type 0
+MatrixRefuses limit vars extras inputs fault =
+    Refuses (IsOfTexts vars First (of_input inputs First)) fault (matrix_texts vars extras inputs)
+    ⊎ IsRead (matrix_texts vars extras inputs) (λ read. IsOverLimit limit read.lines fault)
+
+-- `matrix` ends so, with what its readers tell of the requirements, the environments and the candidates
+abbrev pub RunsMatrix : {W : Type 0} → ℕ → Variables → List (List ℕ) → Option (List ℕ) → Option (List ℕ)
+    → Option (List ℕ) → (W → Option (List ℕ)) → W → W → Result Status RunFault → Type 0
+RunsMatrix limit vars extras requirements environments candidates contents old new result =
+    Runs (MatrixAnswersAs limit vars extras) (MatrixRefuses limit vars extras)
+    (requirements ∷ environments ∷ candidates ∷ []) contents old new result

@@ -1,0 +1,229 @@
+//! `matrix`: the answers for many environments, from one table of the requirements.
+
+ghost use Rattle.std.specs.Prelude.{◌≡◌, ◌≢◌, ◌++◌, List, length, map, All, IfErr, IfOk, OnOk};
+ghost use Rattle.std.specs.Prelude.{string_bytes};
+ghost use Rattle.std.specs.List.{AllZip, AllByRecursion};
+ghost use Rattle.pep508_url.specs.Vars.{Variables};
+ghost use Rattle.reqtable_answer.specs.Answer.{answer_text};
+ghost use Rattle.reqtable_answer.specs.Rows.{row_seen, IsTakenBelow};
+ghost use Rattle.reqtable_requirements.specs.Asks.{AreOfNodes};
+ghost use Rattle.reqtable_requirements.specs.LineReading.{LineRecord};
+ghost use Rattle.reqtable_requirements.specs.Requirements.{StandsFor};
+ghost use Rattle.reqtable_table.specs.Cases.{HasItsCases};
+ghost use Rattle.reqtable_table.specs.Kept.{KeepsAll};
+ghost use Rattle.reqtable_table.specs.Runs.{AreRunsOf};
+ghost use Rattle.reqs_ends.specs.declared.fault.Input.TheVariants.{First, Second};
+ghost use Rattle.reqs_ends.specs.Faults.{IsPlain, IsOfTexts};
+ghost use Rattle.reqs_ends.specs.Inputs.{environments_from};
+ghost use Rattle.reqs.specs.Check.{any};
+ghost use Rattle.reqs.specs.Matrix.{environment_line, IsMatrixText, AreRead, AnswersAll, TablesAs};
+ghost use Rattle.reqs.specs.Matrix.{RunsMatrix};
+ghost use Rattle.reqs.specs.Texts.{behind_lines, texts_of};
+
+use pep508_environment::MarkerEnvironment;
+use pep508_name::ExtraName;
+use pep508_tree::Interner;
+use pep508_url::Vars;
+use reqs_ends::{
+    Input, RunFault, Status, read_candidates, read_environments, read_extras, read_input,
+    read_requirements,
+};
+use reqs_io::write_whole;
+use reqtable_answer::{Admission, Answer};
+use reqtable_requirements::Requirements;
+use reqtable_table::{Runs, Table, TableError};
+use reqtable_text::Candidates;
+use std::alloc::{AllocError, Global};
+use std::io::{Read, Write};
+
+/// Reads a list of requirements, a list of environments and a list of candidates, and writes for each
+/// environment its number, as `env 1`, on a line, and then what `check` writes for it.
+///
+/// All inputs are read whole, in this order; then the extras are read as names, and then each input
+/// as what it is. Then one table of the requirements is made, from which all environments are answered, by
+/// `Table::build`. A package that has more cases than the limit is refused: the first by name, whatever the
+/// environments are. The text is made whole before the first write.
+pub fn matrix<L: Read, E: Read, C: Read, W: Write>(
+    alloc: Global,
+    requirements: &mut L,
+    environments: &mut E,
+    candidates: &mut C,
+    extras: &[&str],
+    vars: &Vars,
+    limit: u64,
+    output: &mut W,
+) -> Result<Status, RunFault>
+    ensures runs { RunsMatrix limit vars.now (map (λ e. e.now) extras.now)
+        (L.remaining requirements.old) (E.remaining environments.old) (C.remaining candidates.old)
+        W.contents output.old output.new result }
+    // A refused command has written nothing.
+    ensures unwritten { IfErr result (λ fault. fault ≢ RunFault.Write → output.new ≡ output.old) }
+{
+    let mut requirements = read_input(alloc, Input::First, requirements)?;
+    let mut environments = read_input(alloc, Input::Second, environments)?;
+    let mut candidates = read_input(alloc, Input::Third, candidates)?;
+    let text = matrix_text(
+        alloc,
+        &mut requirements,
+        &mut environments,
+        &mut candidates,
+        extras,
+        vars,
+        limit,
+    )?;
+    match write_whole(output, text.as_bytes()) {
+        Ok(()) => Ok(Status::Answered),
+        Err(_) => Err(RunFault::Write),
+    }
+}
+
+/// The text of all answers. The bytes of each input are let go once they are read.
+fn matrix_text(
+    alloc: Global,
+    requirements: &mut Vec<u8>,
+    environments: &mut Vec<u8>,
+    candidates: &mut Vec<u8>,
+    extras: &[&str],
+    vars: &Vars,
+    limit: u64,
+) -> Result<String, RunFault>
+    ensures { AnswersAll (IsOfTexts vars.now First requirements.old.items) limit result
+        (texts_of (environments_from Second) vars.now (map (λ e. e.now) extras.now)
+        requirements.old.items environments.old.items candidates.old.items) }
+{
+    let extras = read_extras(alloc, extras)?;
+    let mut interner = Interner::new(alloc);
+    let requirements = read_requirements(alloc, Input::First, requirements, &mut interner, vars)?;
+    matrix_behind(
+        alloc,
+        requirements,
+        &mut interner,
+        &extras,
+        environments,
+        candidates,
+        limit,
+    )
+}
+
+/// The text of all answers for requirements and extras that are read.
+fn matrix_behind(
+    alloc: Global,
+    requirements: Requirements,
+    interner: &mut Interner,
+    extras: &[ExtraName],
+    environments: &mut Vec<u8>,
+    candidates: &mut Vec<u8>,
+    limit: u64,
+) -> Result<String, RunFault>
+    requires { AreRead interner.old.nodes requirements }
+    ensures { (vars : Variables) (said : List LineRecord) →
+        AllZip (StandsFor vars interner.old.nodes) requirements said →
+        AnswersAll IsPlain limit result (behind_lines (environments_from Second) extras.now said
+        environments.old.items candidates.old.items) }
+{
+    let environments = read_environments(alloc, Input::Second, environments)?;
+    let candidates = read_candidates(alloc, Input::Third, candidates)?;
+    let mut table = table_of(alloc, requirements, interner, limit)?;
+    match answers_text(
+        alloc,
+        &mut table,
+        interner,
+        &environments,
+        extras,
+        &candidates,
+    ) {
+        Ok(text) => Ok(text),
+        Err(_) => Err(RunFault::Memory),
+    }
+}
+
+/// The table of the first input's requirements.
+fn table_of(
+    alloc: Global,
+    requirements: Requirements,
+    interner: &mut Interner,
+    limit: u64,
+) -> Result<Table, RunFault>
+    requires { AreOfNodes interner.old.nodes requirements }
+    ensures { (vars : Variables) (said : List LineRecord) →
+        AllZip (StandsFor vars interner.old.nodes) requirements said → TablesAs limit interner.new.nodes said result }
+{
+    match Table::build(alloc, requirements, interner, limit) {
+        Ok(table) => Ok(table),
+        Err(TableError::TooManyCases { package }) => Err(RunFault::TooManyCases {
+            input: Input::First,
+            limit,
+            package,
+        }),
+        Err(TableError::Memory) => Err(RunFault::Memory),
+    }
+}
+
+/// The answers of a table for all environments with the extras, each behind its line.
+fn answers_text(
+    alloc: Global,
+    table: &mut Table,
+    interner: &Interner,
+    environments: &[MarkerEnvironment],
+    extras: &[ExtraName],
+    candidates: &Candidates,
+) -> Result<String, AllocError>
+    requires { AllByRecursion (HasItsCases interner.now.nodes) table.old }
+    ensures { IfOk result (λ text. (said : List LineRecord) → KeepsAll interner.now.nodes table.old said →
+        IsMatrixText any extras.now said candidates.now 1 environments.now (string_bytes text)) }
+{
+    let ordered = candidates.in_order(alloc)?;
+    let runs = table.runs(alloc, &ordered)?;
+    answers_among(
+        alloc,
+        table,
+        interner,
+        environments,
+        extras,
+        &runs,
+        candidates,
+    )
+}
+
+/// The same among the candidates of the table's packages.
+fn answers_among(
+    alloc: Global,
+    table: &mut Table,
+    interner: &Interner,
+    environments: &[MarkerEnvironment],
+    extras: &[ExtraName],
+    runs: &Runs<'_, '_>,
+    candidates: &Candidates,
+) -> Result<String, AllocError>
+    requires cases { AllByRecursion (HasItsCases interner.now.nodes) table.old }
+    requires runs { AreRunsOf table.old runs.now }
+    requires candidates { runs.now.candidates ≡ candidates.now }
+    ensures { IfOk result (λ text. (said : List LineRecord) → KeepsAll interner.now.nodes table.old said →
+        IsMatrixText any extras.now said candidates.now 1 environments.now (string_bytes text)) }
+{
+    let admission = Admission::new(|_, _| true);
+    let mut text = String::new(alloc);
+    for (place, environment) in environments.iter().enumerate() {
+        let answer = table.answer_among(alloc, interner, environment, extras, runs, &admission)?;
+        push_answer(alloc, &mut text, place + 1, &answer, candidates)?;
+    }
+    Ok(text)
+}
+
+/// Adds the line of an environment and its answer to a text.
+fn push_answer(
+    alloc: Global,
+    text: &mut String,
+    number: usize,
+    answer: &Answer,
+    candidates: &Candidates,
+) -> Result<(), AllocError>
+    requires { All (λ row. IsTakenBelow (length candidates.now) row.outcome) answer.now.rows.items }
+    ensures { OnOk result (string_bytes text.new ≡ (string_bytes text.old ++ environment_line number)
+        ++ answer_text candidates.now (map row_seen answer.now.rows.items)) }
+{
+    let line = format!(in alloc; "env {number}\n")?;
+    text.push_str(line.as_str())?;
+    let rows = answer.text(alloc, candidates)?;
+    text.push_str(rows.as_str())
+}

@@ -1,0 +1,5 @@
+pub mod Texts
+pub mod Extras
+pub mod EachEnvironment
+pub mod Reading
+pub mod Steps

@@ -1,0 +1,11 @@
+use Rattle.std.proofs.Common.{◌≡◌, drop}
+use Rattle.serde_json.specs.Written.{items_have_float, members_have_float}
+use Rattle.serde_json.specs.View.{items_view, members_view}
+use Rattle.reqs_ends.proofs.floats.+float.Given as goal
+
+-- what is left has a float where the whole has one
+abbrev pub invariant-items_have_float-loop-item : goal.invariant-items_have_float-loop-item
+invariant-items_have_float-loop-item l = items_have_float (items_view (drop l.item-index l.item-items)) ≡ items_have_float (items_view l.item-items)
+
+abbrev pub invariant-members_have_float-loop-name : goal.invariant-members_have_float-loop-name
+invariant-members_have_float-loop-name l = members_have_float (members_view l._name-iterator) ≡ members_have_float (members_view l.initial._name-iterator)

@@ -1,0 +1,89 @@
+-- What is said of a fault.
+use Rattle.std.specs.Prelude.{ℕ, List, ◌++◌, codes, Option, Some}
+use Rattle.std.specs.Fmt.{◌++?◌, decimal}
+use Rattle.std.specs.Io.{StartsWith}
+use Rattle.pep508_environment.specs.Environment.{member_name}
+use Rattle.pep508_url.specs.UrlFaults.{url_error_text}
+use Rattle.pep508_url.specs.UrlTexts.{Verbatim}
+use Rattle.pep508_url.specs.declared.error.VerbatimUrlError.{VerbatimUrlError}
+use Rattle.pep508_error.specs.declared.error.Pep508Error.{Pep508Error}
+use Rattle.pep508_error.specs.Errors.{error_text}
+use Rattle.reqtable_text.specs.Errors.{cause_text}
+use Rattle.reqs_ends.specs.declared.fault.Input.{Input}
+use Rattle.reqs_ends.specs.declared.fault.Input.TheVariants.{First, Second, Third}
+use Rattle.reqs_ends.specs.declared.fault.JsonShape.{JsonShape}
+use Rattle.reqs_ends.specs.declared.fault.JsonShape.TheVariants as shapes
+use Rattle.reqs_ends.specs.declared.fault.RunFault.{RunFault}
+use Rattle.reqs_ends.specs.declared.fault.RunFault.TheVariants.{Read, Write, Memory, TooLong, NotText, Extra}
+use Rattle.reqs_ends.specs.declared.fault.RunFault.TheVariants.{Requirement, NumberAtEnd, Json, Float, Shape}
+use Rattle.reqs_ends.specs.declared.fault.RunFault.TheVariants.{Member, Version, Candidate, TooManyCases}
+
+-- an input, by its place on the command line
+abbrev pub input_words : Input → List ℕ
+input_words First = codes "first input"
+input_words Second = codes "second input"
+input_words Third = codes "third input"
+
+-- that a JSON value has not the shape that is wanted
+abbrev pub shape_text : JsonShape → List ℕ
+shape_text shapes.Object = codes "not an object"
+shape_text shapes.List = codes "not a list"
+
+-- something about a file
+abbrev pub input_text : List ℕ → List ℕ → List ℕ
+input_text path what = path ++ codes ": " ++ what
+
+-- something about a line of a file
+abbrev pub line_text : List ℕ → ℕ → List ℕ → List ℕ
+line_text path number what = path ++ codes ": line " ++ decimal number ++ codes ": " ++ what
+
+-- something about a member of an environment in a file
+abbrev pub member_text : List ℕ → ℕ → List ℕ → List ℕ → List ℕ
+member_text path index name what =
+    path ++ codes ": environment " ++ decimal index ++ codes ": member " ++ name ++ codes " is " ++ what
+
+-- that a package of a file has more cases than the limit
+abbrev pub cases_text : List ℕ → ℕ → List ℕ → List ℕ
+cases_text path limit name =
+    path ++ codes ": more than " ++ decimal limit ++ codes " cases for " ++ name
+
+-- what is said first of a line that is no requirement: the place in bytes of what is at fault
+abbrev pub requirement_front : List ℕ → ℕ → Pep508Error Verbatim VerbatimUrlError → List ℕ
+requirement_front path number error =
+    path ++ codes ": line " ++ decimal number ++ codes ", byte " ++ decimal error.excerpt.start
+    ++ codes ", length " ++ decimal error.excerpt.len ++ codes "\n"
+
+-- and below it what the error says; where that is the text of the crate `url`, nothing is claimed here
+abbrev pub requirement_text : List ℕ → ℕ → Pep508Error Verbatim VerbatimUrlError → Option (List ℕ)
+requirement_text path number error =
+    Some (requirement_front path number error) ++? error_text url_error_text error
+
+-- what is said of a fault, by what is said of its input: that input's path, or its place
+abbrev pub fault_text : (Input → List ℕ) → RunFault → Option (List ℕ)
+fault_text said (Read input) = Some (input_text (said input) (codes "read fault"))
+fault_text said Write = Some (codes "write fault")
+fault_text said Memory = Some (codes "out of memory")
+fault_text said (TooLong input) =
+    Some (input_text (said input) (codes "longer than 16777216 bytes"))
+fault_text said (NotText input offset) =
+    Some (said input ++ codes ": not UTF-8 at byte " ++ decimal offset)
+fault_text said (Extra word) = Some (codes "extra " ++ word ++ codes " is no name")
+fault_text said (Requirement input number error) = requirement_text (said input) number error
+fault_text said (NumberAtEnd input number) =
+    Some (line_text (said input) number (codes "a version number can't be raised"))
+fault_text said (Json input) = Some (input_text (said input) (codes "not JSON"))
+fault_text said (Float input) = Some (input_text (said input) (codes "a number is a float"))
+fault_text said (Shape input wanted) = Some (input_text (said input) (shape_text wanted))
+fault_text said (Member input index name) =
+    Some (member_text (said input) index (member_name name) (codes "missing or no text"))
+fault_text said (Version input index name) =
+    Some (member_text (said input) index (member_name name) (codes "no version"))
+fault_text said (Candidate input number cause) =
+    Some (line_text (said input) number (cause_text cause))
+fault_text said (TooManyCases input limit name) = Some (cases_text (said input) limit name)
+
+-- a text that says of a line that it is no requirement says so and where first, whatever stands behind that
+abbrev pub HasItsFront : (Input → List ℕ) → RunFault → List ℕ → Type 0
+HasItsFront said (Requirement input number error) text =
+    StartsWith text (requirement_front (said input) number error)
+HasItsFront said fault text = Unit {0}

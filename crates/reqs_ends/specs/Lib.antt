@@ -1,0 +1,4 @@
+pub mod Faults
+pub mod Inputs
+pub mod Ends
+pub mod FaultText

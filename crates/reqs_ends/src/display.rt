@@ -1,0 +1,133 @@
+//! What is said of a fault where its input has no path: the input is told by its place.
+
+ghost use Rattle.std.specs.Prelude.{Some};
+ghost use Rattle.std.specs.Fmt.{DisplaysOnOk};
+ghost use Rattle.pep508_environment.specs.Environment.{member_name};
+ghost use Rattle.reqs_ends.specs.FaultText.{input_words, member_text, requirement_front, requirement_text};
+ghost use Rattle.reqs_ends.specs.FaultText.{fault_text};
+ghost use Rattle.reqs_ends.specs.Faults.{IsOfEnvironment};
+
+use crate::fault::{Input, RunFault, shape_text};
+use pep508_environment::EnvironmentMember;
+use pep508_error::Pep508Error;
+use pep508_url::VerbatimUrl;
+use std::error::Error;
+use std::fmt;
+
+impl fmt::Display for Input {
+    ghost output = { λ input. Some (input_words input) };
+
+    fn fmt<W: fmt::Write>(&self, f: &mut fmt::Formatter<W>) -> fmt::Result {
+        match self {
+            Input::First => write!(f, "first input"),
+            Input::Second => write!(f, "second input"),
+            Input::Third => write!(f, "third input"),
+        }
+    }
+}
+
+impl fmt::Display for RunFault {
+    ghost output = { fault_text input_words };
+
+    fn fmt<W: fmt::Write>(&self, f: &mut fmt::Formatter<W>) -> fmt::Result {
+        match self {
+            RunFault::Read { input } => write!(f, "{input}: read fault"),
+            RunFault::Write => write!(f, "write fault"),
+            RunFault::Memory => write!(f, "out of memory"),
+            RunFault::TooLong { input } => write!(f, "{input}: longer than 16777216 bytes"),
+            RunFault::NotText { input, offset } => {
+                write!(f, "{input}: not UTF-8 at byte {offset}")
+            }
+            RunFault::Extra { text } => write!(f, "extra {text} is no name"),
+            RunFault::Requirement {
+                input,
+                number,
+                error,
+            } => write_requirement(*input, *number, error, f),
+            RunFault::NumberAtEnd { input, number } => {
+                write!(
+                    f,
+                    "{input}: line {number}: a version number can't be raised"
+                )
+            }
+            RunFault::Candidate {
+                input,
+                number,
+                cause,
+            } => write!(f, "{input}: line {number}: {cause}"),
+            RunFault::TooManyCases {
+                input,
+                limit,
+                package,
+            } => write!(f, "{input}: more than {limit} cases for {package}"),
+            fault => write_environment(fault, f),
+        }
+    }
+}
+
+impl Error for RunFault {}
+
+/// Writes that a line is no requirement.
+fn write_requirement<W: fmt::Write>(
+    input: Input,
+    number: usize,
+    error: &Pep508Error<VerbatimUrl>,
+    f: &mut fmt::Formatter<W>,
+) -> fmt::Result
+    ensures { DisplaysOnOk W.write_str_gives f.old result
+        (requirement_text (input_words input) number error.now) f.new }
+{
+    write_front(input, number, error, f)?;
+    write!(f, "{error}")
+}
+
+/// Writes which line is no requirement, and the place of what is at fault.
+fn write_front<W: fmt::Write>(
+    input: Input,
+    number: usize,
+    error: &Pep508Error<VerbatimUrl>,
+    f: &mut fmt::Formatter<W>,
+) -> fmt::Result
+    ensures { DisplaysOnOk W.write_str_gives f.old result
+        (Some (requirement_front (input_words input) number error.now)) f.new }
+{
+    let start = error.start();
+    let len = error.len();
+    writeln!(f, "{input}: line {number}, byte {start}, length {len}")
+}
+
+/// Writes a fault of an environment.
+fn write_environment<W: fmt::Write>(fault: &RunFault, f: &mut fmt::Formatter<W>) -> fmt::Result
+    requires { IsOfEnvironment fault.now }
+    ensures { DisplaysOnOk W.write_str_gives f.old result (fault_text input_words fault.now) f.new }
+{
+    match fault {
+        RunFault::Json { input } => write!(f, "{input}: not JSON"),
+        RunFault::Float { input } => write!(f, "{input}: a number is a float"),
+        RunFault::Shape { input, wanted } => {
+            let what = shape_text(*wanted);
+            write!(f, "{input}: {what}")
+        }
+        RunFault::Member { input, index, name } => {
+            write_member(*input, *index, *name, "missing or no text", f)
+        }
+        RunFault::Version { input, index, name } => {
+            write_member(*input, *index, *name, "no version", f)
+        }
+        _ => unreachable!(),
+    }
+}
+
+/// Writes a fault of a member of an environment.
+fn write_member<W: fmt::Write>(
+    input: Input,
+    index: usize,
+    name: EnvironmentMember,
+    fault: &str,
+    f: &mut fmt::Formatter<W>,
+) -> fmt::Result
+    ensures { DisplaysOnOk W.write_str_gives f.old result
+        (Some (member_text (input_words input) index (member_name name) fault.now)) f.new }
+{
+    write!(f, "{input}: environment {index}: member {name} is {fault}")
+}

@@ -1,0 +1,180 @@
+//! The inputs of a command: each read whole, and then read as what it is.
+
+ghost use Rattle.std.specs.Prelude.{◌≡◌, ◌⊎◌, map, IfOk, IfErr, Some, None};
+ghost use Rattle.std.specs.Prelude.{true, false};
+ghost use Rattle.std.specs.Str.{is_utf8};
+ghost use Rattle.std.specs.Str.Lossy.{utf8_valid_len};
+ghost use Rattle.serde_json.specs.Read.{read};
+ghost use Rattle.serde_json.specs.View.{view};
+ghost use Rattle.reqs_ends.specs.Faults.{AnswersRun};
+ghost use Rattle.reqs_ends.specs.Inputs.{ReadsInput, extra_of, extras_of, AnswersLines};
+ghost use Rattle.reqs_ends.specs.Inputs.{environment_in, environment_from, candidates_from};
+
+use crate::fault::{Input, RefusedWord, RunFault};
+use pep508_environment::MarkerEnvironment;
+use pep508_name::{ExtraName, InvalidNameError};
+use pep508_tree::Interner;
+use pep508_url::Vars;
+use reqs_io::{ASK_LIMIT, INPUT_LIMIT, read_whole};
+use reqtable_requirements::Requirements;
+use reqtable_text::Candidates;
+use serde_json::Value;
+use std::alloc::Global;
+use std::io::Read;
+
+/// Reads an input to its end.
+pub fn read_input<R: Read>(alloc: Global, input: Input, reader: &mut R) -> Result<Vec<u8>, RunFault>
+    ensures { ReadsInput input (λ bytes. bytes.items) (R.remaining reader.old) result }
+{
+    match read_whole(alloc, reader, INPUT_LIMIT, ASK_LIMIT) {
+        Ok(bytes) => Ok(bytes),
+        Err(fault) => Err(RunFault::of_reading(input, fault)),
+    }
+}
+
+/// Reads extras as names, in order.
+pub fn read_extras(alloc: Global, extras: &[&str]) -> Result<Vec<ExtraName>, RunFault>
+    ensures { AnswersRun (λ names. names.items) result (extras_of (map (λ e. e.now) extras.now)) }
+{
+    let mut names = Vec::new(alloc);
+    for extra in extras {
+        names.push(read_extra(alloc, extra)?)?;
+    }
+    Ok(names)
+}
+
+/// Reads an extra as a name.
+fn read_extra(alloc: Global, extra: &str) -> Result<ExtraName, RunFault>
+    ensures { AnswersRun (λ name. name) result (extra_of extra.now) }
+{
+    match ExtraName::from_str(alloc, extra) {
+        Ok(name) => Ok(name),
+        Err(InvalidNameError::InvalidName(text)) => Err(RunFault::Extra {
+            text: RefusedWord::new(text),
+        }),
+        Err(InvalidNameError::Memory) => Err(RunFault::Memory),
+    }
+}
+
+/// Reads a list of requirements, and lets its bytes go.
+pub fn read_requirements(
+    alloc: Global,
+    input: Input,
+    bytes: &mut Vec<u8>,
+    interner: &mut Interner,
+    vars: &Vars,
+) -> Result<Requirements, RunFault>
+    ensures { AnswersLines vars.now interner.new.nodes input bytes.old.items result }
+{
+    let read = Requirements::parse(alloc, bytes, interner, vars);
+    *bytes = Vec::new(alloc);
+    match read {
+        Ok(requirements) => Ok(requirements),
+        Err(fault) => Err(RunFault::of_requirements(input, fault)),
+    }
+}
+
+/// The text that an input's bytes are.
+pub(crate) fn text_of(input: Input, bytes: &[u8]) -> Result<&str, RunFault>
+    ensures text { IfOk result (λ text. (text.now ≡ bytes.now) × (is_utf8 bytes.now ≡ true)) }
+    ensures fault { IfErr result
+        (λ fault. (fault ≡ RunFault.NotText input (utf8_valid_len bytes.now)) × (is_utf8 bytes.now ≡ false)) }
+{
+    match str::from_utf8(bytes) {
+        Ok(text) => Ok(text),
+        Err(error) => Err(RunFault::NotText {
+            input,
+            offset: error.valid_up_to(),
+        }),
+    }
+}
+
+/// The value that a JSON text is.
+pub(crate) fn value_of(alloc: Global, input: Input, text: &str) -> Result<Value, RunFault>
+    ensures value { IfOk result (λ value. read text.now ≡ Some (view value)) }
+    ensures fault { IfErr result (λ fault.
+        (fault ≡ RunFault.Memory) ⊎ ((fault ≡ RunFault.Json input) × (read text.now ≡ None))) }
+{
+    match Value::from_str(alloc, text) {
+        Ok(value) => Ok(value),
+        Err(error) => {
+            if error.is_memory() {
+                return Err(RunFault::Memory);
+            }
+            Err(RunFault::Json { input })
+        }
+    }
+}
+
+/// The environment that a value is, of this number in an input.
+pub(crate) fn environment_of(
+    alloc: Global,
+    input: Input,
+    index: usize,
+    value: &Value,
+) -> Result<MarkerEnvironment, RunFault>
+    ensures { AnswersRun (λ e. e) result (environment_in input index (Some (view value.now))) }
+{
+    match MarkerEnvironment::from_value(alloc, value) {
+        Ok(environment) => Ok(environment),
+        Err(fault) => Err(RunFault::of_environment(input, index, fault)),
+    }
+}
+
+/// The environment that a JSON text is, of this number in an input.
+fn environment_of_text(
+    alloc: Global,
+    input: Input,
+    index: usize,
+    text: &str,
+) -> Result<MarkerEnvironment, RunFault>
+    ensures { AnswersRun (λ e. e) result (environment_in input index (read text.now)) }
+{
+    match value_of(alloc, input, text) {
+        Ok(value) => environment_of(alloc, input, index, &value),
+        Err(fault) => Err(fault),
+    }
+}
+
+/// The environment that bytes are, JSON in UTF-8.
+#[tactic(auto, unfolding(crate::specs::Inputs::environment_from))]
+fn environment_from(
+    alloc: Global,
+    input: Input,
+    index: usize,
+    bytes: &[u8],
+) -> Result<MarkerEnvironment, RunFault>
+    ensures { AnswersRun (λ e. e) result (environment_from input index bytes.now) }
+{
+    environment_of_text(alloc, input, index, text_of(input, bytes)?)
+}
+
+/// Reads the environment of this number in an input, from 1, and lets its bytes go.
+pub fn read_environment(
+    alloc: Global,
+    input: Input,
+    index: usize,
+    bytes: &mut Vec<u8>,
+) -> Result<MarkerEnvironment, RunFault>
+    ensures { AnswersRun (λ e. e) result (environment_from input index bytes.old.items) }
+{
+    let read = environment_from(alloc, input, index, bytes);
+    *bytes = Vec::new(alloc);
+    read
+}
+
+/// Reads a candidate list, and lets its bytes go.
+pub fn read_candidates(
+    alloc: Global,
+    input: Input,
+    bytes: &mut Vec<u8>,
+) -> Result<Candidates, RunFault>
+    ensures { AnswersRun (λ candidates. candidates) result (candidates_from input bytes.old.items) }
+{
+    let read = Candidates::parse(alloc, bytes);
+    *bytes = Vec::new(alloc);
+    match read {
+        Ok(candidates) => Ok(candidates),
+        Err(fault) => Err(RunFault::of_candidates(input, fault)),
+    }
+}
