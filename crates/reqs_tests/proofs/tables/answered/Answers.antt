@@ -1,6 +1,6 @@
 use Rattle.std.proofs.Common.{true, rules}
 use Rattle.reqtable_requirements.proofs.Asked.{are_of_nodes}
-use Rattle.reqtable_table.proofs.fields.answered.Goals as goal
+use Rattle.reqs_tests.proofs.tables.answered.Goals as goal
 
 pub build-requires : goal.build-requires
 build-requires c = record { trees = are_of_nodes _ _ _ c.in-Ok.ensures.answered.0 c.in-Ok.ensures.answered.2 }
