@@ -6,7 +6,7 @@ use pep508_url::Vars;
 use reqtable_answer::Admission;
 use reqtable_requirements::Requirements;
 use reqtable_table::{Table, TableError};
-use reqtable_text::{Candidates, Placed};
+use reqtable_text::{Candidates, Ordered, Placed};
 use std::alloc::{AllocError, Global};
 use std::fmt;
 use std::test::Fail;
@@ -130,6 +130,18 @@ fn places_shown(alloc: Global, placed: &[Placed<'_>]) -> Result<String, fmt::Err
     Ok(text)
 }
 
+/// How many candidates there are, their order, and those of a package.
+fn order_shown(
+    alloc: Global,
+    ordered: &Ordered<'_>,
+    name: &PackageName,
+) -> Result<String, fmt::Error> {
+    let count = ordered.candidates().items().len();
+    let all = places_shown(alloc, ordered.placed())?;
+    let own = places_shown(alloc, ordered.run_of(name))?;
+    Ok(format!(in alloc; "{count}:{all}:{own}")?)
+}
+
 #[test]
 fn candidates_stand_by_name_and_version(rt: HostRuntime) -> Result<(), Fail> {
     let alloc = rt.alloc();
@@ -137,14 +149,7 @@ fn candidates_stand_by_name_and_version(rt: HostRuntime) -> Result<(), Fail> {
     let candidates = read.expect(&rt, "candidates");
     let ordered = candidates.in_order(alloc)?;
     let foo = PackageName::from_str(alloc, "foo").expect(&rt, "a name");
-    assert_eq!(rt; ordered.candidates().items().len(), 5);
-    assert_eq!(rt;
-        places_shown(alloc, ordered.placed())?.as_str(),
-        " 1 2 4 0 3"
-    );
-    assert_eq!(rt;
-        places_shown(alloc, ordered.run_of(&foo))?.as_str(),
-        " 2 4 0 3"
-    );
+    let text = order_shown(alloc, &ordered, &foo)?;
+    assert_eq!(rt; text.as_str(), "5: 1 2 4 0 3: 2 4 0 3");
     Ok(())
 }
