@@ -101,7 +101,7 @@ fi
 
 # The pages have each word of the help.
 words_of() {
-    "$@" --help | sed -n '/^  /{s/^ *//;s/   *.*//;s/, /\n/g;p;}'
+    "$@" --help | sed -n '/^  /{s/^ *//;s/   *.*//;s/ <.*//;s/, /\n/g;p;}'
 }
 has_words() {
     local page=$1 word

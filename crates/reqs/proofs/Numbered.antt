@@ -6,13 +6,14 @@ use Rattle.pep508_tree.specs.Meaning.{NodeRecord}
 use Rattle.pep508_environment.specs.Environment.{EnvironmentRecord}
 use Rattle.pep508_evaluation.specs.Valuations.{valuation_of}
 use Rattle.reqtable_text.specs.declared.candidates.Candidate.{Candidate}
-use Rattle.reqtable_answer.specs.Answer.{RowRecord, IsAnswer, answer_text}
+use Rattle.reqtable_answer.specs.Answer.{RowRecord, IsAnswer, IsAnswerText, answer_text}
+use Rattle.reqtable_answer.proofs.OneAnswer.{one_text}
 use Rattle.reqtable_requirements.specs.Asks.{asks_of}
 use Rattle.reqtable_requirements.specs.LineReading.{LineRecord}
 use Rattle.reqtable_table.specs.Answers.{SamePackage}
 use Rattle.reqtable_table.specs.Kept.{KeptPackage, KeepsAll}
 use Rattle.reqs.specs.Check.{any}
-use Rattle.reqs.specs.Matrix.{environment_line, IsMatrixText}
+use Rattle.reqs.specs.Matrix.{environment_line, IsMatrixText, numbered}
 
 -- a text has the answers for the environments before a place: any text for those behind it makes it whole
 abbrev pub IsFront : List (List ℕ) → List LineRecord → List Candidate → List EnvironmentRecord → ℕ → List ℕ → Type 0
@@ -55,3 +56,16 @@ module _ (extras : List (List ℕ)) (lines : List LineRecord) (candidates : List
       (answer, rest, (rows, answered, refl), behind, refl) in
       subst T (simp append_assoc)
       (so_far (line ++ answer ++ rest) (subst S (sym (drop-cons all place x below)) (subst R is whole)))
+
+-- what is written is what one answer after another is
+pub as_check : (extras : List (List ℕ)) (lines : List LineRecord) (candidates : List Candidate) (number : ℕ)
+    (environments : List EnvironmentRecord) (answers : List (List ℕ)) (text : List ℕ)
+    → AllZip (λ environment answer. IsAnswerText any (asks_of (valuation_of environment extras) lines) candidates answer) environments answers
+    → IsMatrixText any extras lines candidates number environments text → text ≡ numbered number answers
+as_check extras lines candidates number [] [] text each h = h
+as_check extras lines candidates number [] (answer ∷ answers) text each h = absurd each
+as_check extras lines candidates number (environment ∷ environments) [] text each h = absurd each
+as_check extras lines candidates number (environment ∷ environments) (answer ∷ answers) text each h =
+    let line = environment_line number in
+    h.4 ∙ ap (λ a. line ++ a ++ h.1) (one_text any (asks_of (valuation_of environment extras) lines) candidates h.0 answer h.2 each.0)
+    ∙ ap (λ rest. line ++ answer ++ rest) (as_check extras lines candidates (suc number) environments answers h.1 each.1 h.3)

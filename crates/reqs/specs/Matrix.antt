@@ -43,6 +43,11 @@ IsMatrixText admits extras lines candidates number (environment ∷ environments
     × IsMatrixText admits extras lines candidates (suc number) environments rest
     × (text ≡ environment_line number ++ answer ++ rest)
 
+-- texts one behind another, each behind the line of its environment
+abbrev pub numbered : ℕ → List (List ℕ) → List ℕ
+numbered number [] = []
+numbered number (answer ∷ answers) = environment_line number ++ answer ++ numbered (suc number) answers
+
 -- ---- what texts are answered with
 
 abbrev pub MatrixTexts : Type 0

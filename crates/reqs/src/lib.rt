@@ -2,6 +2,7 @@
 #![tactic(auto)]
 
 mod checks;
+pub mod laws;
 mod matrices;
 
 pub use checks::check;

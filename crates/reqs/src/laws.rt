@@ -1,0 +1,21 @@
+//! Laws over the definitions. The functions do nothing: each one's contract is its law.
+
+ghost use Rattle.std.specs.Prelude.{◌≡◌, List, ℕ};
+ghost use Rattle.std.specs.List.{AllZip};
+ghost use Rattle.pep508_environment.specs.Environment.{EnvironmentRecord};
+ghost use Rattle.pep508_evaluation.specs.Valuations.{valuation_of};
+ghost use Rattle.reqtable_answer.specs.Answer.{IsAnswerText};
+ghost use Rattle.reqtable_requirements.specs.Asks.{asks_of};
+ghost use Rattle.reqtable_requirements.specs.LineReading.{LineRecord};
+ghost use Rattle.reqtable_text.specs.declared.candidates.Candidate.{Candidate};
+ghost use Rattle.reqs.specs.Check.{any};
+ghost use Rattle.reqs.specs.Matrix.{IsMatrixText, numbered};
+
+/// What `matrix` writes is what `check` writes for one environment after another, each behind its line.
+pub fn matrix_writes_what_check_writes()
+    ensures { (extras : List (List ℕ)) (lines : List LineRecord) (candidates : List Candidate)
+        (environments : List EnvironmentRecord) (answers : List (List ℕ)) (text : List ℕ) →
+        AllZip (λ environment answer.
+        IsAnswerText any (asks_of (valuation_of environment extras) lines) candidates answer) environments answers →
+        IsMatrixText any extras lines candidates 1 environments text → text ≡ numbered 1 answers }
+{}
