@@ -88,13 +88,13 @@ OLD_KEYS = {"os.name": "os_name", "sys.platform": "sys_platform", "platform.vers
 VERSION_KEYS = ("python_version", "python_full_version", "implementation_version")
 MARKER_VERSIONS = ("2.7", "3", "3.7", "3.8", "3.9", "3.9.0", "3.10", "3.11", "3.11.0rc1", "3.11.4", "3.12", "3.13", "3.14", "4", "7.3.12")
 VERSION_LISTS = ("3.8 3.9", "3.9 3.10 3.11", "2.7, 3.8", "3.11.4", "")
-SIGNS = ("==", "!=", "<", "<=", ">", ">=", "~=", "===")
+SIGNS = ("==", "!=", "<", "<=", ">", ">=", "~=")
 MEANINGLESS = ("'a' == 'b'", "os_name == sys_platform", "python_version > 'x'", "extra == ''", "'3.8' < '3.9'")
 
 # What is refused.
 WRONG_LINES = ("foo- >=1", "foo>=", "foo>=1.0,", "foo[a", "foo[a-]", "-r R", "foo ; os_name = 'x'", "foo ; python_version >", "foo==1 bar",
                "foo @ ../../../../../../../../../../../../foo.whl", "foo @", "foo ; (os_name == 'x'", "foo~=1", "foo<1.0+cpu",
-               "foo ; python_version > '3.18446744073709551615'", "\u00fcber", "foo>=1.0\\")
+               "foo ; python_version > '3.18446744073709551615'", "foo ; os_name === 'x'", "\u00fcber", "foo>=1.0\\")
 WRONG_CANDIDATES = ("foo", "foo one", "foo- 1.0", "foo 1.0 x", "foo 18446744073709551616")
 WRONG_EXTRAS = ("dev-", "a b", "\u00fc")
 
@@ -111,7 +111,7 @@ def version(draw, locals_too):
 
 
 def specifier(draw):
-    sign = draw.one((*SIGNS, ">=", ">=", "<=", "!=", "!=", "==.*", "!=.*"))
+    sign = draw.one((*SIGNS, ">=", ">=", "<=", "!=", "!=", "===", "==.*", "!=.*"))
     if sign.endswith("*"):
         return f"{sign[:2]}{draw.one(SPACES)}{draw.one(RELEASES)}.*"
     if sign == "~=":
@@ -212,7 +212,7 @@ def requirements(draw):
 
 
 def candidates(draw):
-    lines = [f"{draw.one(draw.one(NAMES))}{draw.one(WIDE)}{version(draw, True)}" for _ in range(draw.below(40))]
+    lines = [f"{draw.one(draw.one(NAMES))}{draw.one(WIDE)}{version(draw, True)}" for _ in range(draw.below(60))]
     return laid_out(draw, with_wrong(draw, lines, WRONG_CANDIDATES, 3))
 
 
@@ -363,8 +363,8 @@ def play(words):
     print(f"alike: seed {words.seed}: {sums['environments']} environments in {words.count} rounds, of which"
           f" {sums['refused']} were refused; rows: {told}")
     lacking = [it for it in KINDS if not sums[it]]
-    if lacking:
-        print(f"FAILED: nothing was {lacking[0]}")
+    for it in lacking:
+        print(f"FAILED: not one was {it}")
     return words.count - len(faults), len(faults) + len(lacking)
 
 
