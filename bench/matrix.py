@@ -216,8 +216,8 @@ def main():
     words = read_words()
     if "packaging" in words.only:
         print(subprocess.run([*PACKAGING, "--which"], stdout=subprocess.PIPE, text=True, check=True).stdout)
-    print("| workload | environments | `matrix` s | peak MiB | as many `check` s | peak MiB of one | check / matrix "
-          "| packaging s | same |")
+    print("| workload | environments | `matrix` s | peak MiB | `check` in each, s | peak MiB of one | check / matrix "
+          "| `packaging` s | same |")
     print("|---|---|---|---|---|---|---|---|---|")
     makers = [lambda count: many_packages(count, words.seed, words.full)]
     makers += [lambda count, made=made: made(count, words.seed) for made in (independent, exclusive, the_least)]

@@ -11,7 +11,8 @@ environment. The rounds of a seed are the same on each machine. The second form 
 what is said, and leaves its inputs in the folder.
 
 PROGRAM is ../crates/reqs_cli/out/reqs_cli where none is named. The last line is `alike: N passed, M failed`, a round each. It
-fails too where of all rounds no package was taken, none had nothing to take, none was direct, or no input was refused.
+fails too where of all packages none was taken, none had nothing to take or none was direct, or where of all rounds no
+input was refused or no two environments had different answers.
 """
 
 import argparse
@@ -27,8 +28,8 @@ from collections import Counter
 
 PROGRAM = os.path.join(os.path.dirname(os.path.abspath(__file__)), "..", "crates", "reqs_cli", "out", "reqs_cli")
 MOST_LINES, MOST_ENVIRONMENTS = 12, 6
-# What has to come at least once.
-KINDS = ("taken", "none", "direct", "refused")
+# What becomes of a package, and of a round. Each has to come at least once.
+ROWS, ROUNDS = ("taken", "none", "direct"), ("refused", "differing")
 
 
 class Draw:
@@ -317,11 +318,11 @@ def ran(program, words, folder):
 
 def counted(checks, said):
     """How often a package was taken, and so on, over all environments of a round."""
-    found = Counter(environments=len(checks), refused=int(said[0] == 2))
-    for _, out, _ in checks:
-        for row in out.splitlines():
-            what = row.rpartition(b" ")[2].decode()
-            found[what if what in KINDS else "taken"] += 1
+    answers = [out for status, out, _ in checks if status == 0]
+    found = Counter(environments=len(checks), refused=int(said[0] == 2), differing=int(said[0] == 0 and len({*answers}) > 1))
+    for row in b"".join(answers).splitlines():
+        what = row.rpartition(b" ")[2].decode()
+        found[what if what in ROWS else "taken"] += 1
     return found
 
 
@@ -359,10 +360,9 @@ def play(words):
                 faults.append(fault)
     for it in faults[:5]:
         print(f"FAILED: {it[:1000]}")
-    told = ", ".join(f"{sums[it]} {it}" for it in KINDS[:3])
-    print(f"alike: seed {words.seed}: {sums['environments']} environments in {words.count} rounds, of which"
-          f" {sums['refused']} were refused; rows: {told}")
-    lacking = [it for it in KINDS if not sums[it]]
+    rounds, rows = (", ".join(f"{sums[it]} {it}" for it in kinds) for kinds in (ROUNDS, ROWS))
+    print(f"alike: seed {words.seed}: {words.count} rounds ({rounds}), {sums['environments']} environments; rows: {rows}")
+    lacking = [it for it in (*ROWS, *ROUNDS) if not sums[it]]
     for it in lacking:
         print(f"FAILED: not one was {it}")
     return words.count - len(faults), len(faults) + len(lacking)
