@@ -8,3 +8,5 @@ mod copies;
 mod ends;
 #[cfg(test)]
 mod lists;
+#[cfg(test)]
+mod tables;

@@ -12,10 +12,23 @@
 //! let text = answer.text(alloc, &candidates)?;
 //! ```
 //!
+//! For many environments a table is made of the requirements beforehand, which takes them. Its answers are those
+//! of the judge:
+//!
+//! ```text
+//! let mut table = Table::build(alloc, requirements, &mut interner, 4096)?;
+//! let ordered = candidates.in_order(alloc)?;
+//! let runs = table.runs(alloc, &ordered)?;
+//! for environment in &environments {
+//!     let answer = table.answer_among(alloc, &interner, environment, &extras, &runs, &admission)?;
+//! }
+//! ```
+//!
 //! The crates below hold the code; this one passes on what they offer, and requirements as `pep508_rs`.
 #![tactic(auto)]
 
 pub use pep508_rs;
 pub use reqtable_answer::{Admission, Answer, Ask, AskSource, Outcome, Row, answer_to, ask_of};
 pub use reqtable_requirements::{Line, Requirements, RequirementsError};
-pub use reqtable_text::{Candidate, CandidateFault, Candidates, CandidatesError};
+pub use reqtable_table::{Case, Runs, Table, TableError};
+pub use reqtable_text::{Candidate, CandidateFault, Candidates, CandidatesError, Ordered, Placed};

@@ -1,5 +1,5 @@
 -- What is known of a kept line by the line that it keeps.
-use Rattle.std.proofs.Common.{◌≡◌, true, false, List, [], ◌∷◌, All, refl, sym, ◌∙◌, subst, arith, true≢false}
+use Rattle.std.proofs.Common.{◌≡◌, true, List, [], ◌∷◌, All, refl, sym, ◌∙◌, subst, arith, true≢false}
 use Rattle.std.specs.List.{AllByRecursion}
 use Rattle.std.proofs.lemmas.List.Elements.{recursion_from_All}
 use Rattle.pep440_specifier.specs.Building.{IsBuilt}

@@ -18,9 +18,9 @@ use Rattle.reqtable_text.specs.declared.candidates.Candidate.{Candidate}
 use Rattle.reqtable_answer.specs.Asks.{specifiers_of, is_candidate}
 use Rattle.reqtable_requirements.specs.Asks.{lines_of}
 use Rattle.reqtable_requirements.specs.LineReading.{LineRecord}
-use Rattle.reqtable_cases.specs.Lines.{marked, is_named}
+use Rattle.reqtable_cases.specs.Lines.{marked}
 use Rattle.reqtable_cases.specs.Usable.{IsRangeOf}
-use Rattle.reqtable_table.specs.Answers.{SameLine, SamePackage, kept_marks, kept_asked}
+use Rattle.reqtable_table.specs.Answers.{SameLine, SamePackage, kept_marks}
 use Rattle.reqtable_table.specs.Cases.{IsCaseOf, HasItsCases}
 use Rattle.reqtable_table.specs.Kept.{KeptLine, KeptCase, KeptPackage, Keeps, KeepsAll, kept_front, kept_under, names_in, is_bound}
 use Rattle.reqtable_table.specs.Runs.{RunsRecord, AreRunsOf}

@@ -1,5 +1,5 @@
 -- A case by the numbers of its lines.
-use Rattle.std.proofs.Common.{◌≡◌, ◌∙◌, ◌<◌, ◌≤◌, ◌+◌, ◌||◌, ◌⊎◌, ℕ, zero, suc, Bool, true, false, List, [], ◌∷◌, map, length, get_or, drop, nat_lt, refl, sym, ap, subst, arith, Less, Equal, Greater, inl, inr, true≢false}
+use Rattle.std.proofs.Common.{◌≡◌, ◌∙◌, ◌<◌, ◌≤◌, ◌+◌, ◌||◌, ◌⊎◌, ℕ, zero, suc, true, false, List, [], ◌∷◌, map, length, get_or, drop, nat_lt, refl, sym, ap, subst, arith, Less, Equal, Greater, inl, inr, true≢false}
 use Rattle.std.proofs.lemmas.Bool.{cases_Bool}
 use Rattle.std.proofs.lemmas.Bool.Decides.{nat_tests}
 use Rattle.std.proofs.lemmas.List.{length-map}
@@ -8,11 +8,10 @@ use Rattle.std.specs.List.{list_any, AllZip, AllByRecursion}
 use Rattle.std.specs.List.Sorted.{IsStrictlySortedBy, IsSortedBy, IsNonDecreasingBy, IsPartitionPoint}
 use Rattle.std.specs.Cmp.{nat_cmp_total, tied_itself}
 use Rattle.std.specs.Ordering.{nat_cmp, is_lt, ordering_index, ordering_then, ordering_reverse}
-use Rattle.std.specs.declared.cmp.Ordering.{Ordering}
 use Rattle.pep508_diagram.specs.Question.{Valuation}
 use Rattle.pep508_tree.specs.Tree.{Tree}
 use Rattle.pep508_tree.specs.Meaning.{NodeRecord, holds}
-use Rattle.pep508_cases.specs.Cases.{Marks, Marking, same_marks, marks_cmp, marks_of, sets_of}
+use Rattle.pep508_cases.specs.Cases.{Marks, same_marks, marks_cmp, marks_of, sets_of}
 use Rattle.pep508_cases.proofs.Counting.{marks_total}
 use Rattle.pep508_cases.proofs.Marks.{marks_is}
 use Rattle.reqtable_cases.specs.Lines.{marked}
@@ -21,10 +20,10 @@ use Rattle.reqtable_table.specs.declared.table.Case.{Case}
 use Rattle.reqtable_table.specs.declared.table.Package.{Package}
 use Rattle.reqtable_table.specs.declared.kept.TableLine.{TableLine}
 use Rattle.reqtable_table.specs.Answers.{kept_marks}
-use Rattle.reqtable_table.specs.Cases.{IsCaseOf, HasItsCases}
+use Rattle.reqtable_table.specs.Cases.{IsCaseOf}
 use Rattle.reqtable_table.specs.Casing.{case_record, HaveMarks}
 use Rattle.reqtable_table.specs.Choosing.{case_asks, AreApplying}
-use Rattle.reqtable_table.specs.Kept.{KeptLine, KeptCase, KeptPackage, kept_front}
+use Rattle.reqtable_table.specs.Kept.{KeptLine, KeptCase, kept_front}
 use Rattle.reqtable_table.specs.KeptLines.{line_record, package_record}
 use Rattle.reqtable_table.specs.Numbers.{numbers_cmp}
 use Rattle.reqtable_table.specs.Standing.{HasItsLines}

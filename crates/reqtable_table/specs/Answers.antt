@@ -1,4 +1,5 @@
--- What a table answers: the rows of the packages of which a line applies, and how many specifiers are asked for that.
+-- What a table answers: the rows of the packages of which a line applies, and how many specifiers are asked
+-- for that.
 use Rattle.std.specs.Prelude.{◌≡◌, ◌+◌, ◌==◌, ◌&&◌, ℕ, Bool, List, [], ◌∷◌, map, filter, length, is_none}
 use Rattle.std.specs.Prelude.{if◌then◌else◌}
 use Rattle.std.specs.List.{list_any, enumerate_from, AllZip}
@@ -37,8 +38,8 @@ pub record IsRowFor (admits : Admits) (nodes : List NodeRecord) (v : Valuation) 
   pub its : IsRowOf admits (kept_asked nodes v kept.lines) (own_candidates candidates kept.name) row
 
 -- a row for each package of which a line applies
-abbrev pub AreRowsFor : Admits → List NodeRecord → Valuation → List Candidate → List KeptPackage → List RowRecord
-    → Type 0
+abbrev pub AreRowsFor : Admits → List NodeRecord → Valuation → List Candidate → List KeptPackage
+    → List RowRecord → Type 0
 AreRowsFor admits nodes v candidates table rows =
     AllZip (IsRowFor admits nodes v candidates) (filter (is_asked nodes v) table) rows
 

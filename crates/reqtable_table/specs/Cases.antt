@@ -45,8 +45,8 @@ abbrev pub cases_under : List ℕ → List KeptPackage → Option (List KeptCase
 cases_under name table = option_map (λ p. p.cases) (find (λ p. bytes_eq name p.name) table)
 
 -- what building a table of some lines answers, with these nodes afterwards: it keeps the lines and has the
--- cases of each package, none of which has more than the limit; or the first by name that has more; or want of
--- memory
+-- cases of each package, none of which has more than the limit; or the first by name that has more; or want
+-- of memory
 abbrev pub Builds : ℕ → List NodeRecord → List LineRecord → Result (List KeptPackage) TableError → Type 0
 Builds limit nodes said (Ok table) =
     KeepsAll nodes table said × AllByRecursion (HasItsCases nodes) table

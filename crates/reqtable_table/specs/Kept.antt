@@ -26,7 +26,8 @@ use Rattle.reqtable_requirements.specs.Asks.{lines_of}
 use Rattle.reqtable_cases.specs.Lines.{is_named}
 
 -- a line of a package: its number, extras and marker, whether it asks for a URL, whether one of its
--- specifiers is `<` or `>`, whether one has a pre-release or developmental release, and the specifiers, counted
+-- specifiers is `<` or `>`, whether one has a pre-release or developmental release, and the specifiers,
+-- counted
 pub record KeptLine : Type 0 where
   pub number : ℕ
   pub extras : List (List ℕ)

@@ -52,20 +52,22 @@ impl Table {
             All (λ row. IsTakenBelow (length candidates.now) row.outcome) answer.rows.items) }
         ensures kept { AllZip SamePackage self.new self.old }
         ensures tests { all_tests self.new ≤ all_tests self.old
-            + most_tests_of interner.now.nodes (valuation_of environment.now extras.now) candidates.now self.old }
+            + most_tests_of interner.now.nodes (valuation_of environment.now extras.now) candidates.now
+            self.old }
     {
         let ordered = candidates.in_order(alloc)?;
         let runs = self.runs(alloc, &ordered)?;
         self.answer_among(alloc, interner, environment, extras, &runs, admission)
     }
 
-    /// `answer` among the candidates that `runs` found for the packages, which serve any number of environments.
+    /// `answer` among the candidates that `runs` found for the packages, which serve any number of
+    /// environments.
     ///
-    /// Evaluates each line's marker, and finds a package's case in as many steps as the logarithm of its cases.
-    /// Of a package of which a line applies, the candidates are looked at from the greatest version down, up to
-    /// the one that is taken. The case's range tells of those without a local part that are no post-releases,
-    /// and of post-releases too where no line of the case has `<` or `>`; the specifiers are asked of all
-    /// others, or of all candidates where the case has no range.
+    /// Evaluates each line's marker, and finds a package's case in as many steps as the logarithm of its
+    /// cases. Of a package of which a line applies, the candidates are looked at from the greatest version
+    /// down, up to the one that is taken. The case's range tells of those without a local part that are no
+    /// post-releases, and of post-releases too where no line of the case has `<` or `>`; the specifiers are
+    /// asked of all others, or of all candidates where the case has no range.
     pub fn answer_among<F: Fn(&Version, bool) -> bool>(
         &mut self,
         alloc: Global,

@@ -32,9 +32,10 @@ pub(crate) fn marks_in(
     lines: &[TableLine],
     setting: &Setting<'_>,
 ) -> Result<Vec<bool>, AllocError>
-    requires { AllByRecursion (λ line. IsTree (nodes_in setting.now) line.marker) (map line_record lines.now) }
-    ensures { IfOk result (λ marks.
-        marks.items ≡ kept_marks (nodes_in setting.now) (valuation_in setting.now) (map line_record lines.now)) }
+    requires { AllByRecursion (λ line. IsTree (nodes_in setting.now) line.marker)
+        (map line_record lines.now) }
+    ensures { IfOk result (λ marks. marks.items
+        ≡ kept_marks (nodes_in setting.now) (valuation_in setting.now) (map line_record lines.now)) }
 {
     let mut marks = Vec::with_capacity(alloc, lines.len())?;
     for line in lines {

@@ -17,10 +17,12 @@ ghost use Rattle.reqtable_table.specs.Kept.{KeptCase, KeptPackage, KeepsAll};
 /// line names it.
 pub fn cases_are_those_of_the_lines()
     ensures some { (nodes : List NodeRecord) (table : List KeptPackage) (said : List LineRecord)
-        (name : List ℕ) (cases : List KeptCase) → KeepsAll nodes table said → AllByRecursion (HasItsCases nodes) table →
+        (name : List ℕ) (cases : List KeptCase) → KeepsAll nodes table said →
+        AllByRecursion (HasItsCases nodes) table →
         cases_under name table ≡ Some cases → AreCasesOf nodes (lines_of name said) cases }
     ensures none { (nodes : List NodeRecord) (table : List KeptPackage) (said : List LineRecord)
-        (name : List ℕ) → KeepsAll nodes table said → cases_under name table ≡ None → is_named name said ≡ false }
+        (name : List ℕ) → KeepsAll nodes table said → cases_under name table ≡ None →
+        is_named name said ≡ false }
 {}
 
 /// A package's cases stay its cases while nodes are added to the interner.

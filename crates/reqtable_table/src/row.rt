@@ -88,12 +88,14 @@ fn row_of<F: Fn(&Version, bool) -> bool>(
     ensures row { IfOk result (λ row. (admits : Admits) → AnswersBy (F.post admission.now) admits →
         IsRowInOrder admits (nodes_in setting.now) (valuation_in setting.now) (map placed_seen own.now)
         (package_record kept.old) (option_map row_seen row)) }
-    ensures below { IfOk result (λ row. (count : ℕ) → AllByRecursion (λ c. c.0 < count) (map placed_seen own.now) →
+    ensures below { IfOk result (λ row. (count : ℕ) →
+        AllByRecursion (λ c. c.0 < count) (map placed_seen own.now) →
         IfSome row (λ row. IsTakenBelow count row.outcome)) }
     ensures same { SamePackage (package_record kept.new) (package_record kept.old) }
-    ensures tests { tests_of (map line_record kept.new.lines.items) ≤ tests_of (map line_record kept.old.lines.items)
-        + most_tests (kept_asked (nodes_in setting.now) (valuation_in setting.now) (map line_record kept.old.lines.items))
-        (map placed_seen own.now) }
+    ensures tests { tests_of (map line_record kept.new.lines.items)
+        ≤ tests_of (map line_record kept.old.lines.items)
+        + most_tests (kept_asked (nodes_in setting.now) (valuation_in setting.now)
+        (map line_record kept.old.lines.items)) (map placed_seen own.now) }
 {
     let marks = marks_in(alloc, &kept.lines, setting)?;
     if !marks.contains(&true) {

@@ -34,8 +34,8 @@ impl<'o, 'a> Model for Runs<'o, 'a> {
 }
 
 impl Table {
-    /// The candidates of each package of the table, for `answer_among`. For n packages and m candidates that are
-    /// O(n log m) comparisons of names, and memory for n places.
+    /// The candidates of each package of the table, for `answer_among`. For n packages and m candidates that
+    /// are O(n log m) comparisons of names, and memory for n places.
     pub fn runs<'o, 'a>(
         &self,
         alloc: Global,
@@ -64,7 +64,8 @@ impl<'o, 'a> Runs<'o, 'a> {
     /// The candidates of the package at a place of the table.
     pub(crate) fn of_place(&self, place: usize) -> &'o [Placed<'a>]
         requires { place < length self.now.runs }
-        ensures { (other : List (ℕ × Candidate)) → map placed_seen result.now ≡ get_or self.now.runs place other }
+        ensures { (other : List (ℕ × Candidate)) →
+            map placed_seen result.now ≡ get_or self.now.runs place other }
     {
         self.runs[place]
     }

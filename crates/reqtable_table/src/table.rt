@@ -116,8 +116,9 @@ impl Table {
     /// The table of a text's requirements, whose markers are trees of the interner.
     ///
     /// For each package the cases are found line by line, so that no more sets are looked at than `limit`
-    /// allows: n lines of a package take at most `2 * n * limit` conjunctions. Beside these the lines are brought
-    /// in order by name, and for each case of n specifiers its range takes O(n log n) comparisons of versions.
+    /// allows: n lines of a package take at most `2 * n * limit` conjunctions. Beside these the lines are
+    /// brought in order by name, and for each case of n specifiers its range takes O(n log n) comparisons of
+    /// versions.
     /// The table keeps what it needs of the requirements, and no second copy of it.
     pub fn build(
         alloc: Global,

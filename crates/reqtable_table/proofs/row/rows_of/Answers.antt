@@ -1,12 +1,8 @@
-use Rattle.std.proofs.Common.{◌∙◌, ◌++◌, ◌∷◌, [], ◌<◌, ◌+◌, All, option_map, length, map, take, get_or, sym, ap, subst, arith}
-use Rattle.std.proofs.lemmas.List.{map-append, take_all}
-use Rattle.std.proofs.lemmas.List.Elements.{All-push}
-use Rattle.std.specs.Option.{IfSome}
+use Rattle.std.proofs.Common.{◌∙◌, [], ◌<◌, ◌+◌, All, option_map, length, map, take, get_or, sym, ap, subst, arith}
+use Rattle.std.proofs.lemmas.List.{take_all}
 use Rattle.reqtable_text.specs.Ordered.{placed_seen}
 use Rattle.reqtable_answer.specs.Rows.{row_seen, IsTakenBelow}
 use Rattle.reqtable_table.specs.Answers.{AreRowsFor}
-use Rattle.reqtable_table.specs.Choosing.{IsRowInOrder}
-use Rattle.reqtable_table.specs.KeptLines.{package_record}
 use Rattle.reqtable_table.specs.Settings.{nodes_in, valuation_in}
 use Rattle.reqtable_table.proofs.Rows.{kept_records, none_answered, lines_here, cases_here, within_runs, said_here, below_here}
 use Rattle.reqtable_table.proofs.Rows.{next_here, end_here, rows_here, seen_added, all_added}
