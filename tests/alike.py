@@ -182,7 +182,7 @@ def line(draw):
     else:
         # (a name that may be taken for an archive's needs something behind it)
         text += specifiers(draw)
-    if draw.is_in(60):
+    if draw.is_in(75):
         text += f"{draw.one(SPACES)};{draw.one(SPACES)}{marker(draw)}"
     return text
 
@@ -227,23 +227,22 @@ def members(draw):
     return found
 
 
-def environment(draw):
-    """The text of an environment, and perhaps of something that is none."""
+def environment(draw, is_wrong):
+    """The text of an environment, or mostly of something that is none."""
     found = members(draw)
-    keys = [*found]
+    keys, wrong = [*found], draw.below(5) if is_wrong else None
     if draw.is_in(10):
         found["name"] = draw.one(("x", 7, None, ["y", {"z": 2**64 - 1}]))
-    if draw.is_in(2):
+    if wrong == 0:
         del found[draw.one(keys)]
-    if draw.is_in(2):
+    if wrong == 1:
         found[draw.one(keys)] = draw.one((None, 3, ["3.8"], {}, "no version"))
-    if draw.is_in(1):
+    if wrong == 2 or is_wrong and draw.is_in(10):
         found["load"] = draw.one((0.5, 2**64, [{"deep": 1e3}]))
     text = json.dumps({it: found[it] for it in draw.shuffled(found)}, ensure_ascii=draw.is_in(50))
-    if draw.is_in(2):
+    if wrong == 3:
         text = draw.one(("[]", "1", '"posix"', "null", "0.5", "{}", "{", text[:-1], "nul", text + ","))
-    given = text.encode()
-    return given.replace(b"name", b"na\xff") if draw.is_in(1) else given
+    return text.encode().replace(b"name", b"na\xff") if wrong == 4 else text.encode()
 
 
 class Round:
@@ -253,8 +252,9 @@ class Round:
         draw = Draw(seed, number)
         self.requirements, self.candidates = requirements(draw).encode(), candidates(draw).encode()
         self.environments, count = [], 1 + draw.below(MOST_ENVIRONMENTS)
+        are_wrong = draw.is_in(12)
         while len(self.environments) < count:
-            text = environment(draw)
+            text = environment(draw, are_wrong and draw.is_in(50))
             if text not in self.environments:
                 self.environments.append(text)
         self.extras = with_wrong(draw, draw.some(EXTRAS, 2), WRONG_EXTRAS, 1)
