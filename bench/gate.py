@@ -21,11 +21,11 @@ TOP = os.path.dirname(os.path.dirname(os.path.abspath(__file__)))
 TICKS = os.sysconf("SC_CLK_TCK")
 PAUSE = 0.2
 KINDS = ["proofs", "proofs of tests", "wrong edits one by one", "wrong edits together", "builds",
-         "runs of tests and programs", "command line", "a first answer", "installing", "refused memory", "faults",
-         "the rest"]
+         "runs of tests and programs", "command line", "answers compared", "a first answer", "installing",
+         "refused memory", "faults", "the rest"]
 # A script whose processes are all of one kind.
-SCRIPTS = {"cli.sh": ("command line", ""), "try.sh": ("a first answer", ""), "install.sh": ("installing", ""),
-           "refused.sh": ("refused memory", ""), "faults.py": ("faults", "")}
+SCRIPTS = {"cli.sh": ("command line", ""), "alike.py": ("answers compared", ""), "try.sh": ("a first answer", ""),
+           "install.sh": ("installing", ""), "refused.sh": ("refused memory", ""), "faults.py": ("faults", "")}
 
 
 class Unit:

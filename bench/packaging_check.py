@@ -1,9 +1,11 @@
 #!/usr/bin/env python3
-"""What `reqs check` does, with Python's `packaging`: the installed one, else the copy inside pip.
+"""What `reqs` does, with Python's `packaging`: the installed one, else the copy inside pip.
 
     packaging_check.py REQUIREMENTS ENVIRONMENT CANDIDATES [EXTRA..]
+    packaging_check.py --matrix REQUIREMENTS ENVIRONMENTS CANDIDATES [EXTRA..]
 
-Prints the rows. `--which` alone prints which packaging it uses.
+Prints the rows of `reqs check`, or of `reqs matrix`: then lines and candidates are read once, and markers and
+specifiers are asked in each environment. `--which` alone prints which packaging it uses.
 """
 
 import json
@@ -43,40 +45,56 @@ def lines_of(path):
             yield line
 
 
-def main(words):
-    if words == ["--which"]:
-        print(f"packaging {packaging.__version__} ({ORIGIN}), Python {sys.version.split()[0]}")
-        return
-    if len(words) < 3:
-        sys.exit(__doc__)
-    requirements_path, environment_path, candidates_path, *extras = words
-    with open(environment_path, encoding="utf-8") as file:
-        environment = json.load(file)
-    environments = [dict(environment, extra=extra) for extra in extras or [""]]
-
-    packages = {}
-    for line in lines_of(requirements_path):
-        requirement = Requirement(line)
-        marker = requirement.marker
-        if marker is None or any(marker.evaluate(each) for each in environments):
-            packages.setdefault(canonicalize_name(requirement.name), []).append(requirement)
-
-    best = {}
-    for line in lines_of(candidates_path):
+def candidates_of(path):
+    """A name and a version a line."""
+    for line in lines_of(path):
         name, text = line.split(None, 1)
-        name, version = canonicalize_name(name), Version(text)
+        yield canonicalize_name(name), Version(text)
+
+
+def applying(requirements, environment, extras):
+    """The requirements that apply, by package."""
+    environments = [dict(environment, extra=extra) for extra in extras or [""]]
+    packages = {}
+    for it in requirements:
+        if it.marker is None or any(it.marker.evaluate(each) for each in environments):
+            packages.setdefault(canonicalize_name(it.name), []).append(it)
+    return packages
+
+
+def rows(packages, candidates):
+    best = {}
+    for name, version in candidates:
         if name not in packages or (name in best and best[name] >= version):
             continue
         if all(it.specifier.contains(version, prereleases=True) for it in packages[name]):
             best[name] = version
-
-    rows = []
     for name in sorted(packages):
         extras = {canonicalize_name(extra) for it in packages[name] for extra in it.extras}
         shown = f"[{','.join(sorted(extras))}]" if extras else ""
         direct = any(it.url for it in packages[name])
-        rows.append(f"{name}{shown} {'direct' if direct else best.get(name, 'none')}\n")
-    sys.stdout.write("".join(rows))
+        yield f"{name}{shown} {'direct' if direct else best.get(name, 'none')}\n"
+
+
+def main(words):
+    if words == ["--which"]:
+        print(f"packaging {packaging.__version__} ({ORIGIN}), Python {sys.version.split()[0]}")
+        return
+    is_matrix = words[:1] == ["--matrix"]
+    if len(words) < 3 + is_matrix:
+        sys.exit(__doc__)
+    requirements, environments, candidates, *extras = words[is_matrix:]
+    with open(environments, encoding="utf-8") as file:
+        given = json.load(file)
+    requirements = map(Requirement, lines_of(requirements))
+    candidates = candidates_of(candidates)
+    if not is_matrix:
+        sys.stdout.writelines(rows(applying(requirements, given, extras), candidates))
+        return
+    requirements, candidates = list(requirements), list(candidates)
+    for number, environment in enumerate(given, 1):
+        sys.stdout.write(f"env {number}\n")
+        sys.stdout.writelines(rows(applying(requirements, environment, extras), candidates))
 
 
 main(sys.argv[1:])

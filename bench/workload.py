@@ -32,6 +32,15 @@ ENVIRONMENT = {
     "sys_platform": "linux",
 }
 
+# Of environments, beside the interpreter.
+SYSTEMS = (
+    {"os_name": "posix", "platform_machine": "x86_64", "platform_system": "Linux", "sys_platform": "linux"},
+    {"os_name": "posix", "platform_machine": "aarch64", "platform_system": "Linux", "sys_platform": "linux"},
+    {"os_name": "posix", "platform_machine": "arm64", "platform_system": "Darwin", "sys_platform": "darwin"},
+    {"os_name": "posix", "platform_machine": "x86_64", "platform_system": "Darwin", "sys_platform": "darwin"},
+    {"os_name": "nt", "platform_machine": "AMD64", "platform_system": "Windows", "sys_platform": "win32"},
+)
+
 PARTS = (
     "aio api app array async auth base batch cache cli client cloud code color config core crypto "
     "csv data date db debug django doc email event fast file flask form geo graph grid hash html "
@@ -40,6 +49,26 @@ PARTS = (
     "rpc schema search server shell signal sql static store stream sync table task template test "
     "text time token tool trace tree type url util uuid view web wheel work xml yaml zip"
 ).split()
+
+
+def make_environments(count, seed):
+    """So many environments, no two alike, of which the first is ENVIRONMENT."""
+    rng = random.Random(seed)
+    found = {json.dumps(ENVIRONMENT): ENVIRONMENT}
+    while len(found) < count:
+        python = f"3.{rng.randrange(7, 15)}.{rng.randrange(20)}"
+        is_pypy = rng.random() < 0.2
+        made = {
+            **ENVIRONMENT,
+            **rng.choice(SYSTEMS),
+            "implementation_name": "pypy" if is_pypy else "cpython",
+            "implementation_version": f"7.3.{rng.randrange(20)}" if is_pypy else python,
+            "platform_python_implementation": "PyPy" if is_pypy else "CPython",
+            "python_full_version": python,
+            "python_version": python.rpartition(".")[0],
+        }
+        found[json.dumps(made)] = made
+    return list(found.values())
 
 
 def make_names(rng, count):

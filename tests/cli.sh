@@ -183,7 +183,13 @@ wants "matrix on one environment that is no list" 2 "" "reqs: E: not a list$n"
 for example in "$top"/examples/*/expected.txt; do
     example=${example%/*}
     name=${example##*/}
-    run check "$example/requirements.txt" "$example/environment.json" "$example/candidates.txt"
+    command=check
+    environments=$example/environment.json
+    if [ ! -f "$environments" ]; then
+        command=matrix
+        environments=$example/environments.json
+    fi
+    run "$command" "$example/requirements.txt" "$environments" "$example/candidates.txt"
     cp out example.out
     wants "examples/$name: an answer" 0 SOMETHING ""
     if cmp -s example.out "$example/expected.txt"; then
@@ -197,6 +203,13 @@ done
 
 run matrix "$top"/examples/first/{requirements.txt,environments.json,candidates.txt}
 wants "examples/first: answers for two environments" 0 "$(cat "$top/examples/first/expected_matrix.txt")$n" ""
+run matrix "$top"/examples/matrix/{requirements.txt,environments.json,candidates.txt} test
+cp out rows
+wants "examples/matrix: an answer with an extra" 0 SOMETHING ""
+[ "$(grep -c '^env ' rows)" -gt 0 ] && [ "$(grep -c '^pytest ' rows)" -eq "$(grep -c '^env ' rows)" ]
+status=$?
+: >out
+wants "examples/matrix: an extra in each environment" 0 "" ""
 
 # The scripts of examples/: what is installed for the machine's own python3, and what is asked of it.
 script() {
@@ -219,7 +232,7 @@ if command -v python3 >/dev/null; then
         failed=$((failed + 1))
         echo "FAILED: what is installed: $(wc -l <rows) rows of $(wc -l <asked), and $(grep -c ' none$' rows) none"
     fi
-    for name in installed plain_list candidates; do
+    for name in installed plain_list candidates environments; do
         script $name.py --help
         wants "examples/$name.py --help" 0 SOMETHING ""
         script $name.py --frobnicate
@@ -265,6 +278,13 @@ if command -v python3 >/dev/null; then
     python3 "$top/examples/plain_list.py" asked >/dev/full 2>err
     status=$?
     wants "plain_list.py: a full standard output" 2 "" "plain_list.py: standard output: No space left on device$n"
+
+    script environments.py
+    wants "environments.py" 0 "$(cat "$top/examples/matrix/environments.json")$n" ""
+    : >out
+    python3 "$top/examples/environments.py" >/dev/full 2>err
+    status=$?
+    wants "environments.py: a full standard output" 2 "" "environments.py: standard output: No space left on device$n"
 
     script candidates.py <"$top/tests/pages/files.json"
     wants "candidates.py: versions by files" 0 "$(cat "$top/tests/pages/files.txt")$n" "$(cat "$top/tests/pages/files_left_out.txt")$n"
