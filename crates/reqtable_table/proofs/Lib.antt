@@ -23,3 +23,4 @@ pub mod Searching
 pub mod Own
 pub mod Rows
 pub mod StandingLines
+pub mod OneCase

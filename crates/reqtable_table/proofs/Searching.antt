@@ -105,7 +105,7 @@ marked_equal (true ∷ s) (false ∷ t) e = absurd (cc)
 marked_equal (false ∷ s) (true ∷ t) e = absurd (cc)
 marked_equal (false ∷ s) (false ∷ t) e = ap (λ l. false ∷ l) (marked_equal s t e)
 
-differ : (a b : Marks) → (marks_cmp a b ≡ Equal → ⊥) → same_marks b a ≡ false
+pub differ : (a b : Marks) → (marks_cmp a b ≡ Equal → ⊥) → same_marks b a ≡ false
 differ a b apart = elim (cases_Bool (same_marks b a)) [
   | inl e ↦ absurd (apart (ap (λ m. marks_cmp m b) (sym (marks_is b a e)) ∙ tied_itself marks_total b))
   | inr e ↦ e
@@ -182,7 +182,7 @@ either_side (suc k) (suc i) = elim (either_side k i) [
 less_apart : (a b : Marks) → marks_cmp a b ≡ Less → marks_cmp a b ≡ Equal → ⊥
 less_apart a b less equal = absurd (cc)
 
-greater_apart : (a b : Marks) → marks_cmp a b ≡ Greater → marks_cmp a b ≡ Equal → ⊥
+pub greater_apart : (a b : Marks) → marks_cmp a b ≡ Greater → marks_cmp a b ≡ Equal → ⊥
 greater_apart a b greater equal = absurd (cc)
 
 numbers_twice : (lines : List TableLine) → map (λ (l : KeptLine). l.number) (map line_record lines) ≡ map (λ (l : TableLine). l.number) lines

@@ -40,6 +40,16 @@ pub record AreCasesOf (nodes : List NodeRecord) (lines : List LineRecord) (cases
   pub are : AreCases (line_marks lines) nodes sets
   pub each : AllZip (IsCaseOfLines lines) cases sets
 
+-- the same line with another number
+pub record IsRenumbered (line other : LineRecord) : Type 0 where
+  pub front : line.front ≡ other.front
+  pub formula : line.formula ≡ other.formula
+
+-- the same case, of lines with other numbers
+pub record SameCase (case other : KeptCase) : Type 0 where
+  pub tree : case.tree ≡ other.tree
+  pub range : case.range ≡ other.range
+
 -- the cases of a name
 abbrev pub cases_under : List ℕ → List KeptPackage → Option (List KeptCase)
 cases_under name table = option_map (λ p. p.cases) (find (λ p. bytes_eq name p.name) table)

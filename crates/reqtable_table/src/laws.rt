@@ -1,9 +1,9 @@
 //! Laws over the definitions. The functions do nothing: each one's contract is its law.
 
-ghost use Rattle.std.specs.Prelude.{◌≡◌, false, ℕ, List, Some, None};
-ghost use Rattle.std.specs.List.{AllByRecursion};
+ghost use Rattle.std.specs.Prelude.{◌≡◌, false, ℕ, List, length, filter, Some, None};
+ghost use Rattle.std.specs.List.{AllZip, AllByRecursion};
 ghost use Rattle.pep508_diagram.specs.Question.{Valuation};
-ghost use Rattle.pep508_tree.specs.Meaning.{NodeRecord, Extends};
+ghost use Rattle.pep508_tree.specs.Meaning.{NodeRecord, Extends, holds};
 ghost use Rattle.reqtable_text.specs.declared.candidates.Candidate.{Candidate};
 ghost use Rattle.reqtable_answer.specs.Answer.{Admits, RowRecord, IsAnswer};
 ghost use Rattle.reqtable_requirements.specs.Asks.{lines_of, asks_of};
@@ -11,6 +11,7 @@ ghost use Rattle.reqtable_requirements.specs.LineReading.{LineRecord};
 ghost use Rattle.reqtable_cases.specs.Lines.{is_named};
 ghost use Rattle.reqtable_table.specs.Answers.{AreRowsFor};
 ghost use Rattle.reqtable_table.specs.Cases.{HasItsCases, AreCasesOf, cases_under};
+ghost use Rattle.reqtable_table.specs.Cases.{IsRenumbered, SameCase};
 ghost use Rattle.reqtable_table.specs.Kept.{KeptCase, KeptPackage, KeepsAll};
 
 /// The cases under a name are those of the lines that the table keeps of it; there are none exactly where no
@@ -23,6 +24,20 @@ pub fn cases_are_those_of_the_lines()
     ensures none { (nodes : List NodeRecord) (table : List KeptPackage) (said : List LineRecord)
         (name : List ℕ) → KeepsAll nodes table said → cases_under name table ≡ None →
         is_named name said ≡ false }
+{}
+
+/// Each environment with its extras lies in just one case: under a valuation the tree of one case holds.
+pub fn a_valuation_lies_in_one_case()
+    ensures { (nodes : List NodeRecord) (lines : List LineRecord) (cases : List KeptCase) (v : Valuation) →
+        AreCasesOf nodes lines cases → length (filter (λ case. holds nodes case.tree v) cases) ≡ 1 }
+{}
+
+/// Lines of other packages change no case of a package but for the numbers of its lines.
+pub fn other_packages_change_no_case()
+    ensures { (nodes : List NodeRecord) (name : List ℕ) (said other : List LineRecord)
+        (cases : List KeptCase) → AllZip IsRenumbered (lines_of name said) (lines_of name other) →
+        AreCasesOf nodes (lines_of name said) cases →
+        (found : List KeptCase) × AreCasesOf nodes (lines_of name other) found × AllZip SameCase cases found }
 {}
 
 /// A package's cases stay its cases while nodes are added to the interner.
