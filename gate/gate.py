@@ -60,7 +60,7 @@ def parts(more):
         Part("proofs and wrong edits", [*python, "gate/together.py", *more], closings=2),
     ], [
         Part("command line", ["bash", "tests/cli.sh"], ["reqs_cli"], of_reqs),
-        Part("answers compared", [*python, "tests/alike.py", "300"], ["reqs_cli"], of_reqs),
+        Part("answers compared", [*python, "tests/alike.py", "1000"], ["reqs_cli"], of_reqs),
         Part("a first answer", ["bash", "tests/try.sh"], ["reqs_cli"], of_reqs),
         Part("installing", ["bash", "tests/install.sh"], ["reqs_cli"], of_reqs),
         Part("refused memory", ["bash", "tests/refused.sh"], ["reqs_cli", *QUESTIONS], [*of_reqs, *asked]),
