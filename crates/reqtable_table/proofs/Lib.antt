@@ -24,3 +24,4 @@ pub mod Own
 pub mod Rows
 pub mod StandingLines
 pub mod OneCase
+pub mod Told

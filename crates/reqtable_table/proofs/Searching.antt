@@ -2,7 +2,7 @@
 use Rattle.std.proofs.Common.{◌≡◌, ◌∙◌, ◌<◌, ◌≤◌, ◌+◌, ◌||◌, ◌⊎◌, ℕ, zero, suc, true, false, List, [], ◌∷◌, map, length, get_or, drop, nat_lt, refl, sym, ap, subst, arith, Less, Equal, Greater, inl, inr, true≢false}
 use Rattle.std.proofs.lemmas.Bool.{cases_Bool}
 use Rattle.std.proofs.lemmas.Bool.Decides.{nat_tests}
-use Rattle.std.proofs.lemmas.List.{length-map}
+use Rattle.std.proofs.lemmas.List.{length-map, get_or-map}
 use Rattle.std.proofs.lemmas.List.Sorted.{searchable_from_sorted}
 use Rattle.std.specs.List.{list_any, AllZip, AllByRecursion}
 use Rattle.std.specs.List.Sorted.{IsStrictlySortedBy, IsSortedBy, IsNonDecreasingBy, IsPartitionPoint}
@@ -51,7 +51,7 @@ comes_last n rest [] h = refl
 comes_last n rest (m ∷ ns) h =
     ap (λ o. ordering_then o (numbers_cmp ns rest)) (nat_cmp_total.antisymm m n ∙ ap ordering_reverse h.0)
 
-numbers_by_marks : (ns : List ℕ) (s t : Marks) → IsStrictlySortedBy nat_cmp ns → length s ≡ length ns → length t ≡ length ns →
+pub numbers_by_marks : (ns : List ℕ) (s t : Marks) → IsStrictlySortedBy nat_cmp ns → length s ≡ length ns → length t ≡ length ns →
     numbers_cmp (marked s ns) (marked t ns) ≡ marks_cmp s t
 unfolding IsStrictlySortedBy
 numbers_by_marks [] [] [] h a b = refl
@@ -96,7 +96,7 @@ goes_on (n ∷ ns) (m ∷ others) (suc i) past within longer = goes_on ns others
 
 -- ---- sets
 
-marked_equal : (s t : Marks) → marks_cmp s t ≡ Equal → s ≡ t
+pub marked_equal : (s t : Marks) → marks_cmp s t ≡ Equal → s ≡ t
 marked_equal [] [] e = refl
 marked_equal [] (y ∷ t) e = absurd (cc)
 marked_equal (x ∷ s) [] e = absurd (cc)
@@ -195,6 +195,10 @@ pub numbers_seen : (marks : Marks) (lines : List TableLine) →
 numbers_seen marks lines =
     sym (ap (map (λ (l : KeptLine). l.number)) (marked_map line_record marks lines) ∙ numbers_twice (marked marks lines))
 
+first_of : (cases : List Case) (place : ℕ) → place < length cases → Case
+first_of [] place within = absurd (omega arith)
+first_of (case ∷ cases) place within = case
+
 -- ---- the case of the lines that apply
 
 module _ (kept : Package) (marks : Marks) (stands : HasItsLines (package_record kept))
@@ -256,6 +260,16 @@ module _ (kept : Package) (marks : Marks) (stands : HasItsLines (package_record 
       let is = zip_at (IsSetOf lines) case_record cases sets place other [] are within in
       let same = marked_equal (get_or sets place []) marks (sym (order_at place other within) ∙ equal other) in
       subst (λ m. IsRangeOf (map kept_front (marked m lines)) (get_or cases place other).range) same is.range
+
+  pub found_numbers : (place : ℕ) → place < length cases →
+      ((d : Case) → numbers_cmp (get_or cases place d).lines.items numbers_at ≡ Equal) → (other : KeptCase) →
+      (get_or (map case_record cases) place other).numbers ≡ numbers_at
+  found_numbers place within equal other =
+      let case = first_of cases place within in
+      let is = zip_at (IsSetOf lines) case_record cases sets place case [] are within in
+      let same = marked_equal (get_or sets place []) marks (sym (order_at place case within) ∙ equal case) in
+      ap (λ (c : KeptCase). c.numbers) (get_or-map case_record cases place case other within)
+      ∙ is.numbers ∙ ap (λ m. map (λ (l : KeptLine). l.number) (marked m lines)) same
 
   pub is_there : (i : ℕ) → IsPartitionPoint (λ (case : Case). numbers_cmp case.lines.items numbers_at ≡ Less)
       (λ case. numbers_cmp case.lines.items numbers_at ≡ Greater) cases i → ⊥

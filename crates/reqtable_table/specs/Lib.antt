@@ -9,6 +9,7 @@ pub mod Errors
 pub mod Standing
 pub mod Numbers
 pub mod Settings
-pub mod Runs
 pub mod Answers
 pub mod Choosing
+pub mod Runs
+pub mod Owns

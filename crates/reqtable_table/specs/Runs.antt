@@ -1,17 +1,30 @@
--- The candidates of a table's packages, in order.
-use Rattle.std.specs.Prelude.{◌≡◌, ℕ, List, filter}
-use Rattle.std.specs.List.{AllZip}
+-- The candidates of a table's packages, in order, and what was taken of them before.
+use Rattle.std.specs.Prelude.{◌≡◌, ◌<◌, ℕ, Bool, List, map, filter, length, get_or, Option, Some, None}
+use Rattle.std.specs.List.{AllZip, AllByRecursion}
+use Rattle.std.specs.Borrow.{Bor}
+use Rattle.pep440_version.specs.Record.{VersionRecord}
+use Rattle.pep508_cases.specs.Cases.{Marks}
 use Rattle.reqtable_text.specs.Candidates.{HavePrintableVersions}
 use Rattle.reqtable_text.specs.Ordered.{AreInOrder}
 use Rattle.reqtable_text.specs.declared.candidates.Candidate.{Candidate}
+use Rattle.reqtable_answer.specs.Admission.{Admits, AnswersBy}
 use Rattle.reqtable_answer.specs.Asks.{is_candidate}
-use Rattle.reqtable_table.specs.Kept.{KeptPackage}
+use Rattle.reqtable_answer.specs.Rows.{IsTakenBelow}
+use Rattle.reqtable_answer.specs.declared.answer.Outcome.{Outcome}
+use Rattle.reqtable_cases.specs.Lines.{marked}
+use Rattle.reqtable_table.specs.Choosing.{case_asks, outcome_in_order}
+use Rattle.reqtable_table.specs.Kept.{KeptCase, KeptPackage}
+
+-- a package's candidates, and for each of its cases what becomes of it there, where that is known
+pub record OwnRecord : Type 0 where
+  pub run : List (ℕ × Candidate)
+  pub told : List (Option Outcome)
 
 -- the candidates of a list, all of them in order with their places, and parts of these
 pub record RunsRecord : Type 0 where
   pub candidates : List Candidate
   pub placed : List (ℕ × Candidate)
-  pub runs : List (List (ℕ × Candidate))
+  pub owns : List OwnRecord
 
 -- the candidates are of a list that texts say, in its order
 pub record AreOrdered (candidates : List Candidate) (placed : List (ℕ × Candidate)) : Type 0 where
@@ -20,4 +33,22 @@ pub record AreOrdered (candidates : List Candidate) (placed : List (ℕ × Candi
 
 -- there is a part for each package, which has its candidates
 abbrev pub AreRunsOf : List KeptPackage → RunsRecord → Type 0
-AreRunsOf table all = AllZip (λ kept run. run ≡ filter (is_candidate kept.name) all.placed) table all.runs
+AreRunsOf table all = AllZip (λ kept own. own.run ≡ filter (is_candidate kept.name) all.placed) table all.owns
+
+-- what is known of a package is so by a closure with these results: for the lines of a case, their outcome
+pub record IsTold (returns : Bor VersionRecord → Bool → Bool → Type 0) (kept : KeptPackage) (own : OwnRecord)
+    : Type 0 where
+  pub right : (admits : Admits) → AnswersBy returns admits →
+      (place : ℕ) (marks : Marks) (other : KeptCase) (outcome : Outcome) →
+      get_or own.told place None ≡ Some outcome → length marks ≡ length kept.lines →
+      (get_or kept.cases place other).numbers ≡ map (λ line. line.number) (marked marks kept.lines) →
+      outcome ≡ outcome_in_order admits (case_asks marks kept.lines) own.run
+  pub below : (count place : ℕ) (outcome : Outcome) → get_or own.told place None ≡ Some outcome →
+      AllByRecursion (λ c. c.0 < count) own.run → IsTakenBelow count outcome
+
+-- nothing is known yet
+abbrev pub AreUntold : RunsRecord → Type 0
+AreUntold all = AllByRecursion (λ own. (place : ℕ) → get_or own.told place None ≡ None) all.owns
+
+abbrev pub AreTold : (Bor VersionRecord → Bool → Bool → Type 0) → List KeptPackage → RunsRecord → Type 0
+AreTold returns table all = AllZip (IsTold returns) table all.owns

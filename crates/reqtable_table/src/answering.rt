@@ -12,7 +12,7 @@ ghost use Rattle.reqtable_table.specs.Answers.{most_tests_of, SamePackage};
 ghost use Rattle.reqtable_table.specs.Cases.{HasItsCases};
 ghost use Rattle.reqtable_table.specs.Counts.{all_tests};
 ghost use Rattle.reqtable_table.specs.Kept.{KeepsAll};
-ghost use Rattle.reqtable_table.specs.Runs.{AreRunsOf};
+ghost use Rattle.reqtable_table.specs.Runs.{AreRunsOf, AreTold};
 
 use crate::row::rows_of;
 use crate::runs::Runs;
@@ -56,43 +56,56 @@ impl Table {
             self.old }
     {
         let ordered = candidates.in_order(alloc)?;
-        let runs = self.runs(alloc, &ordered)?;
-        self.answer_among(alloc, interner, environment, extras, &runs, admission)
+        let mut runs = self.runs(alloc, &ordered)?;
+        self.answer_among(alloc, interner, environment, extras, &mut runs, admission)
     }
 
     /// `answer` among the candidates that `runs` found for the packages, which serve any number of
     /// environments.
     ///
     /// Evaluates each line's marker, and finds a package's case in as many steps as the logarithm of its
-    /// cases. Of a package of which a line applies, the candidates are looked at from the greatest version
+    /// cases. What is taken in a case is decided once: the candidates are looked at from the greatest version
     /// down, up to the one that is taken. The case's range tells of those without a local part that are no
     /// post-releases, and of post-releases too where no line of the case has `<` or `>`; the specifiers are
-    /// asked of all others, or of all candidates where the case has no range.
+    /// asked of all others, or of all candidates where the case has no range. So the admission is that by
+    /// which `runs` knows what was taken.
     pub fn answer_among<F: Fn(&Version, bool) -> bool>(
         &mut self,
         alloc: Global,
         interner: &Interner,
         environment: &MarkerEnvironment,
         extras: &[ExtraName],
-        runs: &Runs<'_, '_>,
+        runs: &mut Runs<'_, '_>,
         admission: &Admission<F>,
     ) -> Result<Answer, AllocError>
         requires callable { F.IsAlwaysCallable admission.now }
         requires cases { AllByRecursion (HasItsCases interner.now.nodes) self.old }
-        requires runs { AreRunsOf self.old runs.now }
+        requires runs { AreRunsOf self.old runs.old }
+        requires told { AreTold (F.post admission.now) self.old runs.old }
         ensures answered { IfOk result (λ answer. (said : List LineRecord) (admits : Admits) →
             KeepsAll interner.now.nodes self.old said → AnswersBy (F.post admission.now) admits →
-            IsAnswer admits (asks_of (valuation_of environment.now extras.now) said) runs.now.candidates
+            IsAnswer admits (asks_of (valuation_of environment.now extras.now) said) runs.old.candidates
             (map row_seen answer.rows.items)) }
         ensures places { IfOk result (λ answer.
-            All (λ row. IsTakenBelow (length runs.now.candidates) row.outcome) answer.rows.items) }
+            All (λ row. IsTakenBelow (length runs.old.candidates) row.outcome) answer.rows.items) }
         ensures kept { AllZip SamePackage self.new self.old }
+        ensures candidates { runs.new.candidates ≡ runs.old.candidates }
+        ensures runs { AreRunsOf self.new runs.new }
+        ensures told { AreTold (F.post admission.now) self.new runs.new }
         ensures tests { all_tests self.new ≤ all_tests self.old + most_tests_of interner.now.nodes
-            (valuation_of environment.now extras.now) runs.now.candidates self.old }
+            (valuation_of environment.now extras.now) runs.old.candidates self.old }
     {
         let setting = Setting::new(interner, environment, extras);
-        runs.are_ordered();
-        let rows = rows_of(alloc, &mut self.packages, &setting, runs, admission)?;
+        let ordered = runs.ordered;
+        let packages = &mut self.packages;
+        let rows = rows_of(
+            alloc,
+            packages,
+            &setting,
+            ordered,
+            &mut runs.owns,
+            admission,
+        )?;
         Ok(Answer { rows })
     }
 }

@@ -12,6 +12,7 @@ ghost use Rattle.reqtable_cases.specs.Lines.{marked};
 ghost use Rattle.reqtable_cases.specs.Usable.{IsRangeOf};
 ghost use Rattle.reqtable_table.specs.Answers.{kept_marks};
 ghost use Rattle.reqtable_table.specs.Choosing.{case_asks, AreApplying};
+ghost use Rattle.reqtable_table.specs.Kept.{KeptCase};
 ghost use Rattle.reqtable_table.specs.KeptLines.{line_record, package_record};
 ghost use Rattle.reqtable_table.specs.Numbers.{numbers_cmp};
 ghost use Rattle.reqtable_table.specs.Settings.{nodes_in, valuation_in};
@@ -85,6 +86,9 @@ pub(crate) fn case_in(alloc: Global, kept: &Package, marks: &[bool]) -> Result<u
     requires lines { HasItsLines (package_record kept.now) }
     requires applying { AreApplying marks.now (package_record kept.now) }
     ensures within { IfOk result (λ place. place < length kept.now.cases.items) }
+    ensures numbers { IfOk result (λ place. (other : KeptCase) →
+        (get_or (package_record kept.now).cases place other).numbers
+        ≡ map (λ line. line.number) (marked marks.now (package_record kept.now).lines)) }
     ensures range { IfOk result (λ place. (other : Case) →
         IsRangeOf (case_asks marks.now (map line_record kept.now.lines.items))
         (get_or kept.now.cases.items place other).range) }

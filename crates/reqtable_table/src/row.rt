@@ -1,6 +1,6 @@
 //! The row of a package, where a line of it applies.
 
-ghost use Rattle.std.specs.Prelude.{◌≡◌, ◌≤◌, ◌<◌, ◌+◌, ℕ, ◌++◌, ◌∷◌, [], length, map, option_map, All};
+ghost use Rattle.std.specs.Prelude.{◌≡◌, ◌≤◌, ◌<◌, ◌+◌, ℕ, ◌++◌, ◌∷◌, [], length, map, get_or, option_map, All};
 ghost use Rattle.std.specs.Prelude.{IfOk, OnOk, IfSome};
 ghost use Rattle.std.specs.Option.{option_map_or};
 ghost use Rattle.std.specs.List.{list_any, AllZip, AllByRecursion};
@@ -15,20 +15,23 @@ ghost use Rattle.reqtable_table.specs.Answers.{AreRowsFor, SameLine, SamePackage
 ghost use Rattle.reqtable_table.specs.Cases.{HasItsCases};
 ghost use Rattle.reqtable_table.specs.Choosing.{case_asks, outcome_in_order, IsRowInOrder};
 ghost use Rattle.reqtable_table.specs.Counts.{tests_of, all_tests};
+ghost use Rattle.reqtable_table.specs.Kept.{KeptCase};
+ghost use Rattle.reqtable_table.specs.declared.table.Case.{Case};
 ghost use Rattle.reqtable_table.specs.KeptLines.{line_record, package_record};
-ghost use Rattle.reqtable_table.specs.Runs.{AreOrdered, AreRunsOf};
+ghost use Rattle.reqtable_table.specs.Owns.{own_record, runs_of};
+ghost use Rattle.reqtable_table.specs.Runs.{AreOrdered, AreRunsOf, IsTold, AreTold};
 ghost use Rattle.reqtable_table.specs.Settings.{nodes_in, valuation_in};
 ghost use Rattle.reqtable_table.specs.Standing.{HasItsFlags, IsOfTexts, HasItsLines};
 
 use crate::asked::{case_in, extras_of, marks_in};
 use crate::choosing::chosen;
 use crate::kept::TableLine;
-use crate::runs::Runs;
+use crate::runs::Own;
 use crate::setting::Setting;
 use crate::table::Package;
 use pep440_version::Version;
 use reqtable_answer::{Admission, Outcome, Row};
-use reqtable_text::Placed;
+use reqtable_text::{Ordered, Placed};
 use std::alloc::{AllocError, Global};
 use version_ranges::Ranges;
 
@@ -37,27 +40,33 @@ pub(crate) fn rows_of<F: Fn(&Version, bool) -> bool>(
     alloc: Global,
     packages: &mut [Package],
     setting: &Setting<'_>,
-    runs: &Runs<'_, '_>,
+    ordered: &Ordered<'_>,
+    owns: &mut [Own<'_, '_>],
     admission: &Admission<F>,
 ) -> Result<Vec<Row>, AllocError>
     requires callable { F.IsAlwaysCallable admission.now }
     requires lines { AllByRecursion HasItsLines (map package_record packages.old) }
     requires cases { AllByRecursion (HasItsCases (nodes_in setting.now)) (map package_record packages.old) }
-    requires ordered { AreOrdered runs.now.candidates runs.now.placed }
-    requires runs { AreRunsOf (map package_record packages.old) runs.now }
+    requires ordered { AreOrdered ordered.now.candidates ordered.now.placed }
+    requires runs { AreRunsOf (map package_record packages.old) (runs_of ordered.now owns.old) }
+    requires told { AreTold (F.post admission.now) (map package_record packages.old)
+        (runs_of ordered.now owns.old) }
     ensures rows { IfOk result (λ rows. (admits : Admits) → AnswersBy (F.post admission.now) admits →
-        AreRowsFor admits (nodes_in setting.now) (valuation_in setting.now) runs.now.candidates
+        AreRowsFor admits (nodes_in setting.now) (valuation_in setting.now) ordered.now.candidates
         (map package_record packages.old) (map row_seen rows.items)) }
     ensures places { IfOk result (λ rows.
-        All (λ row. IsTakenBelow (length runs.now.candidates) row.outcome) rows.items) }
+        All (λ row. IsTakenBelow (length ordered.now.candidates) row.outcome) rows.items) }
     ensures kept { AllZip SamePackage (map package_record packages.new) (map package_record packages.old) }
+    ensures runs { AreRunsOf (map package_record packages.new) (runs_of ordered.now owns.new) }
+    ensures told { AreTold (F.post admission.now) (map package_record packages.new)
+        (runs_of ordered.now owns.new) }
     ensures tests { all_tests (map package_record packages.new) ≤ all_tests (map package_record packages.old)
-        + most_tests_of (nodes_in setting.now) (valuation_in setting.now) runs.now.candidates
+        + most_tests_of (nodes_in setting.now) (valuation_in setting.now) ordered.now.candidates
         (map package_record packages.old) }
 {
     let mut rows = Vec::new(alloc);
     for (index, kept) in packages.iter_mut().enumerate() {
-        let row = row_of(alloc, kept, setting, runs.of_place(index), admission)?;
+        let row = row_of(alloc, kept, setting, &mut owns[index], admission)?;
         add_row(&mut rows, row)?;
     }
     Ok(rows)
@@ -73,29 +82,32 @@ fn add_row(rows: &mut Vec<Row>, row: Option<Row>) -> Result<(), AllocError>
     Ok(())
 }
 
-/// The row of a package with these candidates in order, where a line of it applies.
+/// The row of a package with its candidates, where a line of it applies.
 fn row_of<F: Fn(&Version, bool) -> bool>(
     alloc: Global,
     kept: &mut Package,
     setting: &Setting<'_>,
-    own: &[Placed<'_>],
+    own: &mut Own<'_, '_>,
     admission: &Admission<F>,
 ) -> Result<Option<Row>, AllocError>
     requires callable { F.IsAlwaysCallable admission.now }
     requires lines { HasItsLines (package_record kept.old) }
     requires cases { HasItsCases (nodes_in setting.now) (package_record kept.old) }
-    requires said { AllByRecursion (λ c. IsSaid c.1.version) (map placed_seen own.now) }
+    requires said { AllByRecursion (λ c. IsSaid c.1.version) (own_record own.old).run }
+    requires told { IsTold (F.post admission.now) (package_record kept.old) (own_record own.old) }
     ensures row { IfOk result (λ row. (admits : Admits) → AnswersBy (F.post admission.now) admits →
-        IsRowInOrder admits (nodes_in setting.now) (valuation_in setting.now) (map placed_seen own.now)
+        IsRowInOrder admits (nodes_in setting.now) (valuation_in setting.now) (own_record own.old).run
         (package_record kept.old) (option_map row_seen row)) }
     ensures below { IfOk result (λ row. (count : ℕ) →
-        AllByRecursion (λ c. c.0 < count) (map placed_seen own.now) →
+        AllByRecursion (λ c. c.0 < count) (own_record own.old).run →
         IfSome row (λ row. IsTakenBelow count row.outcome)) }
     ensures same { SamePackage (package_record kept.new) (package_record kept.old) }
+    ensures run { (own_record own.new).run ≡ (own_record own.old).run }
+    ensures told { IsTold (F.post admission.now) (package_record kept.old) (own_record own.new) }
     ensures tests { tests_of (map line_record kept.new.lines.items)
         ≤ tests_of (map line_record kept.old.lines.items)
         + most_tests (kept_asked (nodes_in setting.now) (valuation_in setting.now)
-        (map line_record kept.old.lines.items)) (map placed_seen own.now) }
+        (map line_record kept.old.lines.items)) (own_record own.old).run }
 {
     let marks = marks_in(alloc, &kept.lines, setting)?;
     if !marks.contains(&true) {
@@ -104,13 +116,56 @@ fn row_of<F: Fn(&Version, bool) -> bool>(
     let place = case_in(alloc, kept, &marks)?;
     let name = kept.name.try_clone(alloc)?;
     let extras = extras_of(alloc, &kept.lines, &marks)?;
-    let range = &kept.cases[place].range;
-    match outcome(alloc, &mut kept.lines, &marks, range, own, admission) {
+    match outcome_in(alloc, kept, &marks, place, own, admission) {
         Ok(outcome) => Ok(Some(Row {
             package: name,
             extras,
             outcome,
         })),
+        Err(error) => Err(error),
+    }
+}
+
+/// What becomes of a package in the case at a place, whose lines are marked: decided where it wasn't before.
+fn outcome_in<F: Fn(&Version, bool) -> bool>(
+    alloc: Global,
+    kept: &mut Package,
+    marks: &[bool],
+    place: usize,
+    own: &mut Own<'_, '_>,
+    admission: &Admission<F>,
+) -> Result<Outcome, AllocError>
+    requires callable { F.IsAlwaysCallable admission.now }
+    requires lines { HasItsLines (package_record kept.old) }
+    requires marks { length marks.now ≡ length kept.old.lines.items }
+    requires within { place < length kept.old.cases.items }
+    requires numbers { (other : KeptCase) → (get_or (package_record kept.old).cases place other).numbers
+        ≡ map (λ line. line.number) (marked marks.now (package_record kept.old).lines) }
+    requires ranged { (other : Case) → IsRangeOf (case_asks marks.now (map line_record kept.old.lines.items))
+        (get_or kept.old.cases.items place other).range }
+    requires said { AllByRecursion (λ c. IsSaid c.1.version) (own_record own.old).run }
+    requires told { IsTold (F.post admission.now) (package_record kept.old) (own_record own.old) }
+    ensures outcome { IfOk result (λ outcome. (admits : Admits) → AnswersBy (F.post admission.now) admits →
+        outcome ≡ outcome_in_order admits (case_asks marks.now (map line_record kept.old.lines.items))
+        (own_record own.old).run) }
+    ensures below { IfOk result (λ outcome. (count : ℕ) →
+        AllByRecursion (λ c. c.0 < count) (own_record own.old).run → IsTakenBelow count outcome) }
+    ensures same { SamePackage (package_record kept.new) (package_record kept.old) }
+    ensures run { (own_record own.new).run ≡ (own_record own.old).run }
+    ensures told { IsTold (F.post admission.now) (package_record kept.old) (own_record own.new) }
+    ensures tests { tests_of (map line_record kept.new.lines.items)
+        ≤ tests_of (map line_record kept.old.lines.items)
+        + most_tests (case_asks marks.now (map line_record kept.old.lines.items)) (own_record own.old).run }
+{
+    if let Some(outcome) = own.told(place) {
+        return Ok(outcome);
+    }
+    let range = &kept.cases[place].range;
+    match outcome(alloc, &mut kept.lines, marks, range, own.run, admission) {
+        Ok(outcome) => {
+            own.tell(place, outcome);
+            Ok(outcome)
+        }
         Err(error) => Err(error),
     }
 }

@@ -5,7 +5,7 @@ use Rattle.std.specs.Ordering.{ordering_index}
 use Rattle.reqtable_cases.specs.Lines.{marked}
 use Rattle.reqtable_table.specs.declared.table.Case.{Case}
 use Rattle.reqtable_table.specs.Numbers.{numbers_cmp}
-use Rattle.reqtable_table.proofs.Searching.{numbers_at, numbers_seen, searchable, found_range, is_there, marks_lines_long}
+use Rattle.reqtable_table.proofs.Searching.{numbers_at, numbers_seen, searchable, found_range, found_numbers, is_there, marks_lines_long}
 use Rattle.reqtable_table.proofs.asked.case_in.Goals as goal
 
 pub numbers_in-requires : goal.numbers_in-requires
@@ -51,3 +51,21 @@ returns-clause-range c = λ other.
     let equal : (d : Case) → order wanted (get_or kept.cases.items place d) ≡ Equal =
     (λ d. sym (λ i. order (e i) (get_or (same i) place d)) ∙ at d) in
     found_range kept marks lines applying place (subst (λ l. place < length l) same c.in-Ok.ensures.bound) equal other
+
+pub returns-clause-numbers : goal.returns-clause-numbers
+returns-clause-numbers c =
+    let kept = c.args.kept.now in
+    let marks = c.args.marks.now in
+    let lines = c.requires.lines in
+    let applying = c.requires.applying in
+    let numbers = c.in_ok-numbers.numbers.items in
+    let wanted = numbers_at kept marks lines applying in
+    let e : numbers ≡ wanted = c.in_ok-numbers.ensures ∙ ap (λ l. map (λ line. line.number) (marked marks l)) c.deref.ensures.value
+    ∙ numbers_seen marks kept.lines.items in
+    let same = c.deref-2.ensures.value in
+    let order : List ℕ → Case → _ = λ ns case. numbers_cmp case.lines.items ns in
+    let place = c.in-Ok.place in
+    let at = c.in-Ok.ensures.position (order numbers) (always_returns_same _ _ _ (λ a r f k. search rules)) in
+    let equal : (d : Case) → order wanted (get_or kept.cases.items place d) ≡ Equal =
+    (λ d. sym (λ i. order (e i) (get_or (same i) place d)) ∙ at d) in
+    found_numbers kept marks lines applying place (subst (λ l. place < length l) same c.in-Ok.ensures.bound) equal
