@@ -1,5 +1,5 @@
 -- What is known of a package stays so.
-use Rattle.std.proofs.Common.{◌≡◌, ◌∙◌, ◌<◌, ◌⊎◌, ℕ, zero, suc, Bool, List, [], ◌∷◌, map, filter, set, length, get_or, Option, Some, None, refl, sym, ap, subst, arith, Equal, inl, inr}
+use Rattle.std.proofs.Common.{◌≡◌, ◌∙◌, ◌<◌, ◌⊎◌, ℕ, zero, suc, Bool, true, false, cond, List, [], ◌∷◌, ◌++◌, map, filter, take, replicate, set, length, get_or, Option, Some, None, refl, sym, ap, subst, arith, Equal, inl, inr}
 use Rattle.std.proofs.lemmas.List.{length-map}
 use Rattle.std.specs.Borrow.{Bor}
 use Rattle.std.specs.Cmp.{nat_cmp_total, tied_itself}
@@ -89,6 +89,36 @@ module _ (returns : Bor VersionRecord → Bool → Bool → Type 0) (kept : Kept
           | inr before ↦ known.below count q found before run_under
         ];
   }
+
+-- ---- where nothing is told yet
+
+abbrev untold : Option Outcome
+untold = None
+
+nothing_taken : (n : ℕ) → take {A = Option Outcome} n [] ≡ []
+nothing_taken zero = refl
+nothing_taken (suc n) = refl
+
+all_none : (m place : ℕ) → get_or (replicate m untold) place None ≡ None
+all_none zero place = refl
+all_none (suc m) zero = refl
+all_none (suc m) (suc place) = all_none m place
+
+by_result : (b : Bool) (n m place : ℕ) → get_or (cond b (take n [] ++ replicate m untold) []) place None ≡ None
+by_result true n m place = ap (λ l. get_or (l ++ replicate m None) place None) (nothing_taken n) ∙ all_none m place
+by_result false n m place = refl
+
+pub none_told : (b : Bool) (n m : ℕ) (old new : List (Option Outcome)) → old ≡ [] →
+    new ≡ cond b (take n old ++ replicate m None) old → (place : ℕ) → get_or new place None ≡ None
+none_told b n m old new e grown place =
+    ap (λ l. get_or l place None) (grown ∙ (λ i. cond b (take n (e i) ++ replicate m None) (e i))) ∙ by_result b n m place
+
+-- one more list that tells nothing
+pub none_added : (owns : List OwnRecord) (own : OwnRecord) →
+    AllByRecursion (λ o. (place : ℕ) → get_or o.told place None ≡ None) owns → ((place : ℕ) → get_or own.told place None ≡ None) →
+    AllByRecursion (λ o. (place : ℕ) → get_or o.told place None ≡ None) (owns ++ own ∷ [])
+none_added [] own all none = (none, tt)
+none_added (o ∷ owns) own all none = (all.0, none_added owns own all.1 none)
 
 -- ---- of packages of whose lines more was asked
 

@@ -36,12 +36,12 @@ use std::alloc::{AllocError, Global};
 use version_ranges::Ranges;
 
 /// The rows of the packages of which a line applies.
-pub(crate) fn rows_of<F: Fn(&Version, bool) -> bool>(
+pub(crate) fn rows_of<'o, 'a, F: Fn(&Version, bool) -> bool>(
     alloc: Global,
     packages: &mut [Package],
     setting: &Setting<'_>,
     ordered: &Ordered<'_>,
-    owns: &mut [Own<'_, '_>],
+    owns: &mut [Own<'o, 'a>],
     admission: &Admission<F>,
 ) -> Result<Vec<Row>, AllocError>
     requires callable { F.IsAlwaysCallable admission.now }
@@ -83,11 +83,11 @@ fn add_row(rows: &mut Vec<Row>, row: Option<Row>) -> Result<(), AllocError>
 }
 
 /// The row of a package with its candidates, where a line of it applies.
-fn row_of<F: Fn(&Version, bool) -> bool>(
+fn row_of<'o, 'a, F: Fn(&Version, bool) -> bool>(
     alloc: Global,
     kept: &mut Package,
     setting: &Setting<'_>,
-    own: &mut Own<'_, '_>,
+    own: &mut Own<'o, 'a>,
     admission: &Admission<F>,
 ) -> Result<Option<Row>, AllocError>
     requires callable { F.IsAlwaysCallable admission.now }
@@ -127,12 +127,12 @@ fn row_of<F: Fn(&Version, bool) -> bool>(
 }
 
 /// What becomes of a package in the case at a place, whose lines are marked: decided where it wasn't before.
-fn outcome_in<F: Fn(&Version, bool) -> bool>(
+fn outcome_in<'o, 'a, F: Fn(&Version, bool) -> bool>(
     alloc: Global,
     kept: &mut Package,
     marks: &[bool],
     place: usize,
-    own: &mut Own<'_, '_>,
+    own: &mut Own<'o, 'a>,
     admission: &Admission<F>,
 ) -> Result<Outcome, AllocError>
     requires callable { F.IsAlwaysCallable admission.now }

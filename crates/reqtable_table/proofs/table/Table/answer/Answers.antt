@@ -5,6 +5,7 @@ use Rattle.reqtable_answer.specs.Answer.{IsAnswer}
 use Rattle.reqtable_answer.specs.Rows.{row_seen}
 use Rattle.reqtable_requirements.specs.Asks.{asks_of}
 use Rattle.reqtable_table.proofs.Same.{all_same}
+use Rattle.reqtable_table.proofs.Told.{told_at_first}
 use Rattle.reqtable_table.proofs.table.Table.answer.Goals as goal
 
 pub returns-in_err-ordered-clause-kept : goal.returns-in_err-ordered-clause-kept
@@ -20,3 +21,7 @@ returns-clause-answered g c =
     subst (λ candidates. IsAnswer admits (asks_of (valuation_of c.args.environment.now c.args.extras.now) said) candidates
     (map row_seen answer.rows.items)) (c.in_ok-runs.ensures.candidates ∙ c.in_ok-ordered.ensures) (h said admits keeps by))
     c.answer_among.ensures.answered
+
+pub answer_among-requires-clause-told : goal.answer_among-requires-clause-told
+answer_among-requires-clause-told g c =
+    told_at_first _ c.args.self.now c.in_ok-runs.runs c.in_ok-runs.ensures.are c.in_ok-runs.ensures.untold
