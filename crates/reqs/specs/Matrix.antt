@@ -54,7 +54,8 @@ abbrev pub MatrixTexts : Type 0
 MatrixTexts = Result (ReadTexts (List EnvironmentRecord)) Cause
 
 -- no package has more cases than the limit, and the text has the answers for all environments
-pub record IsWithinLimit (limit : ℕ) (read : ReadTexts (List EnvironmentRecord)) (text : List ℕ) : Type 0 where
+pub record IsWithinLimit (limit : ℕ) (read : ReadTexts (List EnvironmentRecord)) (text : List ℕ)
+    : Type 0 where
   pub few : (name : List ℕ) → HasTooMany limit read.lines name → ⊥
   pub is_text : IsMatrixText any read.extras read.lines read.candidates 1 read.second text
 
@@ -69,7 +70,8 @@ IsRead texts Holds = (read : ReadTexts (List EnvironmentRecord)) × (texts ≡ O
 
 -- the text has the answers; or the texts are refused for what the fault says, or, once all are read, for a
 -- package that has too many cases
-abbrev pub AnswersAll : {Y : Type 0} → (RunFault → Type 0) → ℕ → Result (String Y) RunFault → MatrixTexts → Type 0
+abbrev pub AnswersAll : {Y : Type 0} → (RunFault → Type 0) → ℕ → Result (String Y) RunFault → MatrixTexts
+    → Type 0
 AnswersAll IsOne limit (Ok text) texts = IsRead texts (λ read. IsWithinLimit limit read (string_bytes text))
 AnswersAll IsOne limit (Err fault) texts =
     Refuses IsOne fault texts ⊎ IsRead texts (λ read. IsOverLimit limit read.lines fault)

@@ -14,8 +14,8 @@ ghost use Rattle.reqs.specs.Matrix.{IsMatrixText, numbered};
 /// What `matrix` writes is what `check` writes for one environment after another, each behind its line.
 pub fn matrix_writes_what_check_writes()
     ensures { (extras : List (List ℕ)) (lines : List LineRecord) (candidates : List Candidate)
-        (environments : List EnvironmentRecord) (answers : List (List ℕ)) (text : List ℕ) →
-        AllZip (λ environment answer.
-        IsAnswerText any (asks_of (valuation_of environment extras) lines) candidates answer) environments answers →
+        (environments : List EnvironmentRecord) (answers : List (List ℕ)) (text : List ℕ) → AllZip
+        (λ e answer. IsAnswerText any (asks_of (valuation_of e extras) lines) candidates answer)
+        environments answers →
         IsMatrixText any extras lines candidates 1 environments text → text ≡ numbered 1 answers }
 {}

@@ -146,7 +146,8 @@ fn table_of(
 ) -> Result<Table, RunFault>
     requires { AreOfNodes interner.old.nodes requirements }
     ensures { (vars : Variables) (said : List LineRecord) →
-        AllZip (StandsFor vars interner.old.nodes) requirements said → TablesAs limit interner.new.nodes said result }
+        AllZip (StandsFor vars interner.old.nodes) requirements said →
+        TablesAs limit interner.new.nodes said result }
 {
     match Table::build(alloc, requirements, interner, limit) {
         Ok(table) => Ok(table),

@@ -1,6 +1,6 @@
 -- What the words of the command line ask for.
-use Rattle.std.specs.Prelude.{◌≡◌, ◌≢◌, ℕ, List, [], ◌∷◌, codes, Option, Some, None}
-use Rattle.std.specs.Str.Parse.{digits_value, without_leading_plus}
+use Rattle.std.specs.Prelude.{◌≡◌, ◌≢◌, ◌<◌, ◌^◌, ℕ, List, [], ◌∷◌, codes, Option, Some, None}
+use Rattle.std.specs.Str.Parse.{IsNumeral, digits_value, without_leading_plus}
 use Rattle.clap.specs.Words.{first_value, one_text}
 use Rattle.clap.specs.declared.parser.matches.Found.{Found}
 use Rattle.reqs_cli.specs.declared.asked.Asked.{Asked}
@@ -22,14 +22,22 @@ paths_in asked found =
     text_at (first_value found (codes "REQS")) ∷ text_at (first_value found (second_word asked))
     ∷ text_at (first_value found (codes "CANDIDATES")) ∷ []
 
--- a limit is given, in decimal digits
-abbrev pub IsLimitIn : Found → ℕ → Type 0
-IsLimitIn found limit =
-    (text : List ℕ) × (one_text found (codes "limit") ≡ Some text)
+-- a text is a limit, in decimal digits
+abbrev pub IsLimitText : List ℕ → ℕ → Type 0
+IsLimitText text limit =
+    (IsNumeral 10 (without_leading_plus text) × (digits_value 10 (without_leading_plus text) < 2 ^ 64))
     × (limit ≡ digits_value 10 (without_leading_plus text))
+
+-- the limit that a text is, where there is one
+abbrev pub LimitIs : Option (List ℕ) → Option ℕ → Type 0
+LimitIs None result = result ≡ None
+LimitIs (Some text) (Some limit) = IsLimitText text limit
+LimitIs (Some text) None = (limit : ℕ) → IsLimitText text limit → ⊥
 
 -- a command's name, and what it is told
 abbrev pub AsksFor : List ℕ → Found → Option Asked → Type 0
 AsksFor name found (Some Check) = name ≡ codes "check"
-AsksFor name found (Some (Matrix limit)) = (name ≡ codes "matrix") × IsLimitIn found limit
-AsksFor name found None = name ≢ codes "check"
+AsksFor name found (Some (Matrix limit)) =
+    (name ≡ codes "matrix") × LimitIs (one_text found (codes "limit")) (Some limit)
+AsksFor name found None =
+    (name ≢ codes "check") × (name ≡ codes "matrix" → LimitIs (one_text found (codes "limit")) None)

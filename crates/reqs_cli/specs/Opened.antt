@@ -19,8 +19,8 @@ RunsAsked Check vars extras first second third contents old new result =
 RunsAsked (Matrix limit) vars extras first second third contents old new result =
     RunsMatrix limit vars extras first second third contents old new result
 
--- the three inputs as they were opened, and the command ends so with the first as the requirements, the second
--- as the environment or environments, and the third as the candidates
+-- the three inputs as they were opened, and the command ends so with the first as the requirements, the
+-- second as the environment or environments, and the third as the candidates
 pub record RunsAll {S W : Type 0} (asked : Asked) (gives : Input → Result S RunFault → Type 0)
     (remaining : S → Option (List ℕ)) (vars : Variables) (extras : List (List ℕ))
     (contents : W → Option (List ℕ)) (old new : W) (result : Result Status RunFault) : Type 0 where

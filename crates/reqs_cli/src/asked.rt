@@ -1,8 +1,8 @@
 //! What the words of the command line ask for.
 
-ghost use Rattle.std.specs.Prelude.{◌≡◌, map};
-ghost use Rattle.clap.specs.Words.{found_of};
-ghost use Rattle.reqs_cli.specs.Asked.{second_word, paths_in, AsksFor};
+ghost use Rattle.std.specs.Prelude.{◌≡◌, map, codes};
+ghost use Rattle.clap.specs.Words.{found_of, one_text};
+ghost use Rattle.reqs_cli.specs.Asked.{second_word, paths_in, LimitIs, AsksFor};
 
 use clap::{Arg, ArgMatches, Command, Error};
 use std::alloc::{AllocError, Global};
@@ -25,7 +25,7 @@ impl Asked {
     {
         match name {
             "check" => Some(Asked::Check),
-            "matrix" => match given.get_one::<u64>("limit") {
+            "matrix" => match limit_of(given) {
                 Some(limit) => Some(Asked::Matrix { limit }),
                 None => None,
             },
@@ -53,6 +53,13 @@ impl Asked {
             given.get_str("CANDIDATES").unwrap_or(""),
         ]
     }
+}
+
+/// The limit that the words name, or the usual one.
+fn limit_of(given: &ArgMatches<'_>) -> Option<u64>
+    ensures { LimitIs (one_text (found_of given.now) (codes "limit")) result }
+{
+    given.get_one("limit")
 }
 
 /// The matches of the words.

@@ -177,8 +177,8 @@ pub enum RunFault {
         number: usize,
         cause: CandidateFault,
     },
-    /// The first package of a list of requirements, by the bytes of its name, that has more cases than a table
-    /// of them may have.
+    /// The first package of a list of requirements, by the bytes of its name, that has more cases than a
+    /// table of them may have.
     TooManyCases {
         input: Input,
         limit: u64,

@@ -1,5 +1,5 @@
-//! How the commands of `reqs` end, and what they read: statuses, faults with their texts, and inputs, each read
-//! whole and then read as what it is.
+//! How the commands of `reqs` end, and what they read: statuses, faults with their texts, and inputs, each
+//! read whole and then read as what it is.
 #![tactic(auto)]
 
 mod display;

@@ -361,8 +361,8 @@ fn environments(alloc: Global) -> Result<String, AllocError> {
     format!(in alloc; "[{ENVIRONMENT}, {ENVIRONMENT}]")
 }
 
-/// Runs `matrix` with a reader in the place of each input, of which the one of this number fails at its end, and
-/// with a narrow writer with room for so many bytes.
+/// Runs `matrix` with a reader in the place of each input, of which the one of this number fails at its end,
+/// and with a narrow writer with room for so many bytes.
 fn matrix_with(alloc: Global, failing: usize, room: usize) -> Result<String, AllocError> {
     let environments = environments(alloc)?;
     let mut requirements = hesitantly(REQUIREMENTS, failing == 1);
