@@ -2,15 +2,13 @@
 use Rattle.std.proofs.Common.{◌≡◌, ◌∙◌, ◌≤◌, ◌<◌, ◌+◌, ◌||◌, ℕ, zero, suc, Bool, true, false, cond, List, [], ◌∷◌, ◌++◌, map, filter, take, set, length, get_or, All, Option, Some, None, option_map, refl, sym, ap, subst, arith, append-nil}
 use Rattle.std.proofs.lemmas.List.{take_more, map-append, get_or_default}
 use Rattle.std.proofs.lemmas.List.Elements.{filter-append, All-push}
-use Rattle.std.specs.Borrow.{Bor}
 use Rattle.std.specs.Option.{IfSome, option_map_or}
 use Rattle.std.specs.List.{list_any, AllZip, AllByRecursion}
-use Rattle.pep440_version.specs.Record.{VersionRecord}
 use Rattle.pep440_range.specs.Agreement.{IsSaid}
 use Rattle.pep508_diagram.specs.Question.{Valuation}
 use Rattle.pep508_tree.specs.Meaning.{NodeRecord, holds}
 use Rattle.reqtable_text.specs.declared.candidates.Candidate.{Candidate}
-use Rattle.reqtable_text.specs.Ordered.{AreInOrder, OrderedRecord}
+use Rattle.reqtable_text.specs.Ordered.{AreInOrder}
 use Rattle.reqtable_answer.specs.Admission.{Admits}
 use Rattle.reqtable_answer.specs.Answer.{RowRecord, IsRowOf}
 use Rattle.reqtable_answer.specs.Asks.{is_candidate}
@@ -22,9 +20,7 @@ use Rattle.reqtable_table.specs.Answers.{kept_marks, kept_asked, is_asked, own_c
 use Rattle.reqtable_table.specs.Answers.{IsRowFor, AreRowsFor, SameLine, SamePackage}
 use Rattle.reqtable_table.specs.Cases.{HasItsCases}
 use Rattle.reqtable_table.specs.Choosing.{outcome_in_order, IsRowInOrder}
-use Rattle.reqtable_table.specs.Owns.{own_record, runs_of}
-use Rattle.reqtable_table.specs.Runs.{OwnRecord, AreOrdered, AreRunsOf, IsTold, AreTold}
-use Rattle.reqtable_table.specs.declared.runs.Own.{Own}
+use Rattle.reqtable_table.specs.Runs.{RunsRecord, AreOrdered, AreRunsOf}
 use Rattle.reqtable_table.specs.Standing.{HasItsLines}
 use Rattle.reqtable_table.specs.Counts.{tests_of, all_tests}
 use Rattle.reqtable_table.specs.Kept.{KeptLine, KeptPackage, kept_front}
@@ -34,8 +30,8 @@ use Rattle.reqtable_table.proofs.Marking.{marked_map}
 use Rattle.reqtable_table.proofs.Own.{run_outcome, run_tests, run_said, run_below}
 use Rattle.reqtable_table.proofs.Packages.{zip_pushed}
 use Rattle.reqtable_table.proofs.Finding.{all_at}
-use Rattle.reqtable_table.proofs.Same.{all_same, same_package, packages_on, marks_same, have_lines, has_cases}
-use Rattle.reqtable_table.proofs.Told.{told_same}
+use Rattle.reqtable_table.proofs.Same.{all_same, same_package, packages_on, marks_same, have_lines, has_cases, runs_on}
+use Rattle.reqtable_table.proofs.Searching.{zip_at, zip_long}
 
 abbrev pub kept_records : List Package → List KeptPackage
 kept_records packages = map package_record packages
@@ -225,37 +221,16 @@ module _ (nodes : List NodeRecord) (v : Valuation) (candidates : List Candidate)
           let few = next.tests in
           (next.same, omega arith)
 
--- ---- two lists, a place of both
-
-module _ {A B C D : Type 0} (R : A → B → Type 0) (f : C → A) (g : D → B) where
-  both_at : (xs : List C) (ys : List D) (i : ℕ) (x : C) (y : D) → AllZip R (map f xs) (map g ys) → i < length xs → i < length ys →
-      x ≡ get_or xs i x → y ≡ get_or ys i y → R (f x) (g y)
-  both_at [] ys i x y h a b e u = absurd (omega arith)
-  both_at (c ∷ xs) [] i x y h a b e u = absurd h
-  both_at (c ∷ xs) (d ∷ ys) zero x y h a b e u = subst (λ z. R (f z) (g y)) (sym e) (subst (λ z. R (f c) (g z)) (sym u) h.0)
-  both_at (c ∷ xs) (d ∷ ys) (suc i) x y h a b e u = both_at xs ys i x y h.1 (omega arith) (omega arith) e u
-
-  both_long : (xs : List C) (ys : List D) → AllZip R (map f xs) (map g ys) → length xs ≡ length ys
-  both_long [] [] h = refl
-  both_long [] (d ∷ ys) h = absurd h
-  both_long (c ∷ xs) [] h = absurd h
-  both_long (c ∷ xs) (d ∷ ys) h = ap suc (both_long xs ys h.1)
-
-  both_set : (xs : List C) (ys : List D) (i : ℕ) (x : C) (y : D) → AllZip R (map f xs) (map g ys) → R (f x) (g y) →
-      AllZip R (map f (set xs i x)) (map g (set ys i y))
-  both_set [] [] i x y h r = h
-  both_set [] (d ∷ ys) i x y h r = absurd h
-  both_set (c ∷ xs) [] i x y h r = absurd h
-  both_set (c ∷ xs) (d ∷ ys) zero x y h r = (r, h.1)
-  both_set (c ∷ xs) (d ∷ ys) (suc i) x y h r = (h.0, both_set xs ys i x y h.1 r)
-
 -- ---- one more package, with its candidates
 
-module _ (nodes : List NodeRecord) (v : Valuation) (ordered : OrderedRecord) (is_ordered : AreOrdered ordered.candidates ordered.placed)
+module _ (nodes : List NodeRecord) (v : Valuation) (runs : RunsRecord) (ordered : AreOrdered runs.candidates runs.placed)
     (old : List Package) (lines : AllByRecursion HasItsLines (kept_records old))
-    (cases : AllByRecursion (HasItsCases nodes) (kept_records old)) (now : List Package) (owns : List Own)
-    (are : AreRunsOf (kept_records now) (runs_of ordered owns)) (i : ℕ) (kept : Package)
-    (so_far : AreAnswered nodes v ordered.candidates old now i) (within : i < length now) (is : kept ≡ get_or now i kept) where
+    (cases : AllByRecursion (HasItsCases nodes) (kept_records old)) (are : AreRunsOf (kept_records old) runs)
+    (now : List Package) (i : ℕ) (kept : Package) (so_far : AreAnswered nodes v runs.candidates old now i) (within : i < length now)
+    (is : kept ≡ get_or now i kept) where
+  are_now : AreRunsOf (kept_records now) runs
+  are_now = runs_on runs (kept_records now) (kept_records old) so_far.same are
+
   pub lines_here : HasItsLines (package_record kept)
   lines_here = all_at HasItsLines package_record now i kept within is (have_lines (kept_records now) (kept_records old) so_far.same lines)
 
@@ -263,87 +238,67 @@ module _ (nodes : List NodeRecord) (v : Valuation) (ordered : OrderedRecord) (is
   cases_here =
       all_at (HasItsCases nodes) package_record now i kept within is (has_cases nodes (kept_records now) (kept_records old) so_far.same cases)
 
-  abbrev HasOwn : KeptPackage → OwnRecord → Type 0
-  HasOwn k own = own.run ≡ filter (is_candidate k.name) ordered.placed
+  pub within_runs : i < length runs.runs
+  within_runs =
+      let long = zip_long (λ (k : KeptPackage) run. run ≡ filter (is_candidate k.name) runs.placed) package_record now runs.runs are_now in
+      omega arith
 
-  pub within_owns : i < length owns
-  within_owns = let long = both_long HasOwn package_record own_record now owns are in omega arith
+  module _ (own : List (ℕ × Candidate)) (own_at : (other : List (ℕ × Candidate)) → own ≡ get_or runs.runs i other) where
+    own_is : own ≡ filter (is_candidate kept.name) runs.placed
+    own_is =
+        own_at [] ∙ zip_at (λ (k : KeptPackage) run. run ≡ filter (is_candidate k.name) runs.placed) package_record now runs.runs i kept [] are_now within
+        ∙ ap (λ (k : Package). filter (is_candidate k.name) runs.placed) (sym is)
 
-  module _ (own : Own) (own_at : own ≡ get_or owns i own) where
-    abbrev pub run : List (ℕ × Candidate)
-    run = (own_record own).run
-
-    own_is : run ≡ filter (is_candidate kept.name) ordered.placed
-    own_is = both_at HasOwn package_record own_record now owns i kept own are within within_owns is own_at
-
-    pub said_here : AllByRecursion (λ c. IsSaid c.1.version) run
+    pub said_here : AllByRecursion (λ c. IsSaid c.1.version) own
     said_here =
         subst (AllByRecursion (λ (c : ℕ × Candidate). IsSaid c.1.version)) (sym own_is)
-        (run_said ordered.candidates ordered.placed is_ordered.in_order kept.name is_ordered.printable)
+        (run_said runs.candidates runs.placed ordered.in_order kept.name ordered.printable)
 
-    pub below_here : AllByRecursion (λ c. c.0 < length ordered.candidates) run
+    pub below_here : AllByRecursion (λ c. c.0 < length runs.candidates) own
     below_here =
-        subst (AllByRecursion (λ (c : ℕ × Candidate). c.0 < length ordered.candidates)) (sym own_is)
-        (run_below ordered.candidates ordered.placed is_ordered.in_order kept.name)
-
-    module _ (returns : Bor VersionRecord → Bool → Bool → Type 0) (told : AreTold returns (kept_records now) (runs_of ordered owns)) where
-      pub told_here : IsTold returns (package_record kept) (own_record own)
-      told_here = both_at (IsTold returns) package_record own_record now owns i kept own told within within_owns is own_at
-
-      pub told_next : (new : Package) (more : Own) → SamePackage (package_record new) (package_record kept) →
-          IsTold returns (package_record kept) (own_record more) →
-          AreTold returns (kept_records (set now i new)) (runs_of ordered (set owns i more))
-      told_next new more same known =
-          both_set (IsTold returns) package_record own_record now owns i new more told
-          (told_same returns (package_record new) (package_record kept) (own_record more) same known)
-
-    pub runs_next : (new : Package) (more : Own) → SamePackage (package_record new) (package_record kept) →
-        (own_record more).run ≡ run → AreRunsOf (kept_records (set now i new)) (runs_of ordered (set owns i more))
-    runs_next new more same e =
-        both_set HasOwn package_record own_record now owns i new more are
-        (e ∙ own_is ∙ ap (λ n. filter (is_candidate n) ordered.placed) (sym same.name))
+        subst (AllByRecursion (λ (c : ℕ × Candidate). c.0 < length runs.candidates)) (sym own_is)
+        (run_below runs.candidates runs.placed ordered.in_order kept.name)
 
     module _ (new : Package) (same : SamePackage (package_record new) (package_record kept))
         (tests : tests_of (package_record new).lines ≤ tests_of (package_record kept).lines
-        + most_tests (kept_asked nodes v (package_record kept).lines) run) where
+        + most_tests (kept_asked nodes v (package_record kept).lines) own) where
       tests_here : tests_of (package_record new).lines ≤ tests_of (package_record kept).lines
-          + most_tests (kept_asked nodes v (package_record kept).lines) (own_candidates ordered.candidates kept.name)
+          + most_tests (kept_asked nodes v (package_record kept).lines) (own_candidates runs.candidates kept.name)
       tests_here =
           let asks = kept_asked nodes v (package_record kept).lines in
           subst (λ n. tests_of (package_record new).lines ≤ tests_of (package_record kept).lines + n)
-          (ap (most_tests asks) own_is ∙ run_tests ordered.candidates ordered.placed is_ordered.in_order kept.name asks) tests
+          (ap (most_tests asks) own_is ∙ run_tests runs.candidates runs.placed ordered.in_order kept.name asks) tests
 
-      pub next_here : AreAnswered nodes v ordered.candidates old (set now i new) (i + 1)
-      next_here = next_answered nodes v ordered.candidates old now i kept so_far within is new same tests_here
+      pub next_here : AreAnswered nodes v runs.candidates old (set now i new) (i + 1)
+      next_here = next_answered nodes v runs.candidates old now i kept so_far within is new same tests_here
 
       pub end_here : AllZip SamePackage (kept_records (set now i new)) (kept_records old)
-          × (all_tests (kept_records (set now i new)) ≤ all_tests (kept_records old) + most_tests_of nodes v ordered.candidates (kept_records old))
-      end_here = answered_so_far nodes v ordered.candidates old now i kept so_far within is new same tests_here
+          × (all_tests (kept_records (set now i new)) ≤ all_tests (kept_records old) + most_tests_of nodes v runs.candidates (kept_records old))
+      end_here = answered_so_far nodes v runs.candidates old now i kept so_far within is new same tests_here
 
     module _ (admits : Admits) (rows : List RowRecord)
-        (before : AreRowsFor admits nodes v ordered.candidates (kept_records (take i old)) rows) where
-      abbrev at_first : KeptPackage
-      at_first = package_record (first nodes v ordered.candidates old now i kept so_far within is)
-
-      row_if : (row : Option RowRecord) → IsRowInOrder admits nodes v run (package_record kept) row →
-          IsRowIf admits nodes v ordered.candidates at_first row
+        (before : AreRowsFor admits nodes v runs.candidates (kept_records (take i old)) rows) where
+      row_if : (row : Option RowRecord) → IsRowInOrder admits nodes v own (package_record kept) row →
+          IsRowIf admits nodes v runs.candidates (package_record (first nodes v runs.candidates old now i kept so_far within is)) row
       row_if row h =
-          row_if_same admits nodes v ordered.candidates (package_record kept) at_first
-          (was_here nodes v ordered.candidates old now i kept so_far within is) row
-          (row_in_order admits nodes v ordered.candidates ordered.placed is_ordered.in_order (package_record kept) run own_is row h)
+          row_if_same admits nodes v runs.candidates (package_record kept)
+          (package_record (first nodes v runs.candidates old now i kept so_far within is))
+          (was_here nodes v runs.candidates old now i kept so_far within is) row
+          (row_in_order admits nodes v runs.candidates runs.placed ordered.in_order (package_record kept) own own_is row h)
 
       -- with its row, where it has one
-      pub rows_here : (row : Option RowRecord) → IsRowInOrder admits nodes v run (package_record kept) row →
-          AreRowsFor admits nodes v ordered.candidates (kept_records (take (i + 1) old)) (rows ++ option_map_or (λ r. r ∷ []) row [])
+      pub rows_here : (row : Option RowRecord) → IsRowInOrder admits nodes v own (package_record kept) row →
+          AreRowsFor admits nodes v runs.candidates (kept_records (take (i + 1) old)) (rows ++ option_map_or (λ r. r ∷ []) row [])
       rows_here None h =
-          subst (λ t. AreRowsFor admits nodes v ordered.candidates t (rows ++ []))
-          (sym (taken nodes v ordered.candidates old now i kept so_far within is))
-          (subst (AreRowsFor admits nodes v ordered.candidates (kept_records (take i old) ++ at_first ∷ [])) (sym (append-nil rows))
-          (none_more admits nodes v ordered.candidates (kept_records (take i old)) at_first rows before (row_if None h)))
+          subst (λ t. AreRowsFor admits nodes v runs.candidates t (rows ++ [])) (sym (taken nodes v runs.candidates old now i kept so_far within is))
+          (subst (AreRowsFor admits nodes v runs.candidates (kept_records (take i old) ++ package_record (first nodes v runs.candidates old now i kept so_far within is) ∷ []))
+          (sym (append-nil rows))
+          (none_more admits nodes v runs.candidates (kept_records (take i old))
+          (package_record (first nodes v runs.candidates old now i kept so_far within is)) rows before (row_if None h)))
       rows_here (Some row) h =
-          subst (λ t. AreRowsFor admits nodes v ordered.candidates t (rows ++ row ∷ []))
-          (sym (taken nodes v ordered.candidates old now i kept so_far within is))
-          (row_more admits nodes v ordered.candidates (kept_records (take i old)) at_first rows row before (row_if (Some row) h))
+          subst (λ t. AreRowsFor admits nodes v runs.candidates t (rows ++ row ∷ [])) (sym (taken nodes v runs.candidates old now i kept so_far within is))
+          (row_more admits nodes v runs.candidates (kept_records (take i old))
+          (package_record (first nodes v runs.candidates old now i kept so_far within is)) rows row before (row_if (Some row) h))
 
 -- ---- the rows themselves
 

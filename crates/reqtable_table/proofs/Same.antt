@@ -23,7 +23,7 @@ use Rattle.reqtable_cases.specs.Usable.{IsRangeOf}
 use Rattle.reqtable_table.specs.Answers.{SameLine, SamePackage, kept_marks}
 use Rattle.reqtable_table.specs.Cases.{IsCaseOf, HasItsCases}
 use Rattle.reqtable_table.specs.Kept.{KeptLine, KeptCase, KeptPackage, Keeps, KeepsAll, kept_front, kept_under, names_in, is_bound}
-use Rattle.reqtable_table.specs.Runs.{OwnRecord, RunsRecord, AreRunsOf}
+use Rattle.reqtable_table.specs.Runs.{RunsRecord, AreRunsOf}
 use Rattle.reqtable_table.specs.Standing.{HasItsFlags, IsOfTexts, HasItsLines, IsTable}
 use Rattle.reqtable_table.proofs.AskedLines.{same_all, same_fronts, same_on}
 use Rattle.reqtable_table.proofs.Marking.{marked_map}
@@ -197,9 +197,9 @@ keeps nodes a b said s h = record {
   each = λ q. keeps_lines nodes (kept_under q a) (kept_under q b) (lines_of q said) (under_same q a b s) (h.each q);
 }
 
-runs_by : (placed : List (ℕ × Candidate)) (a b : List KeptPackage) (runs : List OwnRecord) → AllZip SamePackage a b →
-    AllZip (λ kept own. own.run ≡ filter (is_candidate kept.name) placed) b runs →
-    AllZip (λ kept own. own.run ≡ filter (is_candidate kept.name) placed) a runs
+runs_by : (placed : List (ℕ × Candidate)) (a b : List KeptPackage) (runs : List (List (ℕ × Candidate))) → AllZip SamePackage a b →
+    AllZip (λ kept run. run ≡ filter (is_candidate kept.name) placed) b runs →
+    AllZip (λ kept run. run ≡ filter (is_candidate kept.name) placed) a runs
 runs_by placed [] [] runs s h = h
 runs_by placed [] (y ∷ b) runs s h = absurd s
 runs_by placed (x ∷ a) [] runs s h = absurd s
@@ -209,7 +209,7 @@ runs_by placed (x ∷ a) (y ∷ b) (run ∷ runs) s h =
 
 -- and so are the candidates of each
 pub runs_on : (all : RunsRecord) (a b : List KeptPackage) → AllZip SamePackage a b → AreRunsOf b all → AreRunsOf a all
-runs_on all a b s h = runs_by all.placed a b all.owns s h
+runs_on all a b s h = runs_by all.placed a b all.runs s h
 
 pub table_same : (a b : List KeptPackage) → AllZip SamePackage a b → IsTable b → IsTable a
 table_same a b s h = record {

@@ -1,5 +1,5 @@
 -- What is known of a package stays so.
-use Rattle.std.proofs.Common.{◌≡◌, ◌∙◌, ◌<◌, ◌⊎◌, ℕ, zero, suc, Bool, true, false, cond, List, [], ◌∷◌, ◌++◌, map, filter, take, replicate, set, length, get_or, Option, Some, None, refl, sym, ap, subst, arith, Equal, inl, inr}
+use Rattle.std.proofs.Common.{◌≡◌, ◌∙◌, ◌<◌, ◌≤◌, ◌⊎◌, ℕ, zero, suc, Bool, true, false, cond, List, [], ◌∷◌, ◌++◌, map, filter, take, replicate, set, length, get_or, Option, Some, None, refl, sym, ap, subst, arith, Equal, inl, inr}
 use Rattle.std.proofs.lemmas.List.{length-map}
 use Rattle.std.specs.Borrow.{Bor}
 use Rattle.std.specs.Cmp.{nat_cmp_total, tied_itself}
@@ -19,7 +19,10 @@ use Rattle.reqtable_table.specs.Answers.{SameLine, SamePackage}
 use Rattle.reqtable_table.specs.Choosing.{case_asks, outcome_in_order}
 use Rattle.reqtable_table.specs.Kept.{KeptLine, KeptCase, KeptPackage, kept_front}
 use Rattle.reqtable_table.specs.Numbers.{numbers_cmp}
-use Rattle.reqtable_table.specs.Runs.{OwnRecord, RunsRecord, AreRunsOf, IsTold, AreTold, AreUntold}
+use Rattle.reqtable_table.specs.Runs.{OwnRecord, RunsRecord, AreRunsOf, IsTold, AreTold, AreUntold, owns_of}
+use Rattle.reqtable_table.specs.KeptLines.{package_record}
+use Rattle.reqtable_table.specs.declared.runs.Told.{Told}
+use Rattle.reqtable_table.specs.declared.table.Package.{Package}
 use Rattle.reqtable_table.specs.Standing.{HasItsLines}
 use Rattle.reqtable_table.proofs.AskedLines.{same_fronts}
 use Rattle.reqtable_table.proofs.Marking.{marked_map}
@@ -113,13 +116,6 @@ pub none_told : (b : Bool) (n m : ℕ) (old new : List (Option Outcome)) → old
 none_told b n m old new e grown place =
     ap (λ l. get_or l place None) (grown ∙ (λ i. cond b (take n (e i) ++ replicate m None) (e i))) ∙ by_result b n m place
 
--- one more list that tells nothing
-pub none_added : (owns : List OwnRecord) (own : OwnRecord) →
-    AllByRecursion (λ o. (place : ℕ) → get_or o.told place None ≡ None) owns → ((place : ℕ) → get_or own.told place None ≡ None) →
-    AllByRecursion (λ o. (place : ℕ) → get_or o.told place None ≡ None) (owns ++ own ∷ [])
-none_added [] own all none = (none, tt)
-none_added (o ∷ owns) own all none = (all.0, none_added owns own all.1 none)
-
 -- ---- of packages of whose lines more was asked
 
 asks_same : (marks : Marks) (a b : List KeptLine) → AllZip SameLine a b → case_asks marks a ≡ case_asks marks b
@@ -140,14 +136,6 @@ module _ (returns : Bor VersionRecord → Bool → Bool → Type 0) where
     below = known.below;
   }
 
-  all_told : (a b : List KeptPackage) (owns : List OwnRecord) → AllZip SamePackage a b → AllZip (IsTold returns) b owns →
-      AllZip (IsTold returns) a owns
-  all_told [] [] owns s h = h
-  all_told [] (y ∷ b) owns s h = absurd s
-  all_told (x ∷ a) [] owns s h = absurd s
-  all_told (x ∷ a) (y ∷ b) [] s h = absurd h
-  all_told (x ∷ a) (y ∷ b) (own ∷ owns) s h = (told_same x y own s.0 h.0, all_told a b owns s.1 h.1)
-
   -- ---- at first
 
   none_there : (own : OwnRecord) → ((place : ℕ) → get_or own.told place None ≡ None) → (place : ℕ) (found : Outcome) →
@@ -156,20 +144,79 @@ module _ (returns : Bor VersionRecord → Bool → Bool → Type 0) where
       let e : None ≡ Some found = sym (none place) ∙ there in
       absurd (cc)
 
-  first_told : (placed : List (ℕ × Candidate)) (table : List KeptPackage) (owns : List OwnRecord) →
-      AllZip (λ kept own. own.run ≡ filter (is_candidate kept.name) placed) table owns →
-      AllByRecursion (λ own. (place : ℕ) → get_or own.told place None ≡ None) owns → AllZip (IsTold returns) table owns
-  first_told placed [] [] are none = tt
-  first_told placed [] (own ∷ owns) are none = absurd are
-  first_told placed (kept ∷ table) [] are none = absurd are
-  first_told placed (kept ∷ table) (own ∷ owns) are none = (
+  first_told : (placed : List (ℕ × Candidate)) (table : List KeptPackage) (runs : List (List (ℕ × Candidate)))
+      (all : List (List (Option Outcome))) → AllZip (λ kept run. run ≡ filter (is_candidate kept.name) placed) table runs →
+      AllZip (λ run told. (place : ℕ) → get_or told place None ≡ None) runs all → AllZip (IsTold returns) table (owns_of runs all)
+  first_told placed [] [] [] are none = tt
+  first_told placed [] [] (told ∷ all) are none = absurd none
+  first_told placed [] (run ∷ runs) all are none = absurd are
+  first_told placed (kept ∷ table) [] all are none = absurd are
+  first_told placed (kept ∷ table) (run ∷ runs) [] are none = absurd none
+  first_told placed (kept ∷ table) (run ∷ runs) (told ∷ all) are none = (
     record {
-      right = λ admits by place marks other found there long at. absurd (none_there own none.0 place found there);
-      below = λ count place found there under. absurd (none_there own none.0 place found there);
+      right = λ admits by place marks other found there long at.
+          absurd (none_there (record { run = run; told = told }) none.0 place found there);
+      below = λ count place found there under. absurd (none_there (record { run = run; told = told }) none.0 place found there);
     },
-    first_told placed table owns are.1 none.1,
+    first_told placed table runs all are.1 none.1,
   )
 
   -- what is known of a table's packages where nothing is
   pub told_at_first : (table : List KeptPackage) (all : RunsRecord) → AreRunsOf table all → AreUntold all → AreTold returns table all
-  told_at_first table all are none = first_told all.placed table all.owns are none
+  told_at_first table all are none = first_told all.placed table all.runs all.told are none
+
+  -- ---- at a place
+
+  abbrev outcomes : Told → List (Option Outcome)
+  outcomes told = told.outcomes.items
+
+  abbrev AllTold : List Package → List (List (ℕ × Candidate)) → List Told → Type 0
+  AllTold table runs all = AllZip (IsTold returns) (map package_record table) (owns_of runs (map outcomes all))
+
+  pub told_here : (table : List Package) (runs : List (List (ℕ × Candidate))) (all : List Told) (i : ℕ) (kept : Package) (one : Told)
+      (d : List (ℕ × Candidate)) → AllTold table runs all → i < length table → kept ≡ get_or table i kept → one ≡ get_or all i one →
+      IsTold returns (package_record kept) (record { run = get_or runs i d; told = outcomes one })
+  told_here [] runs all i kept one d h within is at = absurd (omega arith)
+  told_here (p ∷ table) [] all i kept one d h within is at = absurd h
+  told_here (p ∷ table) (run ∷ runs) [] i kept one d h within is at = absurd h
+  told_here (p ∷ table) (run ∷ runs) (t ∷ all) zero kept one d h within is at =
+      subst (λ k. IsTold returns (package_record k) (record { run = run; told = outcomes one })) (sym is)
+      (subst (λ o. IsTold returns (package_record p) (record { run = run; told = outcomes o })) (sym at) h.0)
+  told_here (p ∷ table) (run ∷ runs) (t ∷ all) (suc i) kept one d h within is at =
+      told_here table runs all i kept one d h.1 (omega arith) is at
+
+  pub told_long : (table : List Package) (runs : List (List (ℕ × Candidate))) (all : List Told) → AllTold table runs all →
+      length table ≤ length all
+  told_long [] runs all h = omega arith
+  told_long (p ∷ table) [] all h = absurd h
+  told_long (p ∷ table) (run ∷ runs) [] h = absurd h
+  told_long (p ∷ table) (run ∷ runs) (t ∷ all) h = let rest = told_long table runs all h.1 in omega arith
+
+  pub told_next : (table : List Package) (runs : List (List (ℕ × Candidate))) (all : List Told) (i : ℕ) (new : Package) (more : Told)
+      (d : List (ℕ × Candidate)) → AllTold table runs all → i < length table →
+      IsTold returns (package_record new) (record { run = get_or runs i d; told = outcomes more }) →
+      AllTold (set table i new) runs (set all i more)
+  told_next [] runs all i new more d h within is = absurd (omega arith)
+  told_next (p ∷ table) [] all i new more d h within is = absurd h
+  told_next (p ∷ table) (run ∷ runs) [] i new more d h within is = absurd h
+  told_next (p ∷ table) (run ∷ runs) (t ∷ all) zero new more d h within is = (is, h.1)
+  told_next (p ∷ table) (run ∷ runs) (t ∷ all) (suc i) new more d h within is =
+      (h.0, told_next table runs all i new more d h.1 (omega arith) is)
+
+  -- by the candidates at that place
+  module _ (table : List Package) (runs : List (List (ℕ × Candidate))) (all : List Told) (i : ℕ) (kept : Package)
+      (h : AllTold table runs all) (within : i < length table) (is : kept ≡ get_or table i kept) (own : List (ℕ × Candidate))
+      (own_at : own ≡ get_or runs i own) where
+    pub told_own : (one : Told) → one ≡ get_or all i one →
+        IsTold returns (package_record kept) (record { run = own; told = outcomes one })
+    told_own one at =
+        subst (λ r. IsTold returns (package_record kept) (record { run = r; told = outcomes one })) (sym own_at)
+        (told_here table runs all i kept one own h within is at)
+
+    pub own_told : (new : Package) (more : Told) → SamePackage (package_record new) (package_record kept) →
+        IsTold returns (package_record kept) (record { run = own; told = outcomes more }) →
+        AllTold (set table i new) runs (set all i more)
+    own_told new more same known =
+        told_next table runs all i new more own h within
+        (subst (λ r. IsTold returns (package_record new) (record { run = r; told = outcomes more })) own_at
+        (told_same (package_record new) (package_record kept) (record { run = own; told = outcomes more }) same known))

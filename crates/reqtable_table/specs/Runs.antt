@@ -1,5 +1,5 @@
 -- The candidates of a table's packages, in order, and what was taken of them before.
-use Rattle.std.specs.Prelude.{◌≡◌, ◌<◌, ℕ, Bool, List, map, filter, length, get_or, Option, Some, None}
+use Rattle.std.specs.Prelude.{◌≡◌, ◌<◌, ℕ, Bool, List, [], ◌∷◌, map, filter, length, get_or, Option, Some, None}
 use Rattle.std.specs.List.{AllZip, AllByRecursion}
 use Rattle.std.specs.Borrow.{Bor}
 use Rattle.pep440_version.specs.Record.{VersionRecord}
@@ -24,7 +24,8 @@ pub record OwnRecord : Type 0 where
 pub record RunsRecord : Type 0 where
   pub candidates : List Candidate
   pub placed : List (ℕ × Candidate)
-  pub owns : List OwnRecord
+  pub runs : List (List (ℕ × Candidate))
+  pub told : List (List (Option Outcome))
 
 -- the candidates are of a list that texts say, in its order
 pub record AreOrdered (candidates : List Candidate) (placed : List (ℕ × Candidate)) : Type 0 where
@@ -33,7 +34,7 @@ pub record AreOrdered (candidates : List Candidate) (placed : List (ℕ × Candi
 
 -- there is a part for each package, which has its candidates
 abbrev pub AreRunsOf : List KeptPackage → RunsRecord → Type 0
-AreRunsOf table all = AllZip (λ kept own. own.run ≡ filter (is_candidate kept.name) all.placed) table all.owns
+AreRunsOf table all = AllZip (λ kept run. run ≡ filter (is_candidate kept.name) all.placed) table all.runs
 
 -- what is known of a package is so by a closure with these results: for the lines of a case, their outcome
 pub record IsTold (returns : Bor VersionRecord → Bool → Bool → Type 0) (kept : KeptPackage) (own : OwnRecord)
@@ -46,9 +47,15 @@ pub record IsTold (returns : Bor VersionRecord → Bool → Bool → Type 0) (ke
   pub below : (count place : ℕ) (outcome : Outcome) → get_or own.told place None ≡ Some outcome →
       AllByRecursion (λ c. c.0 < count) own.run → IsTakenBelow count outcome
 
+-- candidates of packages beside what is known of these
+abbrev pub owns_of : List (List (ℕ × Candidate)) → List (List (Option Outcome)) → List OwnRecord
+owns_of [] all = []
+owns_of (run ∷ runs) [] = []
+owns_of (run ∷ runs) (told ∷ all) = record { run = run; told = told } ∷ owns_of runs all
+
 -- nothing is known yet
 abbrev pub AreUntold : RunsRecord → Type 0
-AreUntold all = AllByRecursion (λ own. (place : ℕ) → get_or own.told place None ≡ None) all.owns
+AreUntold all = AllZip (λ run told. (place : ℕ) → get_or told place None ≡ None) all.runs all.told
 
 abbrev pub AreTold : (Bor VersionRecord → Bool → Bool → Type 0) → List KeptPackage → RunsRecord → Type 0
-AreTold returns table all = AllZip (IsTold returns) table all.owns
+AreTold returns table all = AllZip (IsTold returns) table (owns_of all.runs all.told)

@@ -25,7 +25,6 @@ use pep508_tree::Interner;
 use reqtable_answer::{Admission, Answer};
 use reqtable_text::Candidates;
 use std::alloc::{AllocError, Global};
-use std::mem;
 
 impl Table {
     /// The answer of the lines that the table was built of, in an environment with extras: what
@@ -70,13 +69,13 @@ impl Table {
     /// post-releases, and of post-releases too where no line of the case has `<` or `>`; the specifiers are
     /// asked of all others, or of all candidates where the case has no range. So the admission is that by
     /// which `runs` knows what was taken.
-    pub fn answer_among<'o, 'a, F: Fn(&Version, bool) -> bool>(
+    pub fn answer_among<F: Fn(&Version, bool) -> bool>(
         &mut self,
         alloc: Global,
         interner: &Interner,
         environment: &MarkerEnvironment,
         extras: &[ExtraName],
-        runs: &mut Runs<'o, 'a>,
+        runs: &mut Runs<'_, '_>,
         admission: &Admission<F>,
     ) -> Result<Answer, AllocError>
         requires callable { F.IsAlwaysCallable admission.now }
@@ -97,14 +96,17 @@ impl Table {
             (valuation_of environment.now extras.now) runs.old.candidates self.old }
     {
         let setting = Setting::new(interner, environment, extras);
-        let ordered = runs.ordered;
-        let mut owns = mem::replace(&mut runs.owns, Vec::new(alloc));
         let packages = &mut self.packages;
-        let made = rows_of(alloc, packages, &setting, ordered, &mut owns, admission);
-        runs.owns = owns;
-        match made {
-            Ok(rows) => Ok(Answer { rows }),
-            Err(error) => Err(error),
-        }
+        let told = &mut runs.told;
+        let rows = rows_of(
+            alloc,
+            packages,
+            &setting,
+            runs.ordered,
+            &runs.runs,
+            told,
+            admission,
+        )?;
+        Ok(Answer { rows })
     }
 }

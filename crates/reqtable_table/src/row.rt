@@ -26,7 +26,7 @@ ghost use Rattle.reqtable_table.specs.Standing.{HasItsFlags, IsOfTexts, HasItsLi
 use crate::asked::{case_in, extras_of, marks_in};
 use crate::choosing::chosen;
 use crate::kept::TableLine;
-use crate::runs::Own;
+use crate::runs::Told;
 use crate::setting::Setting;
 use crate::table::Package;
 use pep440_version::Version;
@@ -36,37 +36,44 @@ use std::alloc::{AllocError, Global};
 use version_ranges::Ranges;
 
 /// The rows of the packages of which a line applies.
-pub(crate) fn rows_of<'o, 'a, F: Fn(&Version, bool) -> bool>(
+pub(crate) fn rows_of<F: Fn(&Version, bool) -> bool>(
     alloc: Global,
     packages: &mut [Package],
     setting: &Setting<'_>,
     ordered: &Ordered<'_>,
-    owns: &mut [Own<'o, 'a>],
+    runs: &[&[Placed<'_>]],
+    told: &mut [Told],
     admission: &Admission<F>,
 ) -> Result<Vec<Row>, AllocError>
     requires callable { F.IsAlwaysCallable admission.now }
     requires lines { AllByRecursion HasItsLines (map package_record packages.old) }
     requires cases { AllByRecursion (HasItsCases (nodes_in setting.now)) (map package_record packages.old) }
     requires ordered { AreOrdered ordered.now.candidates ordered.now.placed }
-    requires runs { AreRunsOf (map package_record packages.old) (runs_of ordered.now owns.old) }
+    requires runs { AreRunsOf (map package_record packages.old) (runs_of ordered.now runs.now told.old) }
     requires told { AreTold (F.post admission.now) (map package_record packages.old)
-        (runs_of ordered.now owns.old) }
+        (runs_of ordered.now runs.now told.old) }
     ensures rows { IfOk result (λ rows. (admits : Admits) → AnswersBy (F.post admission.now) admits →
         AreRowsFor admits (nodes_in setting.now) (valuation_in setting.now) ordered.now.candidates
         (map package_record packages.old) (map row_seen rows.items)) }
     ensures places { IfOk result (λ rows.
         All (λ row. IsTakenBelow (length ordered.now.candidates) row.outcome) rows.items) }
     ensures kept { AllZip SamePackage (map package_record packages.new) (map package_record packages.old) }
-    ensures runs { AreRunsOf (map package_record packages.new) (runs_of ordered.now owns.new) }
     ensures told { AreTold (F.post admission.now) (map package_record packages.new)
-        (runs_of ordered.now owns.new) }
+        (runs_of ordered.now runs.now told.new) }
     ensures tests { all_tests (map package_record packages.new) ≤ all_tests (map package_record packages.old)
         + most_tests_of (nodes_in setting.now) (valuation_in setting.now) ordered.now.candidates
         (map package_record packages.old) }
 {
     let mut rows = Vec::new(alloc);
     for (index, kept) in packages.iter_mut().enumerate() {
-        let row = row_of(alloc, kept, setting, &mut owns[index], admission)?;
+        let row = row_of(
+            alloc,
+            kept,
+            setting,
+            runs[index],
+            &mut told[index],
+            admission,
+        )?;
         add_row(&mut rows, row)?;
     }
     Ok(rows)
@@ -83,31 +90,31 @@ fn add_row(rows: &mut Vec<Row>, row: Option<Row>) -> Result<(), AllocError>
 }
 
 /// The row of a package with its candidates, where a line of it applies.
-fn row_of<'o, 'a, F: Fn(&Version, bool) -> bool>(
+fn row_of<F: Fn(&Version, bool) -> bool>(
     alloc: Global,
     kept: &mut Package,
     setting: &Setting<'_>,
-    own: &mut Own<'o, 'a>,
+    own: &[Placed<'_>],
+    told: &mut Told,
     admission: &Admission<F>,
 ) -> Result<Option<Row>, AllocError>
     requires callable { F.IsAlwaysCallable admission.now }
     requires lines { HasItsLines (package_record kept.old) }
     requires cases { HasItsCases (nodes_in setting.now) (package_record kept.old) }
-    requires said { AllByRecursion (λ c. IsSaid c.1.version) (own_record own.old).run }
-    requires told { IsTold (F.post admission.now) (package_record kept.old) (own_record own.old) }
+    requires said { AllByRecursion (λ c. IsSaid c.1.version) (map placed_seen own.now) }
+    requires told { IsTold (F.post admission.now) (package_record kept.old) (own_record own.now told.old) }
     ensures row { IfOk result (λ row. (admits : Admits) → AnswersBy (F.post admission.now) admits →
-        IsRowInOrder admits (nodes_in setting.now) (valuation_in setting.now) (own_record own.old).run
+        IsRowInOrder admits (nodes_in setting.now) (valuation_in setting.now) (map placed_seen own.now)
         (package_record kept.old) (option_map row_seen row)) }
     ensures below { IfOk result (λ row. (count : ℕ) →
-        AllByRecursion (λ c. c.0 < count) (own_record own.old).run →
+        AllByRecursion (λ c. c.0 < count) (map placed_seen own.now) →
         IfSome row (λ row. IsTakenBelow count row.outcome)) }
     ensures same { SamePackage (package_record kept.new) (package_record kept.old) }
-    ensures run { (own_record own.new).run ≡ (own_record own.old).run }
-    ensures told { IsTold (F.post admission.now) (package_record kept.old) (own_record own.new) }
+    ensures told { IsTold (F.post admission.now) (package_record kept.old) (own_record own.now told.new) }
     ensures tests { tests_of (map line_record kept.new.lines.items)
         ≤ tests_of (map line_record kept.old.lines.items)
         + most_tests (kept_asked (nodes_in setting.now) (valuation_in setting.now)
-        (map line_record kept.old.lines.items)) (own_record own.old).run }
+        (map line_record kept.old.lines.items)) (map placed_seen own.now) }
 {
     let marks = marks_in(alloc, &kept.lines, setting)?;
     if !marks.contains(&true) {
@@ -116,7 +123,7 @@ fn row_of<'o, 'a, F: Fn(&Version, bool) -> bool>(
     let place = case_in(alloc, kept, &marks)?;
     let name = kept.name.try_clone(alloc)?;
     let extras = extras_of(alloc, &kept.lines, &marks)?;
-    match outcome_in(alloc, kept, &marks, place, own, admission) {
+    match outcome_in(alloc, kept, &marks, place, own, told, admission) {
         Ok(outcome) => Ok(Some(Row {
             package: name,
             extras,
@@ -127,12 +134,13 @@ fn row_of<'o, 'a, F: Fn(&Version, bool) -> bool>(
 }
 
 /// What becomes of a package in the case at a place, whose lines are marked: decided where it wasn't before.
-fn outcome_in<'o, 'a, F: Fn(&Version, bool) -> bool>(
+fn outcome_in<F: Fn(&Version, bool) -> bool>(
     alloc: Global,
     kept: &mut Package,
     marks: &[bool],
     place: usize,
-    own: &mut Own<'o, 'a>,
+    own: &[Placed<'_>],
+    told: &mut Told,
     admission: &Admission<F>,
 ) -> Result<Outcome, AllocError>
     requires callable { F.IsAlwaysCallable admission.now }
@@ -143,27 +151,26 @@ fn outcome_in<'o, 'a, F: Fn(&Version, bool) -> bool>(
         ≡ map (λ line. line.number) (marked marks.now (package_record kept.old).lines) }
     requires ranged { (other : Case) → IsRangeOf (case_asks marks.now (map line_record kept.old.lines.items))
         (get_or kept.old.cases.items place other).range }
-    requires said { AllByRecursion (λ c. IsSaid c.1.version) (own_record own.old).run }
-    requires told { IsTold (F.post admission.now) (package_record kept.old) (own_record own.old) }
+    requires said { AllByRecursion (λ c. IsSaid c.1.version) (map placed_seen own.now) }
+    requires told { IsTold (F.post admission.now) (package_record kept.old) (own_record own.now told.old) }
     ensures outcome { IfOk result (λ outcome. (admits : Admits) → AnswersBy (F.post admission.now) admits →
         outcome ≡ outcome_in_order admits (case_asks marks.now (map line_record kept.old.lines.items))
-        (own_record own.old).run) }
+        (map placed_seen own.now)) }
     ensures below { IfOk result (λ outcome. (count : ℕ) →
-        AllByRecursion (λ c. c.0 < count) (own_record own.old).run → IsTakenBelow count outcome) }
+        AllByRecursion (λ c. c.0 < count) (map placed_seen own.now) → IsTakenBelow count outcome) }
     ensures same { SamePackage (package_record kept.new) (package_record kept.old) }
-    ensures run { (own_record own.new).run ≡ (own_record own.old).run }
-    ensures told { IsTold (F.post admission.now) (package_record kept.old) (own_record own.new) }
+    ensures told { IsTold (F.post admission.now) (package_record kept.old) (own_record own.now told.new) }
     ensures tests { tests_of (map line_record kept.new.lines.items)
         ≤ tests_of (map line_record kept.old.lines.items)
-        + most_tests (case_asks marks.now (map line_record kept.old.lines.items)) (own_record own.old).run }
+        + most_tests (case_asks marks.now (map line_record kept.old.lines.items)) (map placed_seen own.now) }
 {
-    if let Some(outcome) = own.told(place) {
+    if let Some(outcome) = told.outcome(place) {
         return Ok(outcome);
     }
     let range = &kept.cases[place].range;
-    match outcome(alloc, &mut kept.lines, marks, range, own.run, admission) {
+    match outcome(alloc, &mut kept.lines, marks, range, own, admission) {
         Ok(outcome) => {
-            own.tell(place, outcome);
+            told.tell(place, outcome);
             Ok(outcome)
         }
         Err(error) => Err(error),

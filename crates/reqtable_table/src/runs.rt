@@ -1,8 +1,7 @@
 //! The candidates of a table's packages, which are looked for once for all environments, and what is taken of
 //! them, which is decided once for each case.
 
-ghost use Rattle.std.specs.Prelude.{◌≡◌, get_or, set, Some, None, IfOk};
-ghost use Rattle.reqtable_table.specs.Owns.{own_record};
+ghost use Rattle.std.specs.Prelude.{◌≡◌, ℕ, get_or, set, Some, None, IfOk};
 ghost use Rattle.reqtable_table.specs.Runs.{AreRunsOf, AreUntold};
 
 use crate::table::Table;
@@ -11,33 +10,27 @@ use reqtable_text::{Ordered, Placed};
 use std::alloc::{AllocError, Global};
 use std::marker::Model;
 
-/// The candidates of a package from the greatest version down, and what becomes of the package in its cases.
+/// What becomes of a package in its cases, by their places, where it was decided before.
 #[derive(Drop)]
-pub(crate) struct Own<'o, 'a> {
-    pub(crate) run: &'o [Placed<'a>],
-    /// For each case by its place, where it was decided before.
-    pub(crate) told: Vec<Option<Outcome>>,
+pub(crate) struct Told {
+    pub(crate) outcomes: Vec<Option<Outcome>>,
 }
 
 /// The candidates of each package of a table, and what is taken of them in the cases that were asked for.
 #[derive(Drop)]
 pub struct Runs<'o, 'a> {
     pub(crate) ordered: &'o Ordered<'a>,
-    pub(crate) owns: Vec<Own<'o, 'a>>,
+    pub(crate) runs: Vec<&'o [Placed<'a>]>,
+    pub(crate) told: Vec<Told>,
 }
 
 impl<'o, 'a> Model for Runs<'o, 'a> {
-    ghost use Rattle.std.specs.Prelude.{map};
-    ghost use Rattle.reqtable_table.specs.Owns.{own_record};
+    ghost use Rattle.reqtable_table.specs.Owns.{runs_of};
     ghost use Rattle.reqtable_table.specs.Runs.{RunsRecord, AreOrdered};
 
     ghost Value = { RunsRecord };
 
-    ghost view = { λ r. record {
-      candidates = r.ordered.now.candidates;
-      placed = r.ordered.now.placed;
-      owns = map own_record r.owns.items;
-    } };
+    ghost view = { λ r. runs_of r.ordered.now r.runs.items r.told.items };
 
     ghost invariant = { λ r. AreOrdered r.ordered.now.candidates r.ordered.now.placed };
 }
@@ -56,24 +49,36 @@ impl Table {
         ensures untold { IfOk result AreUntold }
     {
         let _ = ordered.placed();
-        let mut owns = Vec::with_capacity(alloc, self.packages.len())?;
+        let mut runs = Vec::with_capacity(alloc, self.packages.len())?;
+        let mut told = Vec::with_capacity(alloc, self.packages.len())?;
         for kept in &self.packages {
-            let mut told = Vec::new(alloc);
-            told.resize(kept.cases.len(), None)?;
-            let run = ordered.run_of(&kept.name);
-            owns.push(Own { run, told })?;
+            told.push(untold(alloc, kept.cases.len())?)?;
+            runs.push(ordered.run_of(&kept.name))?;
         }
-        Ok(Runs { ordered, owns })
+        Ok(Runs {
+            ordered,
+            runs,
+            told,
+        })
     }
 }
 
-impl<'o, 'a> Own<'o, 'a> {
+/// What is known where nothing was decided yet, of so many cases.
+fn untold(alloc: Global, count: usize) -> Result<Told, AllocError>
+    ensures { IfOk result (λ told. (place : ℕ) → get_or told.outcomes.items place None ≡ None) }
+{
+    let mut outcomes = Vec::new(alloc);
+    outcomes.resize(count, None)?;
+    Ok(Told { outcomes })
+}
+
+impl Told {
     /// What becomes of the package in the case at a place, where it was decided before.
-    pub(crate) fn told(&self, place: usize) -> Option<Outcome>
-        ensures { result ≡ get_or (own_record self.now).told place None }
+    pub(crate) fn outcome(&self, place: usize) -> Option<Outcome>
+        ensures { result ≡ get_or self.now.outcomes.items place None }
     {
-        if place < self.told.len() {
-            self.told[place]
+        if place < self.outcomes.len() {
+            self.outcomes[place]
         } else {
             None
         }
@@ -81,11 +86,10 @@ impl<'o, 'a> Own<'o, 'a> {
 
     /// Keeps what becomes of the package in the case at a place.
     pub(crate) fn tell(&mut self, place: usize, outcome: Outcome)
-        ensures run { (own_record self.new).run ≡ (own_record self.old).run }
-        ensures told { (own_record self.new).told ≡ set (own_record self.old).told place (Some outcome) }
+        ensures { self.new.outcomes.items ≡ set self.old.outcomes.items place (Some outcome) }
     {
-        if place < self.told.len() {
-            self.told[place] = Some(outcome);
+        if place < self.outcomes.len() {
+            self.outcomes[place] = Some(outcome);
         }
     }
 }

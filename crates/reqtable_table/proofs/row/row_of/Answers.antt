@@ -6,7 +6,6 @@ use Rattle.reqtable_answer.specs.Asks.{has_extra}
 use Rattle.reqtable_table.specs.Answers.{kept_marks, kept_asked}
 use Rattle.reqtable_table.specs.Choosing.{case_asks, outcome_in_order}
 use Rattle.reqtable_table.specs.KeptLines.{package_record}
-use Rattle.reqtable_table.specs.Owns.{own_record}
 use Rattle.reqtable_table.specs.Settings.{nodes_in, valuation_in}
 use Rattle.reqtable_table.proofs.AskedLines.{records}
 use Rattle.reqtable_table.proofs.MarkedAsks.{any_mark}
@@ -64,5 +63,5 @@ returns-in-Ok-clause-row g c = λ admits by.
           ∙ ap (list_any (has_extra extra)) (asks c.deref-5.ensures.value c.deref-4.ensures.value);
       outcome = c.in-Ok.ensures.outcome admits by
           ∙ (λ i. outcome_in_order admits (case_asks ((c.deref-6.ensures.value ∙ marks_are) i) (records lines))
-          (own_record c.args.own.now).run);
+          (map placed_seen c.args.own.now));
     }
