@@ -1,15 +1,13 @@
-use Rattle.std.proofs.Common.{◌≡◌, ◌∙◌, ◌+◌, ◌++◌, ◌∷◌, [], map, filter, take, ap, sym, subst}
+use Rattle.std.proofs.Common.{◌≡◌, ◌∙◌, ◌+◌, ℕ, None, List, Option, map, filter, take, get_or, ap}
 use Rattle.std.proofs.lemmas.List.{map-append}
-use Rattle.std.specs.List.{AllByRecursion}
 use Rattle.reqtable_text.specs.Ordered.{placed_seen}
+use Rattle.reqtable_text.specs.declared.candidates.Candidate.{Candidate}
 use Rattle.reqtable_answer.specs.Asks.{is_candidate}
+use Rattle.reqtable_answer.specs.declared.answer.Outcome.{Outcome}
 use Rattle.reqtable_table.specs.Kept.{KeptPackage}
 use Rattle.reqtable_table.specs.KeptLines.{package_record}
-use Rattle.reqtable_table.specs.Owns.{own_record}
-use Rattle.reqtable_table.specs.Runs.{OwnRecord}
 use Rattle.reqtable_table.proofs.Finding.{seen_more}
 use Rattle.reqtable_table.proofs.Packages.{zip_pushed}
-use Rattle.reqtable_table.proofs.Told.{none_told, none_added}
 use Rattle.reqtable_table.proofs.table.Table.runs.Goals as goal
 
 pub loop-kept-preserved : goal.loop-kept-preserved
@@ -17,18 +15,23 @@ loop-kept-preserved c =
     let items = c.deref-kept-items.result.now in
     let i = c.loop-kept.kept-index in
     let kept = c.kept-item.result in
-    let owns = c.loop-kept.owns.items in
+    let runs = c.loop-kept.runs.items in
+    let told = c.loop-kept.told.items in
     let placed = c.args.ordered.now.placed in
-    let own : OwnRecord = record { run = map placed_seen c.run_of-run.result.now; told = c.resize.new.self.items } in
-    let pushed = ap (map own_record) c.in_ok-push.ensures.items ∙ map-append own_record owns _ in
+    let own = map placed_seen c.run_of.result.now in
+    let pushed = ap (map (λ run. map placed_seen run.now)) c.in_ok-push-2.ensures.items ∙ map-append (λ run. map placed_seen run.now) runs _ in
     record {
       are =
-          zip_pushed (λ (k : KeptPackage) o. o.run ≡ filter (is_candidate k.name) placed) (map package_record (take i items))
-          (map package_record (take (i + 1) items)) (map own_record owns) (map own_record c.push.new.self.items) (package_record kept) own
+          zip_pushed (λ (k : KeptPackage) run. run ≡ filter (is_candidate k.name) placed) (map package_record (take i items))
+          (map package_record (take (i + 1) items)) (map (λ run. map placed_seen run.now) runs)
+          (map (λ run. map placed_seen run.now) c.push-in-loop-kept.new.self.items) (package_record kept) own
           (seen_more package_record items i kept c.loop-kept-test.true c.kept-item.is) pushed
-          c.loop-kept.invariant.are c.run_of-run.ensures;
+          c.loop-kept.invariant.are c.run_of.ensures;
       none =
-          subst (AllByRecursion _) (sym pushed)
-          (none_added (map own_record owns) own c.loop-kept.invariant.none
-          (none_told _ _ _ c.new-told.result.items c.resize.new.self.items c.new-told.ensures.items c.resize.ensures.items));
+          zip_pushed (λ (run : List (ℕ × Candidate)) (t : List (Option Outcome)). (place : ℕ) → get_or t place None ≡ None)
+          (map (λ run. map placed_seen run.now) runs) (map (λ run. map placed_seen run.now) c.push-in-loop-kept.new.self.items)
+          (map (λ t. t.outcomes.items) told) (map (λ t. t.outcomes.items) c.push.new.self.items) own
+          c.in_ok-untold.field-0.outcomes.items pushed
+          (ap (map (λ t. t.outcomes.items)) c.in_ok-push.ensures.items ∙ map-append (λ t. t.outcomes.items) told _)
+          c.loop-kept.invariant.none c.in_ok-untold.ensures;
     }
