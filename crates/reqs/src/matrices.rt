@@ -4,6 +4,7 @@ ghost use Rattle.std.specs.Prelude.{◌≡◌, ◌≢◌, ◌++◌, List, length
 ghost use Rattle.std.specs.Prelude.{string_bytes};
 ghost use Rattle.std.specs.List.{AllZip, AllByRecursion};
 ghost use Rattle.pep508_url.specs.Vars.{Variables};
+ghost use Rattle.reqtable_answer.specs.Admission.{AnswersBy};
 ghost use Rattle.reqtable_answer.specs.Answer.{answer_text};
 ghost use Rattle.reqtable_answer.specs.Rows.{row_seen, IsTakenBelow};
 ghost use Rattle.reqtable_requirements.specs.Asks.{AreOfNodes};
@@ -11,7 +12,7 @@ ghost use Rattle.reqtable_requirements.specs.LineReading.{LineRecord};
 ghost use Rattle.reqtable_requirements.specs.Requirements.{StandsFor};
 ghost use Rattle.reqtable_table.specs.Cases.{HasItsCases};
 ghost use Rattle.reqtable_table.specs.Kept.{KeepsAll};
-ghost use Rattle.reqtable_table.specs.Runs.{AreRunsOf};
+ghost use Rattle.reqtable_table.specs.Runs.{AreRunsOf, AreTold};
 ghost use Rattle.reqs_ends.specs.declared.fault.Input.TheVariants.{First, Second};
 ghost use Rattle.reqs_ends.specs.Faults.{IsPlain, IsOfTexts};
 ghost use Rattle.reqs_ends.specs.Inputs.{environments_from};
@@ -20,6 +21,7 @@ ghost use Rattle.reqs.specs.Matrix.{environment_line, IsMatrixText, AreRead, Ans
 ghost use Rattle.reqs.specs.Matrix.{RunsMatrix};
 ghost use Rattle.reqs.specs.Texts.{behind_lines, texts_of};
 
+use pep440_version::Version;
 use pep508_environment::MarkerEnvironment;
 use pep508_name::ExtraName;
 use pep508_tree::Interner;
@@ -174,38 +176,43 @@ fn answers_text(
         IsMatrixText any extras.now said candidates.now 1 environments.now (string_bytes text)) }
 {
     let ordered = candidates.in_order(alloc)?;
-    let runs = table.runs(alloc, &ordered)?;
+    let mut runs = table.runs(alloc, &ordered)?;
+    let admission = Admission::new(|_, _| true);
     answers_among(
         alloc,
         table,
         interner,
         environments,
         extras,
-        &runs,
+        &mut runs,
+        &admission,
         candidates,
     )
 }
 
 /// The same among the candidates of the table's packages.
-fn answers_among(
+fn answers_among<F: Fn(&Version, bool) -> bool>(
     alloc: Global,
     table: &mut Table,
     interner: &Interner,
     environments: &[MarkerEnvironment],
     extras: &[ExtraName],
-    runs: &Runs<'_, '_>,
+    runs: &mut Runs<'_, '_>,
+    admission: &Admission<F>,
     candidates: &Candidates,
 ) -> Result<String, AllocError>
     requires cases { AllByRecursion (HasItsCases interner.now.nodes) table.old }
-    requires runs { AreRunsOf table.old runs.now }
-    requires candidates { runs.now.candidates ≡ candidates.now }
+    requires callable { F.IsAlwaysCallable admission.now }
+    requires admits { AnswersBy (F.post admission.now) any }
+    requires runs { AreRunsOf table.old runs.old }
+    requires told { AreTold (F.post admission.now) table.old runs.old }
+    requires candidates { runs.old.candidates ≡ candidates.now }
     ensures { IfOk result (λ text. (said : List LineRecord) → KeepsAll interner.now.nodes table.old said →
         IsMatrixText any extras.now said candidates.now 1 environments.now (string_bytes text)) }
 {
-    let admission = Admission::new(|_, _| true);
     let mut text = String::new(alloc);
     for (place, environment) in environments.iter().enumerate() {
-        let answer = table.answer_among(alloc, interner, environment, extras, runs, &admission)?;
+        let answer = table.answer_among(alloc, interner, environment, extras, runs, admission)?;
         push_answer(alloc, &mut text, place + 1, &answer, candidates)?;
     }
     Ok(text)

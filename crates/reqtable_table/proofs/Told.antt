@@ -7,7 +7,6 @@ use Rattle.std.specs.List.{AllZip, AllByRecursion}
 use Rattle.std.specs.List.Sorted.{IsStrictlySortedBy}
 use Rattle.std.specs.Ordering.{nat_cmp, ordering_then}
 use Rattle.pep440_version.specs.Record.{VersionRecord}
-use Rattle.pep508_requirement_text.specs.FrontReading.{Front}
 use Rattle.pep508_cases.specs.Cases.{Marks}
 use Rattle.reqtable_text.specs.declared.candidates.Candidate.{Candidate}
 use Rattle.reqtable_answer.specs.Admission.{Admits, AnswersBy}

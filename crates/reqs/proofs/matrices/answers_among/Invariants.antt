@@ -1,6 +1,12 @@
-use Rattle.std.proofs.Common.{string_bytes}
+use Rattle.std.proofs.Common.{◌≡◌, string_bytes}
+use Rattle.reqtable_table.specs.Runs.{AreRunsOf, AreTold}
 use Rattle.reqs.proofs.Numbered.{Goes}
 use Rattle.reqs.proofs.matrices.answers_among.Given as goal
 
 abbrev pub invariant-loop-place : goal.invariant-loop-place
-invariant-loop-place l = Goes l.interner.nodes l.extras l.candidates l.environments l.fn.table l.table l.place (string_bytes l.text)
+invariant-loop-place g l = record {
+  goes : Goes l.interner.nodes l.extras l.candidates l.environments l.fn.table l.table l.place (string_bytes l.text);
+  are : AreRunsOf l.table l.runs;
+  told : AreTold (goal.F-post g l.admission) l.table l.runs;
+  candidates : l.runs.candidates ≡ l.candidates;
+}
