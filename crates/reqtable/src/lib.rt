@@ -18,9 +18,9 @@
 //! ```text
 //! let mut table = Table::build(alloc, requirements, &mut interner, 4096)?;
 //! let ordered = candidates.in_order(alloc)?;
-//! let runs = table.runs(alloc, &ordered)?;
+//! let mut runs = table.runs(alloc, &ordered)?;
 //! for environment in &environments {
-//!     let answer = table.answer_among(alloc, &interner, environment, &extras, &runs, &admission)?;
+//!     let answer = table.answer_among(alloc, &interner, environment, &extras, &mut runs, &admission)?;
 //! }
 //! ```
 //!

@@ -1,5 +1,6 @@
 -- The candidates of a table's packages, in order, and what was taken of them before.
-use Rattle.std.specs.Prelude.{◌≡◌, ◌<◌, ℕ, Bool, List, [], ◌∷◌, map, filter, length, get_or, Option, Some, None}
+use Rattle.std.specs.Prelude.{◌≡◌, ◌<◌, ℕ, Bool, List, [], ◌∷◌, map, filter, length}
+use Rattle.std.specs.Prelude.{get_or, Option, Some, None}
 use Rattle.std.specs.List.{AllZip, AllByRecursion}
 use Rattle.std.specs.Borrow.{Bor}
 use Rattle.pep440_version.specs.Record.{VersionRecord}

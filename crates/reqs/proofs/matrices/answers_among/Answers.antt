@@ -26,16 +26,16 @@ loop-place-preserved g c =
     let rows = map row_seen c.in_ok-answer.answer.rows.items in
     let environment = c.index-environments-place.result in record {
       goes = record {
-      same = packages_on _ _ _ c.in_ok-answer.ensures.kept c.loop-place.invariant.goes.same;
-      answers = λ said k.
-          let P : List Candidate → Type 0 = λ cs. IsAnswer any (asks_of (valuation_of environment c.args.extras.now) said) cs rows in
-          rw c.in_ok-push_answer.ensures
-          (one_more c.args.extras.now said c.args.candidates.now c.args.environments.now c.loop-place.place environment
-          c.loop-place-test.true c.index-environments-place.is (string_bytes c.loop-place.text) (c.loop-place.invariant.goes.answers said k) rows
-          (subst P c.loop-place.invariant.candidates
-          (c.in_ok-answer.ensures.answered said any
-          (keeps c.args.interner.now.nodes c.loop-place.table c.args.table.now said c.loop-place.invariant.goes.same k)
-          c.requires.admits)));
+        same = packages_on _ _ _ c.in_ok-answer.ensures.kept c.loop-place.invariant.goes.same;
+        answers = λ said k.
+            let P : List Candidate → Type 0 = λ cs. IsAnswer any (asks_of (valuation_of environment c.args.extras.now) said) cs rows in
+            rw c.in_ok-push_answer.ensures
+            (one_more c.args.extras.now said c.args.candidates.now c.args.environments.now c.loop-place.place environment
+            c.loop-place-test.true c.index-environments-place.is (string_bytes c.loop-place.text) (c.loop-place.invariant.goes.answers said k) rows
+            (subst P c.loop-place.invariant.candidates
+            (c.in_ok-answer.ensures.answered said any
+            (keeps c.args.interner.now.nodes c.loop-place.table c.args.table.now said c.loop-place.invariant.goes.same k)
+            c.requires.admits)));
       };
       are = c.in_ok-answer.ensures.runs;
       told = c.in_ok-answer.ensures.told;
