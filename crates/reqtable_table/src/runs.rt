@@ -37,8 +37,8 @@ impl<'o, 'a> Model for Runs<'o, 'a> {
 
 impl Table {
     /// The candidates of each package of the table, for `answer_among`; of no case it is decided yet what is
-    /// taken. For n packages and m candidates that are O(n log m) comparisons of names, and memory for a place
-    /// for each package and each case.
+    /// taken. For n packages and m candidates that are O(n log m) comparisons of names; memory for a place for
+    /// each package and each case.
     pub fn runs<'o, 'a>(
         &self,
         alloc: Global,
