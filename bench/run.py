@@ -44,15 +44,20 @@ def peak(command):
     """Runs the command and returns the most memory that it held, in KiB.
 
     The system counts for a process also what its parent held when it was started. So a small shell
-    starts the command and ends; the command's process then becomes a child of this one.
+    starts the command and ends; the command's process then becomes a child of this one. It waits for
+    a line till then, since the shell would take the status of a command that ends before it.
     """
     if ctypes.CDLL(None, use_errno=True).prctl(SET_CHILD_SUBREAPER, 1, 0, 0, 0):
         sys.exit(f"run.py: prctl: {os.strerror(ctypes.get_errno())}")
-    script = '"$@" >/dev/null 2>&1 </dev/null & echo $!'
-    started = subprocess.run(
-        ["/bin/sh", "-c", script, "sh", *command], stdout=subprocess.PIPE, check=True
-    )
-    _, status, usage = os.wait4(int(started.stdout), 0)
+    waiting = 'read -r line <&3; exec "$@" >/dev/null 2>&1 </dev/null 3<&-'
+    script = "exec 3<&0; { " + waiting + "; } & echo $!"
+    words = ["/bin/sh", "-c", script, "sh", *command]
+    with subprocess.Popen(words, stdin=subprocess.PIPE, stdout=subprocess.PIPE) as shell:
+        process = int(shell.stdout.readline())
+        if shell.wait():
+            sys.exit(f"run.py: the shell: status {shell.returncode}")
+        shell.stdin.write(b"\n")
+    _, status, usage = os.wait4(process, 0)
     if status:
         sys.exit(f"{' '.join(command)}: status {os.waitstatus_to_exitcode(status)}")
     return usage.ru_maxrss
