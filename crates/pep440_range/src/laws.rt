@@ -61,9 +61,9 @@ pub fn ranges_agree_beside_posts()
         holds_at version_cmp set (At candidate) ≡ matches_all members candidate }
 {}
 
-/// A list's range tells of each candidate whether the list takes it, asked without the candidate's local part:
-/// where no member is of `===`, has a local part or a post-release beside `<`, or has any but a final release
-/// beside `>`.
+/// A list's range tells of each candidate whether the list takes it, asked without the candidate's local
+/// part: where no member is of `===`, has a local part or a post-release beside `<`, or has any but a
+/// final release beside `>`.
 pub fn ranges_agree_everywhere()
     ensures { (members : List SpecifierRecord) (candidate : VersionRecord)
         (set : List (Point VersionRecord)) →

@@ -2,7 +2,8 @@
 use Rattle.std.specs.Prelude.{◌≡◌, Bool, List, map}
 use Rattle.pep508_tree.specs.Tree.{Tree}
 use Rattle.pep508_tree.specs.Meaning.{NodeOf, NodeRecord}
-use Rattle.pep508_tree.specs.Nodes.{Paired, counterpart, signed, first_child, second_child, version_branches, text_branches}
+use Rattle.pep508_tree.specs.Nodes.{Paired, counterpart, signed, first_child, second_child}
+use Rattle.pep508_tree.specs.Nodes.{version_branches, text_branches}
 use Rattle.pep508_tree.specs.Joining.{children}
 use Rattle.pep508_tree.specs.Roots.{IsRoot}
 use Rattle.pep508_disjointness.specs.declared.pairing.Side.{Side}

@@ -1,5 +1,5 @@
--- Which clauses can spare a term of a clause: those near it, whose words are the clause's but for one, that of
--- the term's negation.
+-- Which clauses can spare a term of a clause: those near it, whose words are the clause's but for one,
+-- that of the term's negation.
 use Rattle.std.specs.Prelude.{ℕ, ◌==◌, ◌&&◌, Bool, true, false, cond, List, [], ◌∷◌, fold}
 use Rattle.std.specs.BTreeMap.{is_at}
 use Rattle.std.specs.BTreeSet.{insert_key}

@@ -2,7 +2,8 @@
 
 ghost use Rattle.std.specs.Prelude.{◌≡◌, [], ◌++◌, ◌&&◌, ◌||◌, not, IfOk, OnOk};
 ghost use Rattle.std.specs.List.{list_any, list_all};
-ghost use Rattle.pep508_marker_text.specs.Simplified.{sifted, has_some, stands_in, spares, is_needless, is_covered};
+ghost use Rattle.pep508_marker_text.specs.Simplified.{sifted, has_some, stands_in, spares, is_needless};
+ghost use Rattle.pep508_marker_text.specs.Simplified.{is_covered};
 ghost use Rattle.pep508_marker_text.specs.Simplified.{shortened_behind, simplified};
 ghost use Rattle.pep508_marker_print.specs.Sparing.{has, candidates_of, is_spared_by, is_needless_by};
 ghost use Rattle.pep508_marker_print.specs.Terms.{lists_of};
@@ -268,11 +269,12 @@ fn as_lists<T: Term>(alloc: Global, clauses: Vec<Clause<T>>) -> Result<Vec<Vec<T
 
 /// The clauses without their needless terms, and then without those that others cover.
 ///
-/// For a clause of several terms it looks at four numbers of each other one at most. Where the bits of its
-/// values are all the clause's own, and those of its terms but for one of each kind, it looks for the words of
-/// its terms among the clause's. The others of which at most one word isn't there are kept: each term of the
-/// clause looks at that word of each, and where it may be spared, at the terms, up to the first that decides.
-/// Then it looks at four numbers of each other one again, and at the terms where all bits are the clause's.
+/// For a clause of several terms it looks at four numbers of each other one at most. Where the bits of
+/// its values are all the clause's own, and those of its terms but for one of each kind, it looks for the
+/// words of its terms among the clause's. The others of which at most one word isn't there are kept: each
+/// term of the clause looks at that word of each, and where it may be spared, at the terms, up to the
+/// first that decides. Then it looks at four numbers of each other one again, and at the terms where all
+/// bits are the clause's.
 pub(crate) fn simplified<T: Term>(
     alloc: Global,
     clauses: Vec<Vec<T>>,

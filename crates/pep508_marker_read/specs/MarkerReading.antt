@@ -1,6 +1,7 @@
 -- What there is to read of a marker's text: a formula and the warnings of its comparisons, or why there is
 -- none (PEP 508, "Grammar").
-use Rattle.std.specs.Prelude.{ℕ, suc, zero, ◌==◌, Bool, true, if◌then◌else◌, List, [], ◌∷◌, ◌++◌, length, codes}
+use Rattle.std.specs.Prelude.{ℕ, suc, zero, ◌==◌, Bool, true, if◌then◌else◌, List, [], ◌∷◌, ◌++◌, length}
+use Rattle.std.specs.Prelude.{codes}
 use Rattle.std.specs.Prelude.{Option, Some, None, Result, Ok, Err, encode_utf8_all}
 use Rattle.std.specs.Char.{is_whitespace}
 use Rattle.std.specs.Str.{skip_leading_whitespace, bytes_eq}

@@ -12,8 +12,8 @@ use pep508_tree::{Interner, MarkerTree};
 use pep508_tree_laws::earlier_trees_keep;
 use std::alloc::{AllocError, Global};
 
-/// Two markers, and what is made of them: `and`, `or`, `forgotten`, which is `and` once more after the first one
-/// was forgotten, or a marker that is read beside them.
+/// Two markers, and what is made of them: `and`, `or`, `forgotten`, which is `and` once more after the
+/// first one was forgotten, or a marker that is read beside them.
 #[derive(Drop)]
 pub struct Call<'a> {
     pub left: &'a str,

@@ -1,13 +1,15 @@
 //! Conjunctions of marker trees.
 
-ghost use Rattle.std.specs.Prelude.{◌≡◌, ◌⊎◌, ◌+◌, ◌-◌, ◌<◌, false, [], List, MatchOption, IfOk, IfSome, refl};
+ghost use Rattle.std.specs.Prelude.{◌≡◌, ◌⊎◌, ◌+◌, ◌-◌, ◌<◌, false, [], List, MatchOption, IfOk, IfSome};
+ghost use Rattle.std.specs.Prelude.{refl};
 ghost use Rattle.std.specs.Cmp.{eq_by_cmp_equiv, partial_equiv_from_equiv, partial_order_from_agreeing_total};
 ghost use Rattle.std.specs.Ordering.{eq_by_cmp, as_partial_cmp, is_gt};
 ghost use Rattle.std.specs.List.{AllByRecursion};
 ghost use Rattle.pep508_diagram.specs.Text.{text_cmp};
 ghost use Rattle.pep508_tree.specs.Meaning.{NodeRecord, IsTree, Extends};
 ghost use Rattle.pep508_tree.specs.Forms.{record_of};
-ghost use Rattle.pep508_tree.specs.Nodes.{AreSound, first_place, node_place, node_at, Above, AllChildren, IsRising, IsJoined, Splits, Made};
+ghost use Rattle.pep508_tree.specs.Nodes.{AreSound, first_place, node_place, node_at, Above, AllChildren};
+ghost use Rattle.pep508_tree.specs.Nodes.{IsRising, IsJoined, Splits, Made};
 ghost use Rattle.pep508_tree.specs.Joining.{node_joined};
 ghost use Rattle.pep508_tree.specs.Conjunctions.{Conjunction, ArePairs, Meet};
 ghost use Rattle.pep508_tree.specs.Asked.{asked_cmp};

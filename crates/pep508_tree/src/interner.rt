@@ -5,7 +5,8 @@ ghost use Rattle.pep508_diagram.specs.Question.{Valuation};
 ghost use Rattle.pep508_tree.specs.Meaning.{IsTree, Extends, holds};
 ghost use Rattle.pep508_tree.specs.Interning.{counted};
 ghost use Rattle.pep508_tree.specs.Forms.{record_of};
-ghost use Rattle.pep508_tree.specs.Nodes.{AreSound, IsRising, IsJoined, chosen, node_at, Above, AllChildren, Made, node_place};
+ghost use Rattle.pep508_tree.specs.Nodes.{AreSound, IsRising, IsJoined, chosen, node_at, Above};
+ghost use Rattle.pep508_tree.specs.Nodes.{AllChildren, Made, node_place};
 
 use crate::conjoiner::Conjoiner;
 use crate::leaf::with_constants;
@@ -54,8 +55,8 @@ impl Interner {
     /// Lets go of what is remembered of conjunctions, by which one that is asked for again is found at once.
     /// Trees, their nodes and the count stay.
     ///
-    /// What is remembered grows with each pair of nodes that conjunctions look at, and is mostly more than the
-    /// nodes; it is let go of with the interner otherwise.
+    /// What is remembered grows with each pair of nodes that conjunctions look at, and is mostly more
+    /// than the nodes; it is let go of with the interner otherwise.
     pub fn forget_conjunctions(&mut self)
         ensures { self.new ≡ self.old }
     {

@@ -9,7 +9,8 @@ ghost use Rattle.std.specs.declared.cmp.Ordering.TheVariants.{Equal};
 ghost use Rattle.pep508_tree.specs.Forms.{record_of};
 ghost use Rattle.pep508_tree.specs.Joining.{children, joined, node_joined, head, tail};
 ghost use Rattle.pep508_tree.specs.Nodes.{node_rank, node_text, node_place, version_branches, text_branches};
-ghost use Rattle.pep508_tree.specs.Nodes.{first_child, second_child, counterpart, IsRising, Paired, signed, branch_cmp, node_cmp};
+ghost use Rattle.pep508_tree.specs.Nodes.{first_child, second_child, counterpart, IsRising, Paired, signed};
+ghost use Rattle.pep508_tree.specs.Nodes.{branch_cmp, node_cmp};
 ghost use Rattle.pep508_tree.specs.Roots.{shown};
 ghost use Rattle.pep508_tree.specs.NodeLaws.{nodes_total};
 

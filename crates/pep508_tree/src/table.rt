@@ -5,8 +5,10 @@ ghost use Rattle.std.specs.Ordering.{is_gt};
 ghost use Rattle.pep508_diagram.specs.Text.{text_cmp};
 ghost use Rattle.pep508_tree.specs.Meaning.{IsTree, Extends};
 ghost use Rattle.pep508_tree.specs.Forms.{record_of};
-ghost use Rattle.pep508_tree.specs.Nodes.{AreSound, IsSoundNode, IsPlaced, IsAlone, IsRising, IsJoined, AllChildren, Above};
-ghost use Rattle.pep508_tree.specs.Nodes.{first_place, node_place, node_at, Splits, Made, first_child, signed, turned_branch, short_node};
+ghost use Rattle.pep508_tree.specs.Nodes.{AreSound, IsSoundNode, IsPlaced, IsAlone, IsRising, IsJoined};
+ghost use Rattle.pep508_tree.specs.Nodes.{AllChildren, Above};
+ghost use Rattle.pep508_tree.specs.Nodes.{first_place, node_place, node_at, Splits, Made, first_child};
+ghost use Rattle.pep508_tree.specs.Nodes.{signed, turned_branch, short_node};
 
 use crate::node::{Form, Node, Pair};
 use crate::tree::MarkerTree;

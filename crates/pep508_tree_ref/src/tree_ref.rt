@@ -14,10 +14,10 @@ use std::fmt;
 /// the interner's nodes.
 ///
 /// Two of them are equal exactly where their trees mean the same (`laws::equal_trees_mean_the_same`). A
-/// comparison ends at the first difference. It takes memory for the pairs of nodes that it found equal, so that
-/// it walks each node once or twice, in O(n log n) steps for n nodes; where memory is refused, a pair is walked
-/// again for each path that leads to it. Trees of one interner are compared in constant time by the `==` of
-/// `MarkerTree`.
+/// comparison ends at the first difference. It takes memory for the pairs of nodes that it found equal,
+/// so that it walks each node once or twice, in O(n log n) steps for n nodes; where memory is refused, a
+/// pair is walked again for each path that leads to it. Trees of one interner are compared in constant
+/// time by the `==` of `MarkerTree`.
 ///
 /// It prints as the tree's text, `true` where the tree always holds. The text is made while it is printed,
 /// and where memory for it is refused, printing fails with `fmt::Error`.

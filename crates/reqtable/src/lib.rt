@@ -12,8 +12,8 @@
 //! let text = answer.text(alloc, &candidates)?;
 //! ```
 //!
-//! For many environments a table is made of the requirements beforehand, which takes them. Its answers are those
-//! of the judge:
+//! For many environments a table is made of the requirements beforehand, which takes them. Its answers
+//! are those of the judge:
 //!
 //! ```text
 //! let mut table = Table::build(alloc, requirements, &mut interner, 4096)?;

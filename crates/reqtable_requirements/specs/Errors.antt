@@ -9,7 +9,8 @@ use Rattle.pep508_error.specs.Errors.{error_text}
 use Rattle.reqtable_text.specs.Errors.{no_text}
 use Rattle.reqtable_requirements.specs.declared.requirements.RequirementsError.{RequirementsError}
 use Rattle.reqtable_requirements.specs.declared.requirements.RequirementsError.TheVariants.{NotText, Line}
-use Rattle.reqtable_requirements.specs.declared.requirements.RequirementsError.TheVariants.{NumberAtEnd, Memory}
+use Rattle.reqtable_requirements.specs.declared.requirements.RequirementsError.TheVariants.{NumberAtEnd}
+use Rattle.reqtable_requirements.specs.declared.requirements.RequirementsError.TheVariants.{Memory}
 
 -- what is said first of a line that is no requirement: its number, and the place in bytes of what is at fault
 abbrev pub requirement_front : ℕ → Pep508Error Verbatim VerbatimUrlError → List ℕ
