@@ -1,8 +1,8 @@
-//! What marker trees (PEP 508, "Environment Markers") ask: whether one has questions of a kind.
+//! What marker trees (PEP 508, "Environment Markers") ask: of what kinds a tree's questions are.
 #![tactic(auto)]
 
-mod left;
+mod kinds;
 mod questions;
-mod tests;
+mod walk;
 
 pub use questions::{Asked, MarkerTreeQuestions};

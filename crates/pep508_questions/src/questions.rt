@@ -5,6 +5,7 @@ ghost use Rattle.pep508_tree.specs.Tree.{Tree};
 ghost use Rattle.pep508_tree.specs.Meaning.{IsTree, diagram_of};
 ghost use Rattle.pep508_questions.specs.Asks.{asked_by};
 
+use crate::walk::asked_of_tree;
 use pep508_tree::{Interner, MarkerTree};
 use std::alloc::{AllocError, Global};
 
@@ -18,6 +19,15 @@ pub struct Asked {
     pub deprecated_key: bool,
     /// A question is about a version that has more than epoch 0 and release numbers, as `1.0a1`.
     pub other_bound: bool,
+}
+
+impl Asked {
+    /// A tree that always holds, or never, asks nothing.
+    pub(crate) const NOTHING: Asked = Asked {
+        single_quote: false,
+        deprecated_key: false,
+        other_bound: false,
+    };
 }
 
 /// Marker trees of which it can be asked what they ask.
@@ -35,4 +45,12 @@ pub trait MarkerTreeQuestions {
     fn asked(self, alloc: Global, interner: &Interner) -> Result<Asked, AllocError>
         requires { IsTree interner.now.nodes (tree self) }
         ensures { IfOk result (λ asked. asked ≡ asked_by (diagram_of interner.now.nodes (tree self))) };
+}
+
+impl MarkerTreeQuestions for MarkerTree {
+    ghost tree = { λ tree. tree };
+
+    fn asked(self, alloc: Global, interner: &Interner) -> Result<Asked, AllocError> {
+        asked_of_tree(alloc, interner, self)
+    }
 }
