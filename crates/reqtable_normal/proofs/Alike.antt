@@ -1,10 +1,10 @@
 -- Lines that say the same are written alike.
-use Rattle.std.proofs.Common.{◌≡◌, ◌≢◌, ◌∙◌, ℕ, Bool, true, false, not, cond, List, [], ◌∷◌, ◌++◌, None, inl, inr, refl, ap, sym, subst}
+use Rattle.std.proofs.Common.{◌≡◌, ◌∙◌, ℕ, Bool, true, false, not, cond, List, [], ◌∷◌, ◌++◌, None, inl, inr, refl, ap, sym, subst}
 use Rattle.std.specs.List.{AllByRecursion, AllZip, flat_map}
 use Rattle.pep440_specifier.specs.Matching.{SpecifierRecord}
 use Rattle.pep440_specifier_list.specs.Lists.{IsInOrder}
-use Rattle.pep508_diagram.specs.Diagram.{Diagram, Leaf, Test}
-use Rattle.pep508_diagram.specs.Question.{Question, Valuation, truth}
+use Rattle.pep508_diagram.specs.Diagram.{Leaf}
+use Rattle.pep508_diagram.specs.Question.{Valuation}
 use Rattle.pep508_marker_text.specs.MarkerText.{marker_text}
 use Rattle.pep508_marker_text.proofs.Spelled.{one_spelling}
 use Rattle.pep508_requirement_text.specs.FrontReading.{Source}
@@ -16,7 +16,7 @@ use Rattle.reqtable_answer.specs.Says.{SaysSource}
 use Rattle.reqtable_requirements.specs.Asks.{applies}
 use Rattle.reqtable_requirements.specs.LineReading.{LineRecord}
 use Rattle.reqtable_normal.specs.Meant.{LeavesOut, NeverApplies, PrintsAlike, SayAlike}
-use Rattle.reqtable_normal.specs.Normalized.{IsDiagramOf, NormalLine, IsNormalOf, IsNormalText, never_holds, kept}
+use Rattle.reqtable_normal.specs.Normalized.{NormalLine, IsNormalOf, IsNormalText, never_holds, kept}
 use Rattle.reqtable_normal.specs.Normalized.{normal_fault, line_text, lines_text}
 use Rattle.reqtable_normal.proofs.Faultless.{faultless_is_sound}
 

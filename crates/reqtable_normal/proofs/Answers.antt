@@ -1,13 +1,13 @@
 -- What lines ask for that say the same has the same answers.
 use Rattle.std.proofs.Common.{◌≡◌, ◌↔◌, ◌∙◌, ℕ, List, Result, Ok, sym, ap, subst}
-use Rattle.std.specs.List.{AllZip}
+use Rattle.std.specs.List.{AllByRecursion, AllZip}
 use Rattle.pep508_diagram.specs.Question.{Valuation}
 use Rattle.pep508_requirement_text.specs.FrontReading.{Front}
 use Rattle.pep508_url.specs.Vars.{Variables}
 use Rattle.reqtable_text.specs.declared.candidates.Candidate.{Candidate}
 use Rattle.reqtable_answer.specs.Answer.{Admits, IsAnswerText}
 use Rattle.reqtable_answer.specs.Says.{Says}
-use Rattle.reqtable_answer.proofs.Alike.{AreAlike, SayTheSame, same_answer}
+use Rattle.reqtable_answer.proofs.Alike.{AreAlike, same_answer}
 use Rattle.reqtable_answer.proofs.Said.{said_alike}
 use Rattle.reqtable_requirements.specs.Asks.{asks_of}
 use Rattle.reqtable_requirements.specs.LineReading.{LineRecord, LinesFault}
@@ -15,6 +15,7 @@ use Rattle.reqtable_requirements.specs.LineText.{IsRequirementsText}
 use Rattle.reqtable_requirements.specs.Requirements.{requirements_of}
 use Rattle.reqtable_normal.specs.Meant.{ReadsAs}
 use Rattle.reqtable_normal.specs.Normalized.{IsNormalText, kept}
+use Rattle.reqtable_normal.proofs.OneLine.{IsReadAgain}
 use Rattle.reqtable_normal.proofs.ReadAgain.{kept_again, lines_read, text_is_read, ask_alike, its_own_text}
 
 -- bytes are read as the lines that the grammar says
@@ -52,11 +53,11 @@ same_lines lines others read e f = cc
 
 module _ (law : LinesLaw) (vars others : Variables) (bytes text : List ℕ) (said : List LineRecord)
     (read : requirements_of vars bytes ≡ Ok said) (normal : IsNormalText said text) where
-  are_again : _
+  are_again : AllByRecursion IsReadAgain (kept normal.lines)
   are_again =
       kept_again vars bytes said normal.lines ((law vars bytes said).0 read) normal.are_normal normal.faultless
 
-  again : List LineRecord
+  abbrev again : List LineRecord
   again = lines_read 1 (kept normal.lines) are_again
 
   is_read : requirements_of others text ≡ Ok again

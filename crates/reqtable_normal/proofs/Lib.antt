@@ -6,3 +6,4 @@ pub mod ReadAgain
 pub mod Standing
 pub mod Alike
 pub mod Answers
+pub mod Pushing

@@ -1,16 +1,15 @@
 -- A line that is written is read again.
-use Rattle.std.proofs.Common.{◌≡◌, ◌≢◌, ◌∙◌, ℕ, ◌==◌, ◌&&◌, ◌||◌, ◌<◌, Bool, true, false, nat_lt, List, [], ◌∷◌, ◌++◌, Option, Some, None, refl, ap, sym, subst, arith, append_assoc}
+use Rattle.std.proofs.Common.{◌≡◌, ◌≢◌, ◌∙◌, ℕ, ◌&&◌, ◌<◌, true, false, List, [], ◌∷◌, ◌++◌, Option, Some, None, refl, ap, sym, subst, arith, append_assoc}
 use Rattle.std.proofs.lemmas.Bool.Decides.{nat_tests}
 use Rattle.std.proofs.lemmas.Str.Ascii.{IsAscii-nil, IsAscii-cons}
 use Rattle.std.specs.Char.{is_whitespace}
-use Rattle.std.specs.List.{AllByRecursion, list_all}
+use Rattle.std.specs.List.{list_all}
 use Rattle.std.specs.Str.{chars}
 use Rattle.pep508_name.specs.Name.{name_of}
 use Rattle.pep508_diagram.specs.Diagram.{Diagram, Leaf, Test}
-use Rattle.pep508_diagram.specs.Question.{Question, Valuation}
+use Rattle.pep508_diagram.specs.Question.{Question, Valuation, truth}
 use Rattle.pep508_expression.specs.Expressions.{expression_holds}
-use Rattle.pep508_marker.specs.Expression.{ExpressionRecord}
-use Rattle.pep508_marker_read.specs.Formula.{Formula, formula_holds}
+use Rattle.pep508_marker_read.specs.Formula.{formula_holds}
 use Rattle.pep508_marker_read.specs.MarkerReading.{Marker}
 use Rattle.pep508_marker_text.specs.MarkerText.{marker_text}
 use Rattle.pep508_requirement.specs.RequirementText.{IsMarkedText}
@@ -18,8 +17,7 @@ use Rattle.pep508_requirement_ref.specs.RequirementPrint.{requirement_text, extr
 use Rattle.pep508_requirement_ref.specs.RequirementPrint.{marker_part}
 use Rattle.pep508_requirement_text.specs.FrontReading.{Front, Source}
 use Rattle.pep508_requirement_text.specs.FrontReading.Source.{Any, Specifiers, Url}
-use Rattle.pep508_reading_back.specs.Diagrams.{SaysDiagram}
-use Rattle.pep508_reading_back.specs.Lines.{IsPieceOf, IsLine, IsWholeLine}
+use Rattle.pep508_reading_back.specs.Lines.{IsPieceOf, IsLine}
 use Rattle.pep508_reading_back.specs.Questions.{AllQuestions}
 use Rattle.pep508_reading_back.specs.ReadableRequirements.{IsReadableFront, NamesNoUrl}
 use Rattle.pep508_reading_back.specs.Told.{AsksOf}
@@ -32,7 +30,7 @@ use Rattle.pep508_reading_back.proofs.Told.{marked_told, diagram_told, pieces_to
 use Rattle.pep508_reading_back.proofs.Unquoted.{told_is_readable}
 use Rattle.pep508_url.specs.Vars.{Variables}
 use Rattle.reqtable_text.specs.TextLines.{is_blank}
-use Rattle.reqtable_answer.specs.Asks.{has_url, is_url}
+use Rattle.reqtable_answer.specs.Asks.{is_url}
 use Rattle.reqtable_answer.specs.Says.{Says, SaysSource}
 use Rattle.reqtable_requirements.specs.LineReading.{LineRecord}
 use Rattle.reqtable_requirements.specs.LineText.{HasItsUrl, IsRequirementLine}
@@ -133,7 +131,8 @@ module _ (vars : Variables) (text : List ℕ) (said : LineRecord) (line : Normal
   sound : IsSound line
   sound = faultless_is_sound line faultless
 
-  means : (v : Valuation) → _
+  means : (v : Valuation) →
+      truth line.diagram v ≡ formula_holds (λ e. expression_holds e v) is.marker.formula
   means v = normal.diagram.means v ∙ ap (λ f. formula_holds (λ e. expression_holds e v) f) is.formula
 
   asks : AllQuestions (AsksOf (IsPieceOf text)) line.diagram

@@ -1,5 +1,5 @@
 -- All lines that are written are read again, and ask for the same.
-use Rattle.std.proofs.Common.{◌≡◌, ◌∙◌, ℕ, ◌+◌, Bool, true, false, not, cond, List, [], ◌∷◌, ◌++◌, map, filter, Option, None, Result, Ok, refl, ap, sym, subst}
+use Rattle.std.proofs.Common.{◌≡◌, ◌∙◌, ℕ, ◌+◌, Bool, true, false, not, cond, List, [], ◌∷◌, ◌++◌, map, filter, None, refl, ap, sym, subst}
 use Rattle.std.specs.List.{AllByRecursion, AllZip, enumerate_from, flat_map}
 use Rattle.pep508_diagram.specs.Diagram.{Diagram, Leaf, Test}
 use Rattle.pep508_diagram.specs.Question.{Question, Valuation, truth}
@@ -11,7 +11,6 @@ use Rattle.reqtable_answer.specs.Says.{Says}
 use Rattle.reqtable_requirements.specs.Asks.{applies, asks_of}
 use Rattle.reqtable_requirements.specs.LineReading.{LineRecord}
 use Rattle.reqtable_requirements.specs.LineText.{IsNumberedLine, IsRequirementsText}
-use Rattle.reqtable_normal.specs.Meant.{AskAlike}
 use Rattle.reqtable_normal.specs.Normalized.{NormalLine, IsNormalOf, IsNormalText, never_holds, kept}
 use Rattle.reqtable_normal.specs.Normalized.{normal_fault, line_text, lines_text}
 use Rattle.reqtable_normal.proofs.OneLine.{printed, IsReadAgain, line_again, has_its_url}
@@ -112,9 +111,9 @@ not_never : (b : Bool) → not b ≡ true → b ≡ false
 not_never false h = refl
 not_never true h = absurd (cc)
 
-never_true : (d : Diagram Question) (v : Valuation) → never_holds d ≡ true → truth d v ≡ false
-never_true (Leaf b) v h = not_never b h
-never_true (Test q low high) v h = absurd (cc)
+pub never_fails : (d : Diagram Question) (v : Valuation) → never_holds d ≡ true → truth d v ≡ false
+never_fails (Leaf b) v h = not_never b h
+never_fails (Test q low high) v h = absurd (cc)
 
 module _ (v : Valuation) where
   more_asked : (a b : Bool) → a ≡ b → (shown s : LineRecord) (others said : List LineRecord) →
@@ -135,7 +134,7 @@ module _ (v : Valuation) where
       AllZip Says (asks_of v (lines_read n (cond (not t) (line ∷ kept lines) (kept lines)) h))
       (asks_of v (s ∷ said))
   asked_by n s said line lines true e normal rest h =
-      let never : applies v s ≡ false = sym (normal.diagram.means v) ∙ never_true line.diagram v e in
+      let never : applies v s ≡ false = sym (normal.diagram.means v) ∙ never_fails line.diagram v e in
       let all = filter (applies v) said in
       subst (λ b. AllZip Says (asks_of v (lines_read n (kept lines) h)) (map (λ l. l.front) (cond b (s ∷ all) all)))
       (sym never) (rest n h)

@@ -11,7 +11,7 @@ use Rattle.std.specs.List.{AllByRecursion, filter, slice_split, onto_first, enum
 use Rattle.std.specs.Option.{option_map_or}
 use Rattle.std.specs.Str.{chars, all_scalars, encode_utf8_all, IsUtf8, IsCharBoundary}
 use Rattle.std.specs.Str.Lines.{strip_carriage_return}
-use Rattle.reqtable_text.specs.TextLines.{with_before, begins_comment, without_comment, is_blank, text_lines}
+use Rattle.reqtable_text.specs.TextLines.{begins_comment, without_comment, is_blank, text_lines}
 use Rattle.reqtable_text.proofs.CandidateParts.{scalars_before}
 use Rattle.pep508_reading_back.specs.Lines.{has_comment, IsLine}
 

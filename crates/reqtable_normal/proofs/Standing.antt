@@ -1,8 +1,10 @@
 -- What is written of lines that were read is what the records say that they stand for.
-use Rattle.std.proofs.Common.{◌≡◌, ◌∙◌, ℕ, suc, ◌+◌, ◌<◌, List, [], ◌∷◌, ◌++◌, length, take, drop, drop-cons, get_or, map, filter, not, Option, Some, None, Result, Ok, Err, refl, ap, sym, subst, append_assoc}
+use Rattle.std.proofs.Common.{◌≡◌, ◌∙◌, ℕ, suc, ◌+◌, ◌<◌, List, [], ◌∷◌, ◌++◌, length, take, drop, drop-cons, get_or, map, not, Option, Some, None, Result, Ok, Err, refl, ap, sym, subst, append_assoc}
 use Rattle.std.proofs.lemmas.List.{map-append, take-append-drop, take_more}
 use Rattle.std.proofs.lemmas.List.Elements.{filter-append}
 use Rattle.std.specs.List.{AllByRecursion, AllZip, flat_map}
+use Rattle.std.specs.Prelude.{String}
+use Rattle.std.specs.Result.{IsErrAnd}
 use Rattle.version_ranges.proofs.Membership.{all_append}
 use Rattle.pep508_requirement.specs.RequirementReading.{AsksFor}
 use Rattle.pep508_requirement.specs.declared.version_or_url.VersionOrUrl.{VersionOrUrl}
@@ -20,10 +22,13 @@ use Rattle.reqtable_answer.specs.Says.{SaysSource, wanted_seen}
 use Rattle.reqtable_requirements.specs.LineReading.{LineRecord}
 use Rattle.reqtable_requirements.specs.Requirements.{ReadsUrl, StandsFor}
 use Rattle.reqtable_requirements.specs.declared.requirements.Line.{Line}
-use Rattle.reqtable_normal.specs.Normalized.{NormalLine, IsNormalOf, IsFaultless, IsFirstFault, IsNormalText}
+use Rattle.reqtable_normal.specs.Normalized.{NormalLine, IsNormalOf, IsFirstFault, IsNormalText}
+use Rattle.reqtable_normal.specs.Normalized.{Normalizes}
 use Rattle.reqtable_normal.specs.Normalized.{normal_fault, never_holds, line_text, lines_text, kept}
-use Rattle.reqtable_normal.specs.Seen.{line_normal}
+use Rattle.reqtable_normal.specs.Seen.{line_normal, PushesLine}
 use Rattle.reqtable_normal.specs.declared.error.NormalCause.{NormalCause}
+use Rattle.reqtable_normal.specs.declared.error.NormalError.{NormalError}
+use Rattle.reqtable_normal.specs.declared.error.NormalError.TheVariants as errors
 
 source_said : (vars : Variables) (source : Source) (what : Option (VersionOrUrl Verbatim VerbatimUrlError)) →
     AsksFor (ReadsUrl vars) source what → SaysSource (wanted_seen what) source
@@ -158,3 +163,19 @@ module _ (nodes : List NodeRecord) where
     first_fault lines i line below is old h number cause e fault said stand =
         fault_behind (take i lines) line (drop (suc i) lines) said number cause h.faultless e fault
         (subst (λ ls. AllZip (StandsFor vars nodes) ls said) (split lines i line below is) stand)
+
+    -- so is the refusal of all lines for that of one
+    pub refused : (X Y : Type 0) (lines : List Line) (i : ℕ) (line : Line) → i < length lines →
+        line ≡ get_or lines i line → (old new : List ℕ) → AreWritten (take i lines) old → (error : NormalError) →
+        PushesLine {X = X} nodes line old new (Err error) → (said : List LineRecord) →
+        AllZip (StandsFor vars nodes) lines said → Normalizes {Y = Y} said (Err error)
+    refused X Y lines i line below is old new h (errors.Line number cause) e said stand =
+        first_fault lines i line below is old h number cause e.0 e.1 said stand
+    refused X Y lines i line below is old new h errors.Memory e said stand = tt
+
+pub passed_on : {Y : Type 0} (said : List LineRecord) (result : Result (String Y) NormalError)
+    (error : NormalError) → IsErrAnd result (λ e. e ≡ error) → Normalizes {Y = Y} said (Err error) →
+    Normalizes said result
+passed_on said (Ok text) error h is = absurd h
+passed_on {Y = Y} said (Err e) error h is =
+    let P : NormalError → Type 0 = λ e. Normalizes {Y = Y} said (Err e) in subst P (sym h) is

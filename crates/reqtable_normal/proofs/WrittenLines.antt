@@ -1,12 +1,12 @@
 -- Whole lines with a line feed behind each are the lines of that text.
-use Rattle.std.proofs.Common.{◌≡◌, ◌∙◌, ℕ, ◌+◌, ◌==◌, Bool, true, false, not, cond, List, [], ◌∷◌, ◌++◌, map, append_assoc, refl, ap, sym, subst, arith}
+use Rattle.std.proofs.Common.{◌≡◌, ◌∙◌, ℕ, ◌+◌, ◌==◌, Bool, true, false, not, cond, List, [], ◌∷◌, ◌++◌, map, append_assoc, refl, ap, arith}
 use Rattle.std.proofs.lemmas.List.Elements.{All-from_recursion}
 use Rattle.std.proofs.lemmas.List.Splits.{slice_split_at}
 use Rattle.std.proofs.lemmas.Str.{chars-nil, IsUtf8-nil, IsUtf8-append, IsUtf8-from_ascii}
 use Rattle.std.proofs.lemmas.Str.Ascii.{IsAscii-nil, IsAscii-cons}
 use Rattle.std.specs.Char.{is_whitespace}
 use Rattle.std.specs.List.{AllByRecursion, filter, flat_map, slice_split, enumerate_from, list_all}
-use Rattle.std.specs.Str.{chars, IsUtf8}
+use Rattle.std.specs.Str.{IsUtf8}
 use Rattle.std.specs.Str.Lines.{strip_carriage_return}
 use Rattle.reqtable_text.specs.TextLines.{without_comment, is_blank, text_lines}
 use Rattle.pep508_reading_back.specs.Lines.{has_comment, IsWholeLine}

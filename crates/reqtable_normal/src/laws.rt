@@ -12,6 +12,8 @@ ghost use Rattle.reqtable_requirements.specs.Requirements.{requirements_of};
 ghost use Rattle.reqtable_normal.specs.Meant.{SayAlike, LeavesOut, ReadsAs};
 ghost use Rattle.reqtable_normal.specs.Normalized.{IsNormalText};
 
+use reqtable_requirements::laws::requirements_are_their_lines;
+
 /// The lines of a text have one normal text at most.
 pub fn there_is_one_normal_text()
     ensures { (said : List LineRecord) (text other : List ℕ) →
@@ -29,7 +31,9 @@ pub fn a_normal_text_reads_back()
         requirements_of others text ≡ Ok again →
         IsAnswerText admits (asks_of v said) candidates answer
         ↔ IsAnswerText admits (asks_of v again) candidates answer }
-{}
+{
+    requirements_are_their_lines();
+}
 
 /// Lines that say the same in one order, those aside that never apply, have one normal text.
 pub fn what_says_the_same_has_one_normal_text()
@@ -43,4 +47,6 @@ pub fn a_normal_text_is_its_own()
     ensures { (vars others : Variables) (bytes text : List ℕ) (said again : List LineRecord) →
         requirements_of vars bytes ≡ Ok said → IsNormalText said text →
         requirements_of others text ≡ Ok again → IsNormalText again text }
-{}
+{
+    requirements_are_their_lines();
+}

@@ -62,6 +62,7 @@ fn push_line(
     requires { IsTree interner.now.nodes line.now.requirement.marker }
     ensures { PushesLine interner.now.nodes line.now (string_bytes text.old) (string_bytes text.new) result }
 {
+    interner.are_sound();
     let requirement = &line.requirement;
     if let Some(cause) = fault(alloc, requirement, interner)? {
         let number = line.number;
