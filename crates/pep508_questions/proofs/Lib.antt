@@ -1,0 +1,4 @@
+pub mod Tests
+pub mod Asking
+pub mod Putting
+pub mod Walking
