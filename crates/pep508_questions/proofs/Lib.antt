@@ -1,4 +1,6 @@
 pub mod Tests
+pub mod Quotes
 pub mod Asking
 pub mod Putting
 pub mod Walking
+pub mod Boundaries

@@ -2,6 +2,8 @@
 use Rattle.std.proofs.Common.{◌≡◌, ℕ, ◌+◌, ◌<◌, ◌||◌, suc, Bool, true, false, List, [], ◌∷◌, ◌++◌, map, length, refl, ap, sym, subst, ◌∙◌, arith, Ordering, nat_cmp}
 use Rattle.std.specs.declared.cmp.Ordering.TheVariants.{Less, Equal, Greater}
 use Rattle.std.specs.Prelude.{IfSome}
+use Rattle.std.specs.Cmp.{ranks}
+use Rattle.std.specs.Ordering.{MatchOrdering}
 use Rattle.std.specs.List.{AllByRecursion, All, list_any}
 use Rattle.std.proofs.lemmas.List.Folds.{list_any-append}
 use Rattle.pep508_diagram.specs.declared.branch.Branch.{Branch}
@@ -20,7 +22,7 @@ use Rattle.pep508_questions.proofs.Asking.{lent_asks}
 use Rattle.pep508_questions.proofs.Putting.{with_all, asks_with}
 use Rattle.pep508_questions.proofs.Tests.{or_false, or_assoc, or_swap, or_turned}
 
-asked_same : (a b : Asked) → a.single_quote ≡ b.single_quote → a.deprecated_key ≡ b.deprecated_key →
+pub asked_same : (a b : Asked) → a.single_quote ≡ b.single_quote → a.deprecated_key ≡ b.deprecated_key →
     a.other_bound ≡ b.other_bound → a ≡ b
 asked_same a b quote key bound = λ i. record {
   single_quote = quote i;
@@ -122,10 +124,24 @@ module _ (nodes : List NodeRecord) (sound : AreSound nodes) (tree : Tree) (made 
 -- ---- the walk
 
 -- what is left to look at of a tree: with what was asked so far it asks what the tree does
-pub record AreLeft (nodes : List NodeRecord) (tree : Tree) (left : List (ℕ × Tree)) (asked : Asked)
+pub record AreLeft (nodes : List NodeRecord) (tree : Tree) (entries : List (ℕ × Tree)) (asked : Asked)
     : Type 0 where
-  pub left : AllByRecursion (IsLeft nodes) left
-  pub asked_is : asked_by (diagram_of nodes tree) ≡ either asked (asked_left nodes left)
+  pub left : AllByRecursion (IsLeft nodes) entries
+  pub asked_is : asked_by (diagram_of nodes tree) ≡ either asked (asked_left nodes entries)
+
+pub below_by_index : (bound : ℕ) (es : List (ℕ × Tree)) →
+    All (λ k. nat_cmp k bound ≡ Less) (map (λ e. e.0) es) → AllByRecursion (λ e. e.0 < bound) es
+below_by_index bound [] all = tt
+below_by_index bound (e ∷ es) all = (
+  less_by (nat_cmp e.0 bound) (ranks e.0 bound) (all 0 0 (omega arith)),
+  below_by_index bound es (λ k d inside. all (suc k) d (omega (arith, inside))),
+)
+  where
+    less_by : (o : Ordering) → MatchOrdering o (e.0 < bound) (e.0 ≡ bound) (bound < e.0) → o ≡ Less →
+        e.0 < bound
+    less_by Less rank is = rank
+    less_by Equal rank is = absurd (cc)
+    less_by Greater rank is = absurd (cc)
 
 -- one more than the highest place
 abbrev pub top : List (ℕ × Tree) → ℕ
