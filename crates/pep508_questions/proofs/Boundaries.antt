@@ -1,8 +1,8 @@
 -- Of what kinds the questions between boundaries are.
-use Rattle.std.proofs.Common.{◌≡◌, ℕ, ◌<◌, ◌==◌, ◌^◌, ◌||◌, Bool, true, false, not, nat_lt, List, [], ◌∷◌, map, length, refl, sym, ap, ap₂, ◌∙◌, arith, inl, inr}
+use Rattle.std.proofs.Common.{◌≡◌, ◌⊎◌, ℕ, ◌<◌, ◌==◌, ◌^◌, ◌||◌, Bool, true, false, not, nat_lt, List, [], ◌∷◌, map, length, get_or, suc, refl, sym, ap, ap₂, ◌∙◌, arith, inl, inr}
 use Rattle.std.proofs.lemmas.Bool.{cases_Bool, lt-ltb}
 use Rattle.std.specs.Cmp.{unsigned_Decides}
-use Rattle.std.specs.List.{list_any, AllByRecursion}
+use Rattle.std.specs.List.{list_any}
 use Rattle.version_ranges.specs.declared.boundary.Boundary.{Boundary}
 use Rattle.pep440_text.specs.Record.{VersionRecord}
 use Rattle.pep508_marker.specs.declared.keys.MarkerValueString.{MarkerValueString}
@@ -76,11 +76,8 @@ pub modern_texts : (key : MarkerValueString) (later : List (Branch (List ℕ) Tr
 modern_texts key later modern = sym (none_asked is_of_deprecated_key (TextBelow key) (λ b. modern) later)
 
 -- numbers of 64 bits
-pub numbers_small : (numbers : List ℕ) → AllByRecursion (λ number. number < 2 ^ 64) numbers →
+pub numbers_small : (numbers : List ℕ) → ((k : ℕ) → get_or numbers k 0 < 2 ^ 64) →
     list_any (λ number. not (nat_lt number (2 ^ 64))) numbers ≡ false
-numbers_small [] all = refl
-numbers_small (number ∷ numbers) all =
-    ap₂ (λ a b. a || b) (ap not (small number all.0)) (numbers_small numbers all.1)
-  where
-    small : (n : ℕ) → n < 2 ^ 64 → nat_lt n (2 ^ 64) ≡ true
-    small n less = lt-ltb n (2 ^ 64) less
+numbers_small [] each = refl
+numbers_small (number ∷ numbers) each =
+    ap₂ (λ a b. a || b) (ap not (lt-ltb number (2 ^ 64) (each 0))) (numbers_small numbers (λ k. each (suc k)))

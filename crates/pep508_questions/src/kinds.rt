@@ -27,18 +27,16 @@ fn is_quoted(text: &str) -> bool
     false
 }
 
-/// The release numbers are of 64 bits. Does nothing.
-fn numbers_fit(version: &Version)
-    ensures { list_any (λ number. not (nat_lt number (2 ^ 64))) version.now.release ≡ false }
-{
-    let _ = version.release();
-}
+/// The numbers are of 64 bits. Does nothing.
+fn numbers_fit(numbers: &[u64])
+    ensures { list_any (λ number. not (nat_lt number (2 ^ 64))) numbers.now ≡ false }
+{}
 
 /// Whether there is more to the version than epoch 0 and release numbers.
 fn is_other_version(version: &Version) -> bool
     ensures { result ≡ is_other_version version.now }
 {
-    numbers_fit(version);
+    numbers_fit(version.release());
     version.epoch() != 0
         || version.pre().is_some()
         || version.post().is_some()
@@ -101,7 +99,10 @@ pub(crate) fn asked_of_versions(later: &[Branch<Version, MarkerTree>]) -> Asked
 }
 
 /// What is asked between texts of a key. Where there is no boundary nothing is.
-pub(crate) fn asked_of_texts(key: MarkerValueString, later: &[Branch<MarkerText, MarkerTree>]) -> Asked
+pub(crate) fn asked_of_texts(
+    key: MarkerValueString,
+    later: &[Branch<MarkerText, MarkerTree>],
+) -> Asked
     ensures { result ≡ asked_among (map (λ branch. TextBelow key branch.boundary) later.now) }
 {
     Asked {
