@@ -4,3 +4,4 @@ pub mod Asking
 pub mod Putting
 pub mod Walking
 pub mod Boundaries
+pub mod Unasked
