@@ -11,7 +11,6 @@ use Rattle.pep508_diagram.specs.declared.branch.Branch.{Branch}
 use Rattle.pep508_diagram.specs.declared.variable.VersionVariable.{VersionVariable}
 use Rattle.pep508_diagram.specs.Question.{Question, VersionBelow, TextBelow}
 use Rattle.pep508_tree.specs.Tree.{Tree}
-use Rattle.pep508_questions.specs.declared.questions.Asked.{Asked}
 use Rattle.pep508_questions.specs.Asks.{stands_at, is_quoted, is_other_version, has_quote, is_of_deprecated_key, is_other_bound}
 use Rattle.pep508_questions.specs.Looked.{asked_among}
 use Rattle.pep508_questions.proofs.Walking.{asked_same}

@@ -1,5 +1,5 @@
 -- Tests that are joined.
-use Rattle.std.proofs.Common.{◌≡◌, ◌||◌, Bool, true, false, refl, ap}
+use Rattle.std.proofs.Common.{◌≡◌, ◌||◌, Bool, true, false, refl}
 
 pub or_false : (a : Bool) → (a || false) ≡ a
 or_false true = refl

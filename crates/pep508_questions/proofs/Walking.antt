@@ -1,5 +1,5 @@
 -- One node after another, the highest places first.
-use Rattle.std.proofs.Common.{◌≡◌, ℕ, ◌+◌, ◌<◌, ◌||◌, suc, Bool, true, false, List, [], ◌∷◌, ◌++◌, map, length, refl, ap, sym, subst, ◌∙◌, arith, Ordering, nat_cmp}
+use Rattle.std.proofs.Common.{◌≡◌, ℕ, ◌+◌, ◌<◌, ◌||◌, suc, Bool, true, false, List, [], ◌∷◌, ◌++◌, map, refl, ap, sym, subst, ◌∙◌, arith, Ordering, nat_cmp}
 use Rattle.std.specs.declared.cmp.Ordering.TheVariants.{Less, Equal, Greater}
 use Rattle.std.specs.Prelude.{IfSome}
 use Rattle.std.specs.Cmp.{ranks}
@@ -20,7 +20,7 @@ use Rattle.pep508_questions.specs.Asks.{asked_by, has_quote, is_of_deprecated_ke
 use Rattle.pep508_questions.specs.Looked.{nothing, either, asked_among, lent_questions, lent_children, IsLeft, tree_asks, asked_left, with_trees, Looked}
 use Rattle.pep508_questions.proofs.Asking.{lent_asks}
 use Rattle.pep508_questions.proofs.Putting.{with_all, asks_with}
-use Rattle.pep508_questions.proofs.Tests.{or_false, or_assoc, or_swap, or_turned}
+use Rattle.pep508_questions.proofs.Tests.{or_false, or_assoc, or_swap}
 
 pub asked_same : (a b : Asked) → a.single_quote ≡ b.single_quote → a.deprecated_key ≡ b.deprecated_key →
     a.other_bound ≡ b.other_bound → a ≡ b
