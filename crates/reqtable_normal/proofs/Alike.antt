@@ -1,5 +1,6 @@
 -- Lines that say the same are written alike.
-use Rattle.std.proofs.Common.{◌≡◌, ◌∙◌, ℕ, Bool, true, false, not, cond, List, [], ◌∷◌, ◌++◌, None, inl, inr, refl, ap, sym, subst}
+use Rattle.std.proofs.Common.{◌≡◌, ◌∙◌, ℕ, Bool, true, false, not, cond, List, [], ◌∷◌, ◌++◌, None, inl, inr}
+use Rattle.std.proofs.Common.{refl, ap, sym, subst}
 use Rattle.std.specs.List.{AllByRecursion, AllZip, flat_map}
 use Rattle.pep440_specifier.specs.Matching.{SpecifierRecord}
 use Rattle.pep440_specifier_list.specs.Lists.{IsInOrder}
@@ -126,7 +127,8 @@ one_order given list other h k =
     sym (in_order_again list other h.sorted
     (record { sorted = k.sorted; stable = λ x. k.stable x ∙ sym (h.stable x) }))
 
-prints_itself : (told source : Source) → SaysSource source told → is_url source ≡ false → PrintsAlike told told
+prints_itself : (told source : Source) → SaysSource source told → is_url source ≡ false →
+    PrintsAlike told told
 prints_itself Any source h n Any Any a b = refl
 prints_itself Any source h n Any (Specifiers list) a b = absurd b
 prints_itself Any source h n Any (Url url) a b = absurd b

@@ -35,17 +35,20 @@ turned asks others h = record {
   };
 }
 
-same_text : (admits : Admits) (candidates : List Candidate) (asks others : List Front) → AreAlike asks others →
-    (text : List ℕ) → IsAnswerText admits asks candidates text → IsAnswerText admits others candidates text
+same_text : (admits : Admits) (candidates : List Candidate) (asks others : List Front) →
+    AreAlike asks others → (text : List ℕ) → IsAnswerText admits asks candidates text →
+    IsAnswerText admits others candidates text
 same_text admits candidates asks others alike text h =
     (h.0, same_answer admits candidates asks others alike h.0 h.1, h.2)
 
-said_text : (admits : Admits) (candidates : List Candidate) (shown said : List Front) → AllZip Says shown said →
-    (text : List ℕ) → IsAnswerText admits said candidates text ↔ IsAnswerText admits shown candidates text
+said_text : (admits : Admits) (candidates : List Candidate) (shown said : List Front) →
+    AllZip Says shown said → (text : List ℕ) →
+    IsAnswerText admits said candidates text ↔ IsAnswerText admits shown candidates text
 said_text admits candidates shown said say text =
-    let alike = said_alike shown said say in
-    (same_text admits candidates said shown (turned shown said alike) text,
-    same_text admits candidates shown said alike text)
+    let alike = said_alike shown said say in (
+      same_text admits candidates said shown (turned shown said alike) text,
+      same_text admits candidates shown said alike text,
+    )
 
 same_lines : (lines others : List LineRecord) (read : Result (List LineRecord) LinesFault) → read ≡ Ok lines →
     read ≡ Ok others → lines ≡ others
@@ -55,7 +58,8 @@ module _ (law : LinesLaw) (vars others : Variables) (bytes text : List ℕ) (sai
     (read : requirements_of vars bytes ≡ Ok said) (normal : IsNormalText said text) where
   are_again : AllByRecursion IsReadAgain (kept normal.lines)
   are_again =
-      kept_again vars bytes said normal.lines ((law vars bytes said).0 read) normal.are_normal normal.faultless
+      kept_again vars bytes said normal.lines ((law vars bytes said).0 read) normal.are_normal
+      normal.faultless
 
   abbrev again : List LineRecord
   again = lines_read 1 (kept normal.lines) are_again

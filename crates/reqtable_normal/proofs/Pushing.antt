@@ -1,5 +1,6 @@
 -- The text of one line more.
-use Rattle.std.proofs.Common.{◌≡◌, ◌↔◌, ◌∙◌, ℕ, Bool, true, false, not, cond, IsTrue, List, [], ◌∷◌, ◌++◌, append-nil, refl, ap, sym}
+use Rattle.std.proofs.Common.{◌≡◌, ◌↔◌, ◌∙◌, ℕ, Bool, true, false, not, cond, IsTrue, List, [], ◌∷◌, ◌++◌}
+use Rattle.std.proofs.Common.{append-nil, refl, ap, sym}
 use Rattle.std.specs.List.{flat_map}
 use Rattle.pep508_diagram.specs.Diagram.{Leaf}
 use Rattle.pep508_tree.specs.Meaning.{NodeRecord, IsTree, diagram_of}

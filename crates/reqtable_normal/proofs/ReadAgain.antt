@@ -1,5 +1,6 @@
 -- All lines that are written are read again, and ask for the same.
-use Rattle.std.proofs.Common.{◌≡◌, ◌∙◌, ℕ, ◌+◌, Bool, true, false, not, cond, List, [], ◌∷◌, ◌++◌, map, filter, None, refl, ap, sym, subst}
+use Rattle.std.proofs.Common.{◌≡◌, ◌∙◌, ℕ, ◌+◌, Bool, true, false, not, cond, List, [], ◌∷◌, ◌++◌, map}
+use Rattle.std.proofs.Common.{filter, None, refl, ap, sym, subst}
 use Rattle.std.specs.List.{AllByRecursion, AllZip, enumerate_from, flat_map}
 use Rattle.pep508_diagram.specs.Diagram.{Diagram, Leaf, Test}
 use Rattle.pep508_diagram.specs.Question.{Question, Valuation, truth}
@@ -64,12 +65,15 @@ are_numbered : (vars : Variables) (n : ℕ) (lines : List NormalLine) (h : AllBy
     AllZip (IsNumberedLine vars) (enumerate_from n (map printed lines)) (lines_read n lines h)
 are_numbered vars n [] h = tt
 are_numbered vars n (line ∷ lines) h = (
-  (record {
-    marker = h.0.marker;
-    is_text = h.0.is_text;
-    has_url = has_its_url vars line.front.source h.0.no_url;
-    formula = refl;
-  }, refl),
+  (
+    record {
+      marker = h.0.marker;
+      is_text = h.0.is_text;
+      has_url = has_its_url vars line.front.source h.0.no_url;
+      formula = refl;
+    },
+    refl,
+  ),
   are_numbered vars (n + 1) lines h.1,
 )
 
@@ -82,15 +86,18 @@ text_is_joined : (lines : List NormalLine) → flat_map line_text lines ≡ join
 text_is_joined [] = refl
 text_is_joined (line ∷ lines) = ap (λ text. line_text line ++ text) (text_is_joined lines)
 
-pub text_is_read : (vars : Variables) (lines : List NormalLine) (h : AllByRecursion IsReadAgain (kept lines)) →
+pub text_is_read : (vars : Variables) (lines : List NormalLine)
+    (h : AllByRecursion IsReadAgain (kept lines)) →
     IsRequirementsText vars (lines_text lines) (lines_read 1 (kept lines) h)
 text_is_read vars lines h =
     let texts = map printed (kept lines) in
     let written = are_written (kept lines) h in
-    subst (λ text. IsRequirementsText vars text (lines_read 1 (kept lines) h)) (sym (text_is_joined (kept lines)))
-    (joined_encoded texts written,
-    subst (λ ls. AllZip (IsNumberedLine vars) ls (lines_read 1 (kept lines) h)) (sym (joined_lines texts written))
-    (are_numbered vars 1 (kept lines) h))
+    let read = lines_read 1 (kept lines) h in
+    subst (λ text. IsRequirementsText vars text read) (sym (text_is_joined (kept lines))) (
+      joined_encoded texts written,
+      subst (λ ls. AllZip (IsNumberedLine vars) ls read) (sym (joined_lines texts written))
+          (are_numbered vars 1 (kept lines) h),
+    )
 
 -- ---- what they ask for
 
@@ -115,16 +122,18 @@ pub never_fails : (d : Diagram Question) (v : Valuation) → never_holds d ≡ t
 never_fails (Leaf b) v h = not_never b h
 never_fails (Test q low high) v h = absurd (cc)
 
+abbrev fronts : List LineRecord → List Front
+fronts lines = map (λ l. l.front) lines
+
 module _ (v : Valuation) where
   more_asked : (a b : Bool) → a ≡ b → (shown s : LineRecord) (others said : List LineRecord) →
-      Says shown.front s.front → AllZip Says (map (λ l. l.front) others) (map (λ l. l.front) said) →
-      AllZip Says (map (λ l. l.front) (cond a (shown ∷ others) others)) (map (λ l. l.front) (cond b (s ∷ said) said))
+      Says shown.front s.front → AllZip Says (fronts others) (fronts said) →
+      AllZip Says (fronts (cond a (shown ∷ others) others)) (fronts (cond b (s ∷ said) said))
   more_asked a b e shown s others said says rest =
-      subst (λ fronts. AllZip Says fronts (map (λ l. l.front) (cond b (s ∷ said) said)))
-      (sym (front_map a shown others))
-      (subst (λ fronts. AllZip Says (cond a (shown.front ∷ map (λ l. l.front) others) (map (λ l. l.front) others)) fronts)
+      subst (λ fs. AllZip Says fs (fronts (cond b (s ∷ said) said))) (sym (front_map a shown others))
+      (subst (λ fs. AllZip Says (cond a (shown.front ∷ fronts others) (fronts others)) fs)
       (sym (front_map b s said))
-      (same_by a b e s.front shown.front (map (λ l. l.front) said) (map (λ l. l.front) others) says rest))
+      (same_by a b e s.front shown.front (fronts said) (fronts others) says rest))
 
   asked_by : (n : ℕ) (s : LineRecord) (said : List LineRecord) (line : NormalLine) (lines : List NormalLine)
       (t : Bool) → never_holds line.diagram ≡ t → IsNormalOf s line →
@@ -136,7 +145,7 @@ module _ (v : Valuation) where
   asked_by n s said line lines true e normal rest h =
       let never : applies v s ≡ false = sym (normal.diagram.means v) ∙ never_fails line.diagram v e in
       let all = filter (applies v) said in
-      subst (λ b. AllZip Says (asks_of v (lines_read n (kept lines) h)) (map (λ l. l.front) (cond b (s ∷ all) all)))
+      subst (λ b. AllZip Says (asks_of v (lines_read n (kept lines) h)) (fronts (cond b (s ∷ all) all)))
       (sym never) (rest n h)
   asked_by n s said line lines false e normal rest h =
       let shown = line_read n line h.0 in
@@ -160,10 +169,13 @@ module _ (v : Valuation) where
 read_normal : (n : ℕ) (lines : List NormalLine) (h : AllByRecursion IsReadAgain lines) →
     AllZip IsNormalOf (lines_read n lines h) lines
 read_normal n [] h = tt
-read_normal n (line ∷ lines) h = (record {
-  front = record { name = refl; extras = refl; source = h.0.in_order };
-  diagram = h.0.diagram;
-}, read_normal (n + 1) lines h.1)
+read_normal n (line ∷ lines) h = (
+  record {
+    front = record { name = refl; extras = refl; source = h.0.in_order };
+    diagram = h.0.diagram;
+  },
+  read_normal (n + 1) lines h.1,
+)
 
 kept_by : {X : Type 0} (P : X → Type 0) (b : Bool) (x : X) (xs : List X) → P x → AllByRecursion P xs →
     AllByRecursion P (cond b (x ∷ xs) xs)

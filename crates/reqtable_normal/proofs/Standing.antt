@@ -1,5 +1,7 @@
 -- What is written of lines that were read is what the records say that they stand for.
-use Rattle.std.proofs.Common.{◌≡◌, ◌∙◌, ℕ, suc, ◌+◌, ◌<◌, List, [], ◌∷◌, ◌++◌, length, take, drop, drop-cons, get_or, map, not, Option, Some, None, Result, Ok, Err, refl, ap, sym, subst, append_assoc}
+use Rattle.std.proofs.Common.{◌≡◌, ◌∙◌, ℕ, suc, ◌+◌, ◌<◌, List, [], ◌∷◌, ◌++◌, length, take, drop, drop-cons}
+use Rattle.std.proofs.Common.{get_or, map, not, Option, Some, None, Result, Ok, Err, refl, ap, sym, subst}
+use Rattle.std.proofs.Common.{append_assoc}
 use Rattle.std.proofs.lemmas.List.{map-append, take-append-drop, take_more}
 use Rattle.std.proofs.lemmas.List.Elements.{filter-append}
 use Rattle.std.specs.List.{AllByRecursion, AllZip, flat_map}
@@ -43,12 +45,14 @@ source_said vars (Url text) (Some (asked.Url url)) h = tt
 
 -- ---- the text of some lines
 
-joined_more : {X : Type 0} (f : X → List ℕ) (xs ys : List X) → flat_map f (xs ++ ys) ≡ flat_map f xs ++ flat_map f ys
+joined_more : {X : Type 0} (f : X → List ℕ) (xs ys : List X) →
+    flat_map f (xs ++ ys) ≡ flat_map f xs ++ flat_map f ys
 joined_more f [] ys = refl
 joined_more f (x ∷ xs) ys =
     ap (λ t. f x ++ t) (joined_more f xs ys) ∙ sym (append_assoc (f x) (flat_map f xs) (flat_map f ys))
 
-text_more : (lines others : List NormalLine) → lines_text (lines ++ others) ≡ lines_text lines ++ lines_text others
+text_more : (lines others : List NormalLine) →
+    lines_text (lines ++ others) ≡ lines_text lines ++ lines_text others
 text_more lines others =
     ap (λ ls. flat_map line_text ls) (filter-append (λ line. not (never_holds line.diagram)) lines others)
     ∙ joined_more line_text (kept lines) (kept others)
@@ -65,7 +69,8 @@ module _ (nodes : List NodeRecord) where
   pub none_written : AreWritten [] []
   none_written = record { faultless = tt; is_text = refl }
 
-  module _ (lines : List Line) (i : ℕ) (line : Line) (below : i < length lines) (is : line ≡ get_or lines i line) where
+  module _ (lines : List Line) (i : ℕ) (line : Line) (below : i < length lines)
+      (is : line ≡ get_or lines i line) where
     more : normals (take (i + 1) lines) ≡ normals (take i lines) ++ line_normal nodes line ∷ []
     more =
         ap normals (take_more lines i line below ∙ ap (λ l. take i lines ++ l ∷ []) (sym is))
@@ -76,8 +81,8 @@ module _ (nodes : List NodeRecord) where
         new ≡ old ++ lines_text (line_normal nodes line ∷ []) → AreWritten (take (i + 1) lines) new
     one_more old new h none e = record {
       faultless = subst (AllByRecursion (λ line. normal_fault line ≡ None)) (sym more)
-          (all_append (λ line. normal_fault line ≡ None) (normals (take i lines)) (line_normal nodes line ∷ [])
-          h.faultless (none, tt));
+          (all_append (λ line. normal_fault line ≡ None) (normals (take i lines))
+          (line_normal nodes line ∷ []) h.faultless (none, tt));
       is_text = e ∙ ap (λ t. t ++ lines_text (line_normal nodes line ∷ [])) h.is_text
           ∙ sym (text_more (normals (take i lines)) (line_normal nodes line ∷ [])) ∙ ap lines_text (sym more);
     }
@@ -85,7 +90,8 @@ module _ (nodes : List NodeRecord) where
     split : lines ≡ take i lines ++ line ∷ drop (suc i) lines
     split =
         sym (take-append-drop i lines)
-        ∙ ap (λ ls. take i lines ++ ls) (drop-cons lines i line below ∙ ap (λ l. l ∷ drop (suc i) lines) (sym is))
+        ∙ ap (λ ls. take i lines ++ ls)
+        (drop-cons lines i line below ∙ ap (λ l. l ∷ drop (suc i) lines) (sym is))
 
   -- ---- what they stand for
 
@@ -148,7 +154,11 @@ module _ (nodes : List NodeRecord) where
           normal = rest.normal;
           split = ap (λ ls. s ∷ ls) rest.split;
           before = (
-            record { normal = line_normal nodes first; is_normal = one_normal first s stand.0; no_fault = none.0 },
+            record {
+              normal = line_normal nodes first;
+              is_normal = one_normal first s stand.0;
+              no_fault = none.0;
+            },
             rest.before,
           );
           numbered = rest.numbered;
@@ -156,8 +166,8 @@ module _ (nodes : List NodeRecord) where
           is_fault = rest.is_fault;
         }
 
-    pub first_fault : (lines : List Line) (i : ℕ) (line : Line) → i < length lines → line ≡ get_or lines i line →
-        (old : List ℕ) → AreWritten (take i lines) old → (number : ℕ) (cause : NormalCause) →
+    pub first_fault : (lines : List Line) (i : ℕ) (line : Line) → i < length lines →
+        line ≡ get_or lines i line → (old : List ℕ) → AreWritten (take i lines) old → (number : ℕ) (cause : NormalCause) →
         number ≡ line.number → normal_fault (line_normal nodes line) ≡ Some cause → (said : List LineRecord) →
         AllZip (StandsFor vars nodes) lines said → IsFirstFault said number cause
     first_fault lines i line below is old h number cause e fault said stand =
@@ -166,7 +176,8 @@ module _ (nodes : List NodeRecord) where
 
     -- so is the refusal of all lines for that of one
     pub refused : (X Y : Type 0) (lines : List Line) (i : ℕ) (line : Line) → i < length lines →
-        line ≡ get_or lines i line → (old new : List ℕ) → AreWritten (take i lines) old → (error : NormalError) →
+        line ≡ get_or lines i line → (old new : List ℕ) → AreWritten (take i lines) old →
+        (error : NormalError) →
         PushesLine {X = X} nodes line old new (Err error) → (said : List LineRecord) →
         AllZip (StandsFor vars nodes) lines said → Normalizes {Y = Y} said (Err error)
     refused X Y lines i line below is old new h (errors.Line number cause) e said stand =

@@ -14,7 +14,8 @@ returns-in_err-push_line c = λ vars said stand.
     let nodes = c.args.interner.now.nodes in
     let P : List Line → Type 0 = λ lines. AllZip (StandsFor vars nodes) lines said in
     passed_on said c.from_residual.result c.in_err-push_line.field-0.0 c.from_residual.ensures.1
-    (refused nodes vars c.are_sound.ensures (Unit {0}) Global c.lines-line-items.result.now c.loop-line.line-index c.line-item.result
+    (refused nodes vars c.are_sound.ensures (Unit {0}) Global c.lines-line-items.result.now
+    c.loop-line.line-index c.line-item.result
     c.loop-line-test.true c.line-item.is (string_bytes c.loop-line.text) (string_bytes c.push_line.new.text)
     c.loop-line.invariant c.in_err-push_line.field-0.0 c.in_err-push_line.ensures said
     (subst P (sym c.lines-line-items.ensures) stand))

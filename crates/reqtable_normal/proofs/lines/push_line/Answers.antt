@@ -8,7 +8,8 @@ returns-in_ok-push_requirement c =
     let nodes = c.args.interner.now.nodes in
     let line = c.args.line.now in (
       sym c.in_ok-cause.ensures ∙ c.in_default.is,
-      pushed (line_normal nodes line) (string_bytes c.args.text.now) (string_bytes c.push_requirement.new.text)
+      pushed (line_normal nodes line) (string_bytes c.args.text.now)
+          (string_bytes c.push_requirement.new.text)
           (false_told nodes c.are_sound.ensures line.requirement.marker c.requires c.is_false.result false
           c.is_false.ensures c.if-not-is_false.true)
           c.in_ok-push_requirement.ensures,
