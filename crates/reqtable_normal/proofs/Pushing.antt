@@ -27,14 +27,14 @@ module _ (nodes : List NodeRecord) (sound : AreSound nodes) (tree : Tree) (made 
   differ : false ≡ true → ⊥
   differ e = absurd (cc)
 
-  -- what `is_false` answers
-  tells : (b : Bool) → (IsTrue b) ↔ (tree ≡ never) → never_holds (diagram_of nodes tree) ≡ b
-  tells true h = never_named (h.0 refl)
-  tells false h = sometimes_by (never_holds (diagram_of nodes tree)) refl (λ e. differ (h.1 e))
+  told_by : (b : Bool) → (IsTrue b) ↔ (tree ≡ never) → b ≡ never_holds (diagram_of nodes tree)
+  told_by true h = sym (never_named (h.0 refl))
+  told_by false h = sym (sometimes_by (never_holds (diagram_of nodes tree)) refl (λ e. differ (h.1 e)))
 
-  pub false_told : (b t : Bool) → (IsTrue b) ↔ (tree ≡ never) → b ≡ t →
-      never_holds (diagram_of nodes tree) ≡ t
-  false_told b t h e = tells b h ∙ e
+-- what `is_false` answers
+pub told : (nodes : List NodeRecord) (tree : Tree) (answer : Bool) → AreSound nodes → IsTree nodes tree →
+    (IsTrue answer) ↔ (tree ≡ never) → answer ≡ never_holds (diagram_of nodes tree)
+told nodes tree answer sound made h = told_by nodes sound tree made answer h
 
 pub pushed : (line : NormalLine) (old new : List ℕ) → never_holds line.diagram ≡ false →
     new ≡ old ++ line_text line → new ≡ old ++ lines_text (line ∷ [])

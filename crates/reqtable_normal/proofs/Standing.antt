@@ -167,7 +167,8 @@ module _ (nodes : List NodeRecord) where
         }
 
     pub first_fault : (lines : List Line) (i : ℕ) (line : Line) → i < length lines →
-        line ≡ get_or lines i line → (old : List ℕ) → AreWritten (take i lines) old → (number : ℕ) (cause : NormalCause) →
+        line ≡ get_or lines i line → (old : List ℕ) → AreWritten (take i lines) old →
+        (number : ℕ) (cause : NormalCause) →
         number ≡ line.number → normal_fault (line_normal nodes line) ≡ Some cause → (said : List LineRecord) →
         AllZip (StandsFor vars nodes) lines said → IsFirstFault said number cause
     first_fault lines i line below is old h number cause e fault said stand =
