@@ -1,5 +1,6 @@
 -- Of what kinds the questions between boundaries are.
-use Rattle.std.proofs.Common.{◌≡◌, ◌⊎◌, ℕ, ◌<◌, ◌==◌, ◌^◌, ◌||◌, Bool, true, false, not, nat_lt, List, [], ◌∷◌, map, length, get_or, suc, refl, sym, ap, ap₂, ◌∙◌, arith, inl, inr}
+use Rattle.std.proofs.Common.{◌≡◌, ◌⊎◌, ℕ, ◌<◌, ◌==◌, ◌^◌, ◌||◌, Bool, true, false, not, nat_lt, List, []}
+use Rattle.std.proofs.Common.{◌∷◌, map, length, get_or, suc, refl, sym, ap, ap₂, ◌∙◌, arith, inl, inr}
 use Rattle.std.proofs.lemmas.Bool.{cases_Bool, lt-ltb}
 use Rattle.std.specs.Cmp.{unsigned_Decides}
 use Rattle.std.specs.List.{list_any}
@@ -11,7 +12,8 @@ use Rattle.pep508_diagram.specs.declared.branch.Branch.{Branch}
 use Rattle.pep508_diagram.specs.declared.variable.VersionVariable.{VersionVariable}
 use Rattle.pep508_diagram.specs.Question.{Question, VersionBelow, TextBelow}
 use Rattle.pep508_tree.specs.Tree.{Tree}
-use Rattle.pep508_questions.specs.Asks.{stands_at, is_quoted, is_other_version, has_quote, is_of_deprecated_key, is_other_bound}
+use Rattle.pep508_questions.specs.Asks.{stands_at, is_quoted, is_other_version, has_quote}
+use Rattle.pep508_questions.specs.Asks.{is_of_deprecated_key, is_other_bound}
 use Rattle.pep508_questions.specs.Looked.{asked_among}
 use Rattle.pep508_questions.proofs.Walking.{asked_same}
 

@@ -1,5 +1,6 @@
 -- What a diagram is of which no question passes a test.
-use Rattle.std.proofs.Common.{◌≡◌, ◌≢◌, ◌↔◌, ℕ, ◌<◌, ◌==◌, ◌^◌, ◌||◌, Bool, true, false, not, nat_lt, List, [], ◌∷◌, Option, Some, None, refl, ap, ◌∙◌, true≢false, chars, is_some}
+use Rattle.std.proofs.Common.{◌≡◌, ◌≢◌, ◌↔◌, ℕ, ◌<◌, ◌==◌, ◌^◌, ◌||◌, Bool, true, false, not, nat_lt, List}
+use Rattle.std.proofs.Common.{[], ◌∷◌, Option, Some, None, refl, ap, ◌∙◌, true≢false, chars, is_some}
 use Rattle.std.proofs.lemmas.Bool.{ltb-true, lt-ltb}
 use Rattle.std.proofs.lemmas.List.Elements.{All-from_recursion}
 use Rattle.std.proofs.lemmas.List.Folds.{list_any_none}
@@ -14,8 +15,10 @@ use Rattle.pep508_diagram.specs.Question.{Question, VersionBelow, TextBelow, IsS
 use Rattle.pep508_marker_text.specs.ReleaseBounds.{IsPlainRelease, AsksOfReleases, HasReleasesAlone}
 use Rattle.pep508_reading_back.specs.Questions.{AllQuestions}
 use Rattle.pep508_reading_back.specs.Readable.{IsUnquoted}
-use Rattle.pep508_reading_back.specs.Unquoted.{AsksUnquoted, AsksOfModernKey, IsPlainDiagram, IsUnquotedDiagram}
-use Rattle.pep508_questions.specs.Asks.{asks_any, is_quoted, has_quote, is_of_deprecated_key, is_other_version, is_other_bound}
+use Rattle.pep508_reading_back.specs.Unquoted.{AsksUnquoted, AsksOfModernKey, IsPlainDiagram}
+use Rattle.pep508_reading_back.specs.Unquoted.{IsUnquotedDiagram}
+use Rattle.pep508_questions.specs.Asks.{asks_any, is_quoted, has_quote, is_of_deprecated_key}
+use Rattle.pep508_questions.specs.Asks.{is_other_version, is_other_bound}
 
 neither : (a b : Bool) → (a || b) ≡ false → (a ≡ false) × (b ≡ false)
 neither true b e = absurd (true≢false e)

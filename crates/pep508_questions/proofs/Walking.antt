@@ -1,5 +1,6 @@
 -- One node after another, the highest places first.
-use Rattle.std.proofs.Common.{◌≡◌, ℕ, ◌+◌, ◌<◌, ◌||◌, suc, Bool, true, false, List, [], ◌∷◌, ◌++◌, map, refl, ap, sym, subst, ◌∙◌, arith, Ordering, nat_cmp}
+use Rattle.std.proofs.Common.{◌≡◌, ℕ, ◌+◌, ◌<◌, ◌||◌, suc, Bool, true, false, List, [], ◌∷◌, ◌++◌, map, refl}
+use Rattle.std.proofs.Common.{ap, sym, subst, ◌∙◌, arith, Ordering, nat_cmp}
 use Rattle.std.specs.declared.cmp.Ordering.TheVariants.{Less, Equal, Greater}
 use Rattle.std.specs.Prelude.{IfSome}
 use Rattle.std.specs.Cmp.{ranks}
@@ -17,7 +18,8 @@ use Rattle.pep508_tree.specs.Nodes.{AllChildren, AreSound, signed, turned_branch
 use Rattle.pep508_tree.specs.Roots.{root_of, shown, IfConstant, IsConstant, IsRoot}
 use Rattle.pep508_questions.specs.declared.questions.Asked.{Asked}
 use Rattle.pep508_questions.specs.Asks.{asked_by, has_quote, is_of_deprecated_key, is_other_bound}
-use Rattle.pep508_questions.specs.Looked.{nothing, either, asked_among, lent_questions, lent_children, IsLeft, tree_asks, asked_left, with_trees, Looked}
+use Rattle.pep508_questions.specs.Looked.{nothing, either, asked_among, lent_questions, lent_children, IsLeft}
+use Rattle.pep508_questions.specs.Looked.{tree_asks, asked_left, with_trees, Looked}
 use Rattle.pep508_questions.proofs.Asking.{lent_asks}
 use Rattle.pep508_questions.proofs.Putting.{with_all, asks_with}
 use Rattle.pep508_questions.proofs.Tests.{or_false, or_assoc, or_swap}
