@@ -14,7 +14,8 @@ pub record IsPast (text rest : List ℕ) : Type 0 where
   pub utf8 : IsUtf8 rest
   pub same : is_quoted rest ≡ is_quoted text
 
-module _ (text rest later : List ℕ) (c : ℕ) (past : IsPast text rest) (at : rest ≡ encode_utf8 c ++ later) where
+module _ (text rest later : List ℕ) (c : ℕ) (past : IsPast text rest)
+    (at : rest ≡ encode_utf8 c ++ later) where
   next_quote : ((c == 39) || is_quoted later) ≡ is_quoted text
   next_quote = ap (list_any (λ c. c == 39)) (sym (chars_past_char rest later c past.utf8 at)) ∙ past.same
 

@@ -66,14 +66,16 @@ module _ (P : Tree → Type 0) where
         (texts_all children.negated key children.first children.later.now all)
     lent_all (lent.Flagged flag set unset) all = (all.0, (all.1, tt))
 
-made_of : (nodes : List NodeRecord) (tree : Tree) (node : TreeNode) → IfSome (shown node) (IsRoot nodes tree) →
+made_of : (nodes : List NodeRecord) (tree : Tree) (node : TreeNode) →
+    IfSome (shown node) (IsRoot nodes tree) →
     IfSome (shown node) (AllChildren (IsTree nodes))
 made_of nodes tree (lent.Constant truth) root = tt
 made_of nodes tree (lent.Versions key children) root = root.made
 made_of nodes tree (lent.Texts key children) root = root.made
 made_of nodes tree (lent.Flagged flag set unset) root = root.made
 
-falls_of : (nodes : List NodeRecord) (tree : Tree) (node : TreeNode) → IfSome (shown node) (IsRoot nodes tree) →
+falls_of : (nodes : List NodeRecord) (tree : Tree) (node : TreeNode) →
+    IfSome (shown node) (IsRoot nodes tree) →
     IfSome (shown node) (AllChildren (λ child. child.place < tree.place))
 falls_of nodes tree (lent.Constant truth) root = tt
 falls_of nodes tree (lent.Versions key children) root = root.falls
@@ -88,7 +90,8 @@ all_to f (x ∷ xs) all = (f x all.0, all_to f xs all.1)
 -- ---- a node is looked at
 
 module _ (nodes : List NodeRecord) (sound : AreSound nodes) (tree : Tree) (made : IsTree nodes tree)
-    (node : TreeNode) (is : shown node ≡ root_of nodes tree) (constant : IfConstant node (IsConstant nodes tree))
+    (node : TreeNode) (is : shown node ≡ root_of nodes tree)
+    (constant : IfConstant node (IsConstant nodes tree))
     (root : IfSome (shown node) (IsRoot nodes tree)) where
   children_made : AllByRecursion (IsTree nodes) (lent_children node)
   children_made = lent_all (IsTree nodes) (λ c h. h) node (made_of nodes tree node root)
