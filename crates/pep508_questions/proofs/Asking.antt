@@ -1,5 +1,7 @@
 -- What a tree asks, by the node at its root.
-use Rattle.std.proofs.Common.{◌≡◌, ◌+◌, ◌-◌, ◌<◌, ◌==◌, ◌||◌, inl, inr, Bool, true, false, List, [], ◌∷◌, map, length, get_or, refl, ap, ap₂, sym, ◌∙◌, arith, true≢false, Option, Some, None, if◌then◌else◌}
+use Rattle.std.proofs.Common.{◌≡◌, ◌+◌, ◌-◌, ◌<◌, ◌==◌, ◌||◌, inl, inr, Bool, true, false, List, [], ◌∷◌, map}
+use Rattle.std.proofs.Common.{length, get_or, refl, ap, ap₂, sym, ◌∙◌, arith, true≢false, Option, Some, None}
+use Rattle.std.proofs.Common.{if◌then◌else◌}
 use Rattle.std.proofs.lemmas.Bool.{cases_Bool}
 use Rattle.std.specs.Cmp.{unsigned_Decides}
 use Rattle.std.specs.List.{list_any}
@@ -11,7 +13,8 @@ use Rattle.pep508_diagram.specs.Question.{Question, VersionBelow, TextBelow, IsS
 use Rattle.pep508_tree.specs.declared.root.TreeNode.{TreeNode}
 use Rattle.pep508_tree.specs.declared.root.TreeNode.TheVariants as lent
 use Rattle.pep508_tree.specs.Tree.{Tree, negation}
-use Rattle.pep508_tree.specs.Meaning.{NodeRecord, Versions, Texts, Flagged, node_diagram, diagrams, diagram_of, IsTree}
+use Rattle.pep508_tree.specs.Meaning.{NodeRecord, Versions, Texts, Flagged, node_diagram, diagrams}
+use Rattle.pep508_tree.specs.Meaning.{diagram_of, IsTree}
 use Rattle.pep508_tree.specs.Nodes.{AreSound, node_at, signed, turned_branch}
 use Rattle.pep508_tree.specs.Roots.{root_of, shown, IfConstant, IsConstant}
 use Rattle.pep508_tree.proofs.Diagrams.{diagram_top}

@@ -1,5 +1,6 @@
 -- Of what kinds the questions between boundaries are.
-use Rattle.std.proofs.Common.{◌≡◌, ◌⊎◌, ℕ, ◌<◌, ◌==◌, ◌^◌, ◌||◌, Bool, true, false, not, nat_lt, List, [], ◌∷◌, map, length, get_or, suc, refl, sym, ap, ap₂, ◌∙◌, arith, inl, inr}
+use Rattle.std.proofs.Common.{◌≡◌, ◌⊎◌, ℕ, ◌<◌, ◌==◌, ◌^◌, ◌||◌, Bool, true, false, not, nat_lt, List, []}
+use Rattle.std.proofs.Common.{◌∷◌, map, length, get_or, suc, refl, sym, ap, ap₂, ◌∙◌, arith, inl, inr}
 use Rattle.std.proofs.lemmas.Bool.{cases_Bool, lt-ltb}
 use Rattle.std.specs.Cmp.{unsigned_Decides}
 use Rattle.std.specs.List.{list_any}
@@ -11,7 +12,8 @@ use Rattle.pep508_diagram.specs.declared.branch.Branch.{Branch}
 use Rattle.pep508_diagram.specs.declared.variable.VersionVariable.{VersionVariable}
 use Rattle.pep508_diagram.specs.Question.{Question, VersionBelow, TextBelow}
 use Rattle.pep508_tree.specs.Tree.{Tree}
-use Rattle.pep508_questions.specs.Asks.{stands_at, is_quoted, is_other_version, has_quote, is_of_deprecated_key, is_other_bound}
+use Rattle.pep508_questions.specs.Asks.{stands_at, is_quoted, is_other_version, has_quote}
+use Rattle.pep508_questions.specs.Asks.{is_of_deprecated_key, is_other_bound}
 use Rattle.pep508_questions.specs.Looked.{asked_among}
 use Rattle.pep508_questions.proofs.Walking.{asked_same}
 
@@ -27,7 +29,8 @@ module _ {T : Type 0} (test : Question → Bool) (ask : Boundary T → Question)
       (later : List (Branch T Tree)) → list_any test (map (λ branch. ask branch.boundary) later)
       ≡ list_any (λ branch. at branch.boundary) later
   by_boundary at same [] = refl
-  by_boundary at same (branch ∷ later) = ap₂ (λ a b. a || b) (same branch.boundary) (by_boundary at same later)
+  by_boundary at same (branch ∷ later) =
+      ap₂ (λ a b. a || b) (same branch.boundary) (by_boundary at same later)
 
 pub versions_asked : (key : VersionVariable) (later : List (Branch VersionRecord Tree)) (other : Bool) →
     other ≡ list_any (λ branch. stands_at is_other_version branch.boundary) later →
@@ -40,11 +43,13 @@ versions_asked key later other is =
 
 -- where there is a boundary the key is asked of
 old_key : (key : MarkerValueString) (later : List (Branch (List ℕ) Tree)) → is_deprecated key ≡ true →
-    not (length later == 0) ≡ list_any is_of_deprecated_key (map (λ branch. TextBelow key branch.boundary) later)
+    not (length later == 0)
+    ≡ list_any is_of_deprecated_key (map (λ branch. TextBelow key branch.boundary) later)
 old_key key [] old = refl
 old_key key (branch ∷ later) old =
     ap not (some (cases_Bool (length (branch ∷ later) == 0)))
-    ∙ sym (ap (λ b. b || list_any is_of_deprecated_key (map (λ branch. TextBelow key branch.boundary) later)) old)
+    ∙ sym (ap (λ b. b || list_any is_of_deprecated_key (map (λ branch. TextBelow key branch.boundary) later))
+    old)
   where
     some : ((length (branch ∷ later) == 0) ≡ true) ⊎ ((length (branch ∷ later) == 0) ≡ false) →
         (length (branch ∷ later) == 0) ≡ false

@@ -1,5 +1,6 @@
 -- Single quotes in what is left of a text.
-use Rattle.std.proofs.Common.{◌≡◌, ℕ, ◌==◌, ◌||◌, true, false, List, ◌++◌, length, chars, encode_utf8, sym, ap, ◌∙◌, inl, inr}
+use Rattle.std.proofs.Common.{◌≡◌, ℕ, ◌==◌, ◌||◌, true, false, List, ◌++◌, length, chars, encode_utf8, sym}
+use Rattle.std.proofs.Common.{ap, ◌∙◌, inl, inr}
 use Rattle.std.proofs.lemmas.Bool.{cases_Bool}
 use Rattle.std.proofs.lemmas.Str.{chars-nil, chars_past_char, IsUtf8-past_char}
 use Rattle.std.proofs.lemmas.List.{nil_from_length}
@@ -13,7 +14,8 @@ pub record IsPast (text rest : List ℕ) : Type 0 where
   pub utf8 : IsUtf8 rest
   pub same : is_quoted rest ≡ is_quoted text
 
-module _ (text rest later : List ℕ) (c : ℕ) (past : IsPast text rest) (at : rest ≡ encode_utf8 c ++ later) where
+module _ (text rest later : List ℕ) (c : ℕ) (past : IsPast text rest)
+    (at : rest ≡ encode_utf8 c ++ later) where
   next_quote : ((c == 39) || is_quoted later) ≡ is_quoted text
   next_quote = ap (list_any (λ c. c == 39)) (sym (chars_past_char rest later c past.utf8 at)) ∙ past.same
 

@@ -1,5 +1,6 @@
 -- What a diagram is of which no question passes a test.
-use Rattle.std.proofs.Common.{◌≡◌, ◌≢◌, ◌↔◌, ℕ, ◌<◌, ◌==◌, ◌^◌, ◌||◌, Bool, true, false, not, nat_lt, List, [], ◌∷◌, Option, Some, None, refl, ap, ◌∙◌, true≢false, chars, is_some}
+use Rattle.std.proofs.Common.{◌≡◌, ◌≢◌, ◌↔◌, ℕ, ◌<◌, ◌==◌, ◌^◌, ◌||◌, Bool, true, false, not, nat_lt, List}
+use Rattle.std.proofs.Common.{[], ◌∷◌, Option, Some, None, refl, ap, ◌∙◌, true≢false, chars, is_some}
 use Rattle.std.proofs.lemmas.Bool.{ltb-true, lt-ltb}
 use Rattle.std.proofs.lemmas.List.Elements.{All-from_recursion}
 use Rattle.std.proofs.lemmas.List.Folds.{list_any_none}
@@ -14,8 +15,10 @@ use Rattle.pep508_diagram.specs.Question.{Question, VersionBelow, TextBelow, IsS
 use Rattle.pep508_marker_text.specs.ReleaseBounds.{IsPlainRelease, AsksOfReleases, HasReleasesAlone}
 use Rattle.pep508_reading_back.specs.Questions.{AllQuestions}
 use Rattle.pep508_reading_back.specs.Readable.{IsUnquoted}
-use Rattle.pep508_reading_back.specs.Unquoted.{AsksUnquoted, AsksOfModernKey, IsPlainDiagram, IsUnquotedDiagram}
-use Rattle.pep508_questions.specs.Asks.{asks_any, is_quoted, has_quote, is_of_deprecated_key, is_other_version, is_other_bound}
+use Rattle.pep508_reading_back.specs.Unquoted.{AsksUnquoted, AsksOfModernKey, IsPlainDiagram}
+use Rattle.pep508_reading_back.specs.Unquoted.{IsUnquotedDiagram}
+use Rattle.pep508_questions.specs.Asks.{asks_any, is_quoted, has_quote, is_of_deprecated_key}
+use Rattle.pep508_questions.specs.Asks.{is_other_version, is_other_bound}
 
 neither : (a b : Bool) → (a || b) ≡ false → (a ≡ false) × (b ≡ false)
 neither true b e = absurd (true≢false e)
@@ -77,7 +80,8 @@ key_exactly (IsSet (Contains key text)) = (λ e. e, λ h. h)
 key_exactly (IsSet (Extra name)) = (λ e. tt, λ h. refl)
 key_exactly (IsSet (Arbitrary text)) = (λ e. tt, λ h. refl)
 
-pub modern : (d : Diagram Question) → (asks_any is_of_deprecated_key d ≡ false) ↔ AllQuestions AsksOfModernKey d
+pub modern : (d : Diagram Question) →
+    (asks_any is_of_deprecated_key d ≡ false) ↔ AllQuestions AsksOfModernKey d
 modern = asked_exactly is_of_deprecated_key AsksOfModernKey key_exactly
 
 -- ---- versions that are no releases of epoch 0
@@ -108,7 +112,8 @@ none_large (number ∷ numbers) all =
     nor (not (nat_lt number (2 ^ 64))) (list_any (λ n. not (nat_lt n (2 ^ 64))) numbers)
     (ap not (lt-ltb number (2 ^ 64) all.0)) (none_large numbers all.1)
 
-same_version : (v : VersionRecord) → v.epoch ≡ 0 → v.pre ≡ None → v.post ≡ None → v.dev ≡ None → v.local ≡ [] →
+same_version : (v : VersionRecord) →
+    v.epoch ≡ 0 → v.pre ≡ None → v.post ≡ None → v.dev ≡ None → v.local ≡ [] →
     v.least ≡ None → v.most ≡ None → v ≡ release_record v.release
 same_version v epoch pre post dev local least most = λ i. record {
   epoch = epoch i;
@@ -167,7 +172,8 @@ releases d =
 
 -- ---- none of the three
 
-pub plain : (d : Diagram Question) → ((asks_any has_quote d ≡ false) × (asks_any is_of_deprecated_key d ≡ false)
+pub plain : (d : Diagram Question) →
+    ((asks_any has_quote d ≡ false) × (asks_any is_of_deprecated_key d ≡ false)
     × (asks_any is_other_bound d ≡ false) × (d ≢ Leaf false)) ↔ IsPlainDiagram d
 plain d = (
   λ h. record {

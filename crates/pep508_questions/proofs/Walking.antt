@@ -1,5 +1,6 @@
 -- One node after another, the highest places first.
-use Rattle.std.proofs.Common.{◌≡◌, ℕ, ◌+◌, ◌<◌, ◌||◌, suc, Bool, true, false, List, [], ◌∷◌, ◌++◌, map, refl, ap, sym, subst, ◌∙◌, arith, Ordering, nat_cmp}
+use Rattle.std.proofs.Common.{◌≡◌, ℕ, ◌+◌, ◌<◌, ◌||◌, suc, Bool, true, false, List, [], ◌∷◌, ◌++◌, map, refl}
+use Rattle.std.proofs.Common.{ap, sym, subst, ◌∙◌, arith, Ordering, nat_cmp}
 use Rattle.std.specs.declared.cmp.Ordering.TheVariants.{Less, Equal, Greater}
 use Rattle.std.specs.Prelude.{IfSome}
 use Rattle.std.specs.Cmp.{ranks}
@@ -17,7 +18,8 @@ use Rattle.pep508_tree.specs.Nodes.{AllChildren, AreSound, signed, turned_branch
 use Rattle.pep508_tree.specs.Roots.{root_of, shown, IfConstant, IsConstant, IsRoot}
 use Rattle.pep508_questions.specs.declared.questions.Asked.{Asked}
 use Rattle.pep508_questions.specs.Asks.{asked_by, has_quote, is_of_deprecated_key, is_other_bound}
-use Rattle.pep508_questions.specs.Looked.{nothing, either, asked_among, lent_questions, lent_children, IsLeft, tree_asks, asked_left, with_trees, Looked}
+use Rattle.pep508_questions.specs.Looked.{nothing, either, asked_among, lent_questions, lent_children, IsLeft}
+use Rattle.pep508_questions.specs.Looked.{tree_asks, asked_left, with_trees, Looked}
 use Rattle.pep508_questions.proofs.Asking.{lent_asks}
 use Rattle.pep508_questions.proofs.Putting.{with_all, asks_with}
 use Rattle.pep508_questions.proofs.Tests.{or_false, or_assoc, or_swap}
@@ -64,14 +66,16 @@ module _ (P : Tree → Type 0) where
         (texts_all children.negated key children.first children.later.now all)
     lent_all (lent.Flagged flag set unset) all = (all.0, (all.1, tt))
 
-made_of : (nodes : List NodeRecord) (tree : Tree) (node : TreeNode) → IfSome (shown node) (IsRoot nodes tree) →
+made_of : (nodes : List NodeRecord) (tree : Tree) (node : TreeNode) →
+    IfSome (shown node) (IsRoot nodes tree) →
     IfSome (shown node) (AllChildren (IsTree nodes))
 made_of nodes tree (lent.Constant truth) root = tt
 made_of nodes tree (lent.Versions key children) root = root.made
 made_of nodes tree (lent.Texts key children) root = root.made
 made_of nodes tree (lent.Flagged flag set unset) root = root.made
 
-falls_of : (nodes : List NodeRecord) (tree : Tree) (node : TreeNode) → IfSome (shown node) (IsRoot nodes tree) →
+falls_of : (nodes : List NodeRecord) (tree : Tree) (node : TreeNode) →
+    IfSome (shown node) (IsRoot nodes tree) →
     IfSome (shown node) (AllChildren (λ child. child.place < tree.place))
 falls_of nodes tree (lent.Constant truth) root = tt
 falls_of nodes tree (lent.Versions key children) root = root.falls
@@ -86,7 +90,8 @@ all_to f (x ∷ xs) all = (f x all.0, all_to f xs all.1)
 -- ---- a node is looked at
 
 module _ (nodes : List NodeRecord) (sound : AreSound nodes) (tree : Tree) (made : IsTree nodes tree)
-    (node : TreeNode) (is : shown node ≡ root_of nodes tree) (constant : IfConstant node (IsConstant nodes tree))
+    (node : TreeNode) (is : shown node ≡ root_of nodes tree)
+    (constant : IfConstant node (IsConstant nodes tree))
     (root : IfSome (shown node) (IsRoot nodes tree)) where
   children_made : AllByRecursion (IsTree nodes) (lent_children node)
   children_made = lent_all (IsTree nodes) (λ c h. h) node (made_of nodes tree node root)

@@ -4,7 +4,8 @@ ghost use Rattle.std.specs.Prelude.{◌≡◌, ◌^◌, false, not, nat_lt, [], 
 ghost use Rattle.std.specs.List.{list_any};
 ghost use Rattle.pep508_diagram.specs.declared.variable.VersionVariable.{VersionVariable};
 ghost use Rattle.pep508_diagram.specs.Question.{VersionBelow, TextBelow, IsSet};
-ghost use Rattle.pep508_questions.specs.Asks.{stands_at, is_quoted, flag_has_quote, flag_is_of_deprecated_key};
+ghost use Rattle.pep508_questions.specs.Asks.{stands_at, is_quoted, flag_has_quote};
+ghost use Rattle.pep508_questions.specs.Asks.{flag_is_of_deprecated_key};
 ghost use Rattle.pep508_questions.specs.Asks.{is_other_version};
 ghost use Rattle.pep508_questions.specs.Looked.{asked_among};
 

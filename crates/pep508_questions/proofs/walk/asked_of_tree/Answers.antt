@@ -16,7 +16,8 @@ loop-next-smaller c =
 
 pub loop-next-preserved : goal.loop-next-preserved
 loop-next-preserved c =
-    subst (AreLeft c.args.interner.now.nodes c.args.tree c.look_at.new.left.entries) (sym c.either-asked.ensures)
+    subst (AreLeft c.args.interner.now.nodes c.args.tree c.look_at.new.left.entries)
+    (sym c.either-asked.ensures)
     (left_on c.args.interner.now.nodes c.args.tree c.loop-next.left.entries c.pop_last.new.self.entries _
     c.in-Some.ensures.removal c.loop-next.asked c.loop-next.invariant c.look_at.new.left.entries _
     c.in_ok-look_at.ensures)
