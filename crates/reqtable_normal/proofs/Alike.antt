@@ -1,6 +1,6 @@
 -- Lines that say the same are written alike.
 use Rattle.std.proofs.Common.{◌≡◌, ◌∙◌, ℕ, Bool, true, false, not, cond, List, [], ◌∷◌, ◌++◌, None, inl, inr}
-use Rattle.std.proofs.Common.{refl, ap, sym, subst}
+use Rattle.std.proofs.Common.{Option, Some, if◌then◌else◌, refl, ap, sym, subst}
 use Rattle.std.specs.List.{AllByRecursion, AllZip, flat_map}
 use Rattle.pep440_specifier.specs.Matching.{SpecifierRecord}
 use Rattle.pep440_specifier_list.specs.Lists.{IsInOrder}
@@ -19,6 +19,9 @@ use Rattle.reqtable_requirements.specs.LineReading.{LineRecord}
 use Rattle.reqtable_normal.specs.Meant.{LeavesOut, NeverApplies, PrintsAlike, SayAlike}
 use Rattle.reqtable_normal.specs.Normalized.{NormalLine, IsNormalOf, IsNormalText, never_holds, kept}
 use Rattle.reqtable_normal.specs.Normalized.{normal_fault, line_text, lines_text}
+use Rattle.reqtable_normal.specs.Normalized.{IsFirstFault, marker_fault}
+use Rattle.reqtable_normal.specs.declared.error.NormalCause.{NormalCause}
+use Rattle.reqtable_normal.specs.declared.error.NormalCause.TheVariants as cause
 use Rattle.reqtable_normal.proofs.Faultless.{faultless_is_sound}
 
 -- ---- lines that say the same
@@ -168,3 +171,43 @@ one_text said text other h k =
     h.is_text
     ∙ all_alike said said h.lines k.lines (say_themselves said h.lines h.are_normal h.faultless) h.are_normal
     k.are_normal ∙ sym k.is_text
+
+-- ---- no fault
+
+url_said : (shown said : Source) → SaysSource shown said → is_url shown ≡ is_url said
+url_said Any Any h = refl
+url_said Any (Specifiers given) h = absurd h
+url_said Any (Url text) h = absurd h
+url_said (Specifiers list) Any h = absurd h
+url_said (Specifiers list) (Specifiers given) h = refl
+url_said (Specifiers list) (Url text) h = absurd h
+url_said (Url shown) Any h = absurd h
+url_said (Url shown) (Specifiers given) h = absurd h
+url_said (Url shown) (Url text) h = refl
+
+faults_alike : (s : LineRecord) (line other : NormalLine) → IsNormalOf s line → IsNormalOf s other →
+    normal_fault line ≡ normal_fault other
+faults_alike s line other h k =
+    let url = url_said line.front.source s.front.source h.front.source
+    ∙ sym (url_said other.front.source s.front.source k.front.source) in
+    let diagram = diagrams_alike s s line other h k (λ v. refl) in
+    λ i. if url i then Some cause.Url else marker_fault (diagram i)
+
+no_both : (fault : Option NormalCause) (cause : NormalCause) → fault ≡ Some cause → fault ≡ None → ⊥
+no_both fault cause e h = cc
+
+none_behind : (front : List LineRecord) (s : LineRecord) (back : List LineRecord) (line : NormalLine)
+    (cause : NormalCause) → IsNormalOf s line → normal_fault line ≡ Some cause → (lines : List NormalLine) →
+    AllZip IsNormalOf (front ++ s ∷ back) lines → AllByRecursion (λ line. normal_fault line ≡ None) lines → ⊥
+none_behind [] s back line cause is fault [] h none = absurd h
+none_behind [] s back line cause is fault (other ∷ lines) h none =
+    no_both (normal_fault line) cause fault (faults_alike s line other is h.0 ∙ none.0)
+none_behind (first ∷ front) s back line cause is fault [] h none = absurd h
+none_behind (first ∷ front) s back line cause is fault (other ∷ lines) h none =
+    none_behind front s back line cause is fault lines h.1 none.1
+
+pub no_fault : (said : List LineRecord) (text : List ℕ) (number : ℕ) (cause : NormalCause) →
+    IsNormalText said text → IsFirstFault said number cause → ⊥
+no_fault said text number cause h f =
+    none_behind f.front f.line f.back f.normal cause f.is_normal f.is_fault h.lines
+    (subst (λ ls. AllZip IsNormalOf ls h.lines) f.split h.are_normal) h.faultless

@@ -10,7 +10,8 @@ ghost use Rattle.reqtable_requirements.specs.Asks.{asks_of};
 ghost use Rattle.reqtable_requirements.specs.LineReading.{LineRecord};
 ghost use Rattle.reqtable_requirements.specs.Requirements.{requirements_of};
 ghost use Rattle.reqtable_normal.specs.Meant.{SayAlike, LeavesOut, ReadsAs};
-ghost use Rattle.reqtable_normal.specs.Normalized.{IsNormalText};
+ghost use Rattle.reqtable_normal.specs.Normalized.{IsFirstFault, IsNormalText};
+ghost use Rattle.reqtable_normal.specs.declared.error.NormalCause.{NormalCause};
 
 use reqtable_requirements::laws::requirements_are_their_lines;
 
@@ -18,6 +19,12 @@ use reqtable_requirements::laws::requirements_are_their_lines;
 pub fn there_is_one_normal_text()
     ensures { (said : List LineRecord) (text other : List ℕ) →
         IsNormalText said text → IsNormalText said other → text ≡ other }
+{}
+
+/// And where they have one, none of them has a fault.
+pub fn what_has_a_normal_text_has_no_fault()
+    ensures { (said : List LineRecord) (text : List ℕ) (number : ℕ) (cause : NormalCause) →
+        IsNormalText said text → IsFirstFault said number cause → ⊥ }
 {}
 
 /// A normal text is read again, with whatever variables, as lines that ask for what those do of which it is
