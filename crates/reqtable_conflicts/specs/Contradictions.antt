@@ -16,7 +16,7 @@ use Rattle.reqtable_cases.specs.Conflicts.{AreConflicts}
 use Rattle.reqtable_table.specs.declared.table.TableError.{TableError}
 use Rattle.reqtable_table.specs.declared.table.TableError.TheVariants.{TooManyCases, Memory}
 use Rattle.reqtable_table.specs.Kept.{KeptCase}
-use Rattle.reqtable_conflicts.specs.declared.conflicts.Conflict.{Conflict}
+use Rattle.reqtable_conflicts.specs.declared.contradicting.Conflict.{Conflict}
 
 -- some lines of a package, by their numbers
 pub record ConflictRecord : Type 0 where

@@ -2,10 +2,10 @@
 //! the packages that lists name, and the table of a list that is lent.
 #![tactic(auto)]
 
-mod conflicts;
+mod contradicting;
 mod lent_table;
-mod package_names;
+mod names;
 
-pub use conflicts::{Conflict, conflicts};
+pub use contradicting::{Conflict, conflicts};
 pub use lent_table::table_of;
-pub use package_names::package_names;
+pub use names::package_names;

@@ -32,10 +32,7 @@ pub fn package_names<'a>(
 }
 
 /// The names of all lines, list by list.
-fn lent_names<'a>(
-    alloc: Global,
-    lists: &[&'a [Line]],
-) -> Result<Vec<&'a PackageName>, AllocError>
+fn lent_names<'a>(alloc: Global, lists: &[&'a [Line]]) -> Result<Vec<&'a PackageName>, AllocError>
     ensures { IfOk result (λ names.
         map (λ name. name.now) names.items ≡ flat_map (λ list. names_of list.now) lists.now) }
 {

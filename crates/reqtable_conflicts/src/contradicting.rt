@@ -1,6 +1,6 @@
 //! Lines of a package that contradict each other.
 
-ghost use Rattle.std.specs.Prelude.{◌≡◌, ◌≤◌, ◌+◌, ◌*◌, ◌++◌, ◌↔◌, ◌×◌, IsTrue, List, length, map, IfOk, OnOk};
+ghost use Rattle.std.specs.Prelude.{◌≡◌, ◌≤◌, ◌+◌, ◌*◌, ◌++◌, ◌∷◌, [], ◌↔◌, IsTrue, List, length, map, IfOk, OnOk};
 ghost use Rattle.std.specs.List.{AllZip};
 ghost use Rattle.pep508_url.specs.Vars.{Variables};
 ghost use Rattle.pep508_tree.specs.Meaning.{Extends};
@@ -9,10 +9,10 @@ ghost use Rattle.reqtable_requirements.specs.LineReading.{LineRecord};
 ghost use Rattle.reqtable_requirements.specs.Requirements.{StandsFor};
 ghost use Rattle.reqtable_table.specs.Casing.{case_record};
 ghost use Rattle.reqtable_conflicts.specs.Contradictions.{conflict_record, FindsConflicts, HasNoPoint};
-ghost use Rattle.reqtable_conflicts.specs.Picking.{AddsPicked, FoundFor};
+ghost use Rattle.reqtable_conflicts.specs.Picking.{AddsPicked, FoundFor, named};
 
 use crate::lent_table::table_of;
-use crate::package_names::package_names;
+use crate::names::package_names;
 use pep508_name::PackageName;
 use pep508_tree::Interner;
 use reqtable_requirements::Requirements;
@@ -86,15 +86,29 @@ fn add_conflicts(
 {
     for case in cases {
         if is_conflict(case) {
-            let package = name.try_clone(alloc)?;
-            let lines = case.lines.try_clone(alloc)?;
-            found.push(Conflict { package, lines })?;
+            push_conflict(alloc, found, name, &case.lines)?;
         }
     }
     Ok(())
 }
 
+fn push_conflict(
+    alloc: Global,
+    found: &mut Vec<Conflict>,
+    name: &PackageName,
+    numbers: &[usize],
+) -> Result<(), AllocError>
+    ensures { OnOk result (map conflict_record found.new.items
+        ≡ map conflict_record found.old.items ++ named name.now numbers.now ∷ []) }
+{
+    let package = name.try_clone(alloc)?;
+    let lines = copied(alloc, numbers)?;
+    found.push(Conflict { package, lines })?;
+    Ok(())
+}
+
 /// Whether the case has a line, and a range without any point.
+#[tactic(auto, using(crate::proofs::Picked::has_none))]
 fn is_conflict(case: &Case) -> bool
     ensures { IsTrue result ↔ HasNoPoint (case_record case.now) }
 {
@@ -102,4 +116,12 @@ fn is_conflict(case: &Case) -> bool
         Some(range) => !case.lines.is_empty() && range.is_empty(),
         None => false,
     }
+}
+
+fn copied(alloc: Global, numbers: &[usize]) -> Result<Vec<usize>, AllocError>
+    ensures { IfOk result (λ copy. copy.items ≡ numbers.now) }
+{
+    let mut copy = Vec::new(alloc);
+    copy.extend_from_slice(numbers)?;
+    Ok(copy)
 }
