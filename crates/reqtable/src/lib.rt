@@ -12,12 +12,6 @@
 //! let text = answer.text(alloc, &candidates)?;
 //! ```
 //!
-//! A list has one normal text, which all lists that say the same share:
-//!
-//! ```text
-//! let text = normal(alloc, &requirements, &interner)?;
-//! ```
-//!
 //! For many environments a table is made of the requirements beforehand, which takes them. Its answers
 //! are those of the judge:
 //!
@@ -35,7 +29,6 @@
 
 pub use pep508_rs;
 pub use reqtable_answer::{Admission, Answer, Ask, AskSource, Outcome, Row, answer_to, ask_of};
-pub use reqtable_normal::{NormalCause, NormalError, normal};
 pub use reqtable_requirements::{Line, Requirements, RequirementsError};
 pub use reqtable_table::{Case, Runs, Table, TableError};
 pub use reqtable_text::{Candidate, CandidateFault, Candidates, CandidatesError, Ordered, Placed};
