@@ -18,7 +18,8 @@ use Rattle.reqs_ends.specs.declared.fault.RefusedCause.TheVariants as refused
 use Rattle.reqs_ends.specs.declared.fault.RunFault.{RunFault}
 use Rattle.reqs_ends.specs.declared.fault.RunFault.TheVariants.{Read, Write, Memory, TooLong, NotText, Extra}
 use Rattle.reqs_ends.specs.declared.fault.RunFault.TheVariants.{Requirement, NumberAtEnd, Json, Float, Shape}
-use Rattle.reqs_ends.specs.declared.fault.RunFault.TheVariants.{Member, Version, Candidate, TooManyCases, Refused}
+use Rattle.reqs_ends.specs.declared.fault.RunFault.TheVariants.{Member, Version, Candidate, TooManyCases}
+use Rattle.reqs_ends.specs.declared.fault.RunFault.TheVariants.{Refused}
 
 -- an input, by its place on the command line
 abbrev pub input_words : Input → List ℕ

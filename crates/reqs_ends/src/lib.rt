@@ -1,5 +1,5 @@
-//! How the commands of `reqs` end, what they read and what they write: statuses, faults with their texts, inputs,
-//! each read whole and then read as what it is, and answers, written whole.
+//! How the commands of `reqs` end, what they read and what they write: statuses, faults with their texts,
+//! inputs, each read whole and then read as what it is, and answers, written whole.
 #![tactic(auto)]
 
 mod display;
