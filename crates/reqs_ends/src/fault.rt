@@ -42,7 +42,7 @@ impl Input {
     }
 
     /// The path of this input among those of a command line, empty where there is none.
-    fn path<'a>(self, paths: &[&'a str]) -> &'a str
+    pub fn path<'a>(self, paths: &[&'a str]) -> &'a str
         ensures { result.now ≡ of_input (map (λ p. p.now) paths.now) self }
     {
         match paths.get(self.place()) {
