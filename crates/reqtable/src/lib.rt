@@ -29,6 +29,7 @@
 
 pub use pep508_rs;
 pub use reqtable_answer::{Admission, Answer, Ask, AskSource, Outcome, Row, answer_to, ask_of};
+pub use reqtable_normal::{NormalCause, NormalError, normal};
 pub use reqtable_requirements::{Line, Requirements, RequirementsError};
 pub use reqtable_table::{Case, Runs, Table, TableError};
 pub use reqtable_text::{Candidate, CandidateFault, Candidates, CandidatesError, Ordered, Placed};

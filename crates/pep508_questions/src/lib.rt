@@ -1,0 +1,8 @@
+//! What marker trees (PEP 508, "Environment Markers") ask: of what kinds a tree's questions are.
+#![tactic(auto)]
+
+mod kinds;
+mod questions;
+mod walk;
+
+pub use questions::{Asked, MarkerTreeQuestions};

@@ -1,0 +1,56 @@
+//! What marker trees ask, as a call on them.
+
+ghost use Rattle.std.specs.Prelude.{◌≡◌, IfOk};
+ghost use Rattle.pep508_tree.specs.Tree.{Tree};
+ghost use Rattle.pep508_tree.specs.Meaning.{IsTree, diagram_of};
+ghost use Rattle.pep508_questions.specs.Asks.{asked_by};
+
+use crate::walk::asked_of_tree;
+use pep508_tree::{Interner, MarkerTree};
+use std::alloc::{AllocError, Global};
+
+/// Of what kinds the questions of a marker tree are.
+#[derive(Clone, Copy, Debug, PartialEq, Eq)]
+pub struct Asked {
+    /// A text of a question has a single quote: one that a key is compared with, that stands in a key's text
+    /// or that this stands in, or an extra that is no name.
+    pub single_quote: bool,
+    /// A question is about a key by an old name of PEP 345, as `os.name`.
+    pub deprecated_key: bool,
+    /// A question is about a version that has more than epoch 0 and release numbers, as `1.0a1`.
+    pub other_bound: bool,
+}
+
+impl Asked {
+    /// A tree that always holds, or never, asks nothing.
+    pub(crate) const NOTHING: Asked = Asked {
+        single_quote: false,
+        deprecated_key: false,
+        other_bound: false,
+    };
+}
+
+/// Marker trees of which it can be asked what they ask.
+pub trait MarkerTreeQuestions {
+    ghost use Rattle.pep508_tree.specs.Tree.{Tree};
+
+    /// The tree.
+    ghost tree: { Self → Tree };
+
+    /// Of what kinds the tree's questions are. A tree asks what its answer hangs on, and not what was written:
+    /// one that always holds asks nothing. Makes no tree and counts nothing; the only refusal is want of
+    /// memory for the nodes that are left to look at.
+    ///
+    /// Looks at each node of the tree once, and at each boundary in it. No recursion, however deep the tree is.
+    fn asked(self, alloc: Global, interner: &Interner) -> Result<Asked, AllocError>
+        requires { IsTree interner.now.nodes (tree self) }
+        ensures { IfOk result (λ asked. asked ≡ asked_by (diagram_of interner.now.nodes (tree self))) };
+}
+
+impl MarkerTreeQuestions for MarkerTree {
+    ghost tree = { λ tree. tree };
+
+    fn asked(self, alloc: Global, interner: &Interner) -> Result<Asked, AllocError> {
+        asked_of_tree(alloc, interner, self)
+    }
+}

@@ -1,0 +1,83 @@
+//! A walk over a tree's nodes, those of the highest places first, so that none comes again.
+
+ghost use Rattle.std.specs.Prelude.{◌≡◌, ◌∷◌, map, IfOk, OnOk};
+ghost use Rattle.pep508_tree.specs.Meaning.{IsTree, diagram_of};
+ghost use Rattle.pep508_questions.specs.Asks.{asked_by};
+ghost use Rattle.pep508_questions.specs.Looked.{either, lent_children, with_trees, Looked};
+
+use crate::kinds::asked_of_node;
+use crate::questions::Asked;
+use pep508_tree::{Children, Interner, MarkerTree, TreeNode};
+use std::alloc::{AllocError, Global};
+use std::collections::BTreeMap;
+
+/// Trees that are left to look at, by their places.
+type Left = BTreeMap<usize, MarkerTree>;
+
+/// What is asked here or there.
+fn either(a: Asked, b: Asked) -> Asked
+    ensures { result ≡ either a b }
+{
+    Asked {
+        single_quote: a.single_quote || b.single_quote,
+        deprecated_key: a.deprecated_key || b.deprecated_key,
+        other_bound: a.other_bound || b.other_bound,
+    }
+}
+
+/// Puts what stands between boundaries among the trees that are left.
+fn add_branches<T>(left: &mut Left, children: Children<'_, T>) -> Result<(), AllocError>
+    ensures { OnOk result (left.new.entries ≡ with_trees left.old.entries
+        (children.entry.first ∷ map (λ branch. branch.child) children.entry.later.now)) }
+{
+    left.insert(children.first.place(), children.first)?;
+    for branch in children.later {
+        left.insert(branch.child.place(), branch.child)?;
+    }
+    Ok(())
+}
+
+/// Puts what stands in a node among the trees that are left.
+fn add_children(left: &mut Left, node: TreeNode<'_>) -> Result<(), AllocError>
+    ensures { OnOk result (left.new.entries ≡ with_trees left.old.entries (lent_children node.entry)) }
+{
+    match node {
+        TreeNode::Constant(_) => {}
+        TreeNode::Versions(_, children) => add_branches(left, children)?,
+        TreeNode::Texts(_, children) => add_branches(left, children)?,
+        TreeNode::Flagged(_, set, unset) => {
+            left.insert(set.place(), set)?;
+            left.insert(unset.place(), unset)?;
+        }
+    }
+    Ok(())
+}
+
+/// What a tree's node asks. What stands in it is put among the trees that are left.
+fn look_at(interner: &Interner, left: &mut Left, tree: MarkerTree) -> Result<Asked, AllocError>
+    requires { IsTree interner.now.nodes tree }
+    ensures { IfOk result (λ asked. Looked interner.now.nodes tree left.old.entries left.new.entries asked) }
+{
+    interner.are_sound();
+    let node = tree.node(interner);
+    add_children(left, node)?;
+    Ok(asked_of_node(node))
+}
+
+/// Of what kinds a tree's questions are.
+pub(crate) fn asked_of_tree(
+    alloc: Global,
+    interner: &Interner,
+    tree: MarkerTree,
+) -> Result<Asked, AllocError>
+    requires { IsTree interner.now.nodes tree }
+    ensures { IfOk result (λ asked. asked ≡ asked_by (diagram_of interner.now.nodes tree)) }
+{
+    let mut left = BTreeMap::new(alloc);
+    left.insert(tree.place(), tree)?;
+    let mut asked = Asked::NOTHING;
+    while let Some((_, next)) = left.pop_last() {
+        asked = either(asked, look_at(interner, &mut left, next)?);
+    }
+    Ok(asked)
+}

@@ -1,0 +1,4 @@
+pub mod Normalized
+pub mod Errors
+pub mod Seen
+pub mod Meant

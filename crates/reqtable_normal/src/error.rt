@@ -1,0 +1,81 @@
+//! Why a requirement list has no normal text.
+
+ghost use Rattle.std.specs.Prelude.{◌≡◌};
+ghost use Rattle.reqtable_normal.specs.Errors.{cause_text};
+
+use std::alloc::AllocError;
+use std::error::Error;
+use std::fmt;
+
+/// Why a line has no normal text.
+#[derive(Clone, Copy, Debug, PartialEq, Eq)]
+pub enum NormalCause {
+    /// It asks for a URL.
+    Url,
+    /// A text of its marker has a single quote, and so could stand between no single quotes.
+    SingleQuote,
+    /// Its marker asks of a key by an old name, as `os.name`, which prints as the new one.
+    DeprecatedKey,
+    /// Its marker has a version that is more than release numbers of epoch 0, which can't be written in it.
+    Bound,
+}
+
+impl NormalCause {
+    /// The cause in two words or one, as `single quote`.
+    pub fn as_str(self) -> &'static str
+        ensures { result.now ≡ cause_text self }
+    {
+        match self {
+            NormalCause::Url => "URL",
+            NormalCause::SingleQuote => "single quote",
+            NormalCause::DeprecatedKey => "deprecated key",
+            NormalCause::Bound => "version bound",
+        }
+    }
+}
+
+impl fmt::Display for NormalCause {
+    ghost use Rattle.std.specs.Prelude.{Some};
+    ghost use Rattle.reqtable_normal.specs.Errors.{cause_text};
+
+    ghost output = { λ cause. Some (cause_text cause) };
+
+    fn fmt<W: fmt::Write>(&self, f: &mut fmt::Formatter<W>) -> fmt::Result {
+        write!(f, "{}", self.as_str())
+    }
+}
+
+/// Why a requirement list has no normal text.
+#[derive(Debug, PartialEq, Eq, Drop)]
+pub enum NormalError {
+    /// The first line, by its number from 1, that has none.
+    Line { number: usize, cause: NormalCause },
+    /// Memory ran out.
+    Memory,
+}
+
+impl From<AllocError> for NormalError {
+    ghost use Rattle.reqtable_normal.specs.declared.error.NormalError.TheVariants.{Memory};
+
+    ghost from_gives = { λ _ error. error ≡ Memory };
+
+    fn from(_: AllocError) -> NormalError {
+        NormalError::Memory
+    }
+}
+
+impl fmt::Display for NormalError {
+    ghost use Rattle.std.specs.Prelude.{Some};
+    ghost use Rattle.reqtable_normal.specs.Errors.{normal_error_text};
+
+    ghost output = { λ error. Some (normal_error_text error) };
+
+    fn fmt<W: fmt::Write>(&self, f: &mut fmt::Formatter<W>) -> fmt::Result {
+        match self {
+            NormalError::Line { number, cause } => write!(f, "line {number}: {cause}"),
+            NormalError::Memory => write!(f, "out of memory"),
+        }
+    }
+}
+
+impl Error for NormalError {}

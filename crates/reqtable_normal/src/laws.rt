@@ -1,0 +1,46 @@
+//! Laws over the definitions. The functions do nothing: each one's contract is its law.
+
+ghost use Rattle.std.specs.Prelude.{◌≡◌, ◌↔◌, ℕ, List, Ok};
+ghost use Rattle.std.specs.List.{AllZip};
+ghost use Rattle.pep508_diagram.specs.Question.{Valuation};
+ghost use Rattle.pep508_url.specs.Vars.{Variables};
+ghost use Rattle.reqtable_text.specs.declared.candidates.Candidate.{Candidate};
+ghost use Rattle.reqtable_answer.specs.Answer.{Admits, IsAnswerText};
+ghost use Rattle.reqtable_requirements.specs.Asks.{asks_of};
+ghost use Rattle.reqtable_requirements.specs.LineReading.{LineRecord};
+ghost use Rattle.reqtable_requirements.specs.Requirements.{requirements_of};
+ghost use Rattle.reqtable_normal.specs.Meant.{SayAlike, LeavesOut, ReadsAs};
+ghost use Rattle.reqtable_normal.specs.Normalized.{IsNormalText};
+
+/// The lines of a text have one normal text at most.
+pub fn there_is_one_normal_text()
+    ensures { (said : List LineRecord) (text other : List ℕ) →
+        IsNormalText said text → IsNormalText said other → text ≡ other }
+{}
+
+/// A normal text is read again, with whatever variables, as lines that ask for what those do of which it is
+/// the normal text; so it has their answers.
+pub fn a_normal_text_reads_back()
+    ensures read { (vars others : Variables) (bytes text : List ℕ) (said : List LineRecord) →
+        requirements_of vars bytes ≡ Ok said → IsNormalText said text → ReadsAs others text said }
+    ensures answers { (vars others : Variables) (bytes text : List ℕ) (said again : List LineRecord)
+        (v : Valuation) (admits : Admits) (candidates : List Candidate) (answer : List ℕ) →
+        requirements_of vars bytes ≡ Ok said → IsNormalText said text →
+        requirements_of others text ≡ Ok again →
+        IsAnswerText admits (asks_of v said) candidates answer
+        ↔ IsAnswerText admits (asks_of v again) candidates answer }
+{}
+
+/// Lines that say the same in one order, those aside that never apply, have one normal text.
+pub fn what_says_the_same_has_one_normal_text()
+    ensures { (said others left right : List LineRecord) (text other : List ℕ) →
+        LeavesOut said left → LeavesOut others right → AllZip SayAlike left right →
+        IsNormalText said text → IsNormalText others other → text ≡ other }
+{}
+
+/// The normal text of a normal text is that text.
+pub fn a_normal_text_is_its_own()
+    ensures { (vars others : Variables) (bytes text : List ℕ) (said again : List LineRecord) →
+        requirements_of vars bytes ≡ Ok said → IsNormalText said text →
+        requirements_of others text ≡ Ok again → IsNormalText again text }
+{}

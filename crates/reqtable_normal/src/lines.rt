@@ -1,0 +1,122 @@
+//! The normal text of requirement lines.
+
+ghost use Rattle.std.specs.Prelude.{◌≡◌, ◌++◌, false, List, IfOk, OnOk, string_bytes};
+ghost use Rattle.std.specs.List.{AllZip};
+ghost use Rattle.pep508_url.specs.Vars.{Variables};
+ghost use Rattle.pep508_questions.specs.Asks.{asked_by};
+ghost use Rattle.pep508_diagram.specs.Diagram.{Diagram};
+ghost use Rattle.pep508_diagram.specs.Question.{Question};
+ghost use Rattle.pep508_tree.specs.Meaning.{IsTree};
+ghost use Rattle.reqtable_answer.specs.Asks.{has_url};
+ghost use Rattle.reqtable_answer.specs.Says.{requirement_seen};
+ghost use Rattle.reqtable_requirements.specs.Asks.{AreOfNodes};
+ghost use Rattle.reqtable_requirements.specs.LineReading.{LineRecord};
+ghost use Rattle.reqtable_requirements.specs.Requirements.{StandsFor};
+ghost use Rattle.reqtable_normal.specs.Normalized.{Normalizes, line_text, marker_fault, normal_fault};
+ghost use Rattle.reqtable_normal.specs.Seen.{PushesLine, normal_of};
+
+use crate::error::{NormalCause, NormalError};
+use pep508_questions::{Asked, MarkerTreeQuestions};
+use pep508_requirement::{Requirement, VersionOrUrl};
+use pep508_requirement_ref::RequirementRef;
+use pep508_tree::Interner;
+use reqtable_requirements::{Line, Requirements};
+use std::alloc::{AllocError, Global};
+use std::fmt::Write;
+
+/// The normal text of a requirement list: for each line whose marker sometimes holds its name, extras and
+/// specifiers, the marker behind a `;` where it doesn't always hold, and a line feed.
+///
+/// The interner is the one that the lines were read with. Lists that say the same have one normal text, and a
+/// normal text is read as what it was made of. The first line is refused that has no such text: one with a
+/// URL, whatever its marker; or one whose marker asks for a text with a single quote, for a key by an old
+/// name, or for a version that is more than release numbers of epoch 0. What a marker asks for is what its
+/// answer hangs on, and not what was written.
+///
+/// Looks at the nodes of each line's marker once, and writes its text straight behind the others. Takes
+/// memory for the text, and for what the print of one marker takes.
+pub fn normal(
+    alloc: Global,
+    requirements: &Requirements,
+    interner: &Interner,
+) -> Result<String, NormalError>
+    requires { AreOfNodes interner.now.nodes requirements.now }
+    ensures { (vars : Variables) (said : List LineRecord) →
+        AllZip (StandsFor vars interner.now.nodes) requirements.now said → Normalizes said result }
+{
+    interner.are_sound();
+    let mut text = String::new(alloc);
+    for line in requirements.lines() {
+        push_line(alloc, &mut text, line, interner)?;
+    }
+    Ok(text)
+}
+
+/// Adds a line's text, or nothing where its marker never holds.
+fn push_line(
+    alloc: Global,
+    text: &mut String,
+    line: &Line,
+    interner: &Interner,
+) -> Result<(), NormalError>
+    requires { IsTree interner.now.nodes line.now.requirement.marker }
+    ensures { PushesLine interner.now.nodes line.now (string_bytes text.old) (string_bytes text.new) result }
+{
+    let requirement = &line.requirement;
+    if let Some(cause) = fault(alloc, requirement, interner)? {
+        let number = line.number;
+        return Err(NormalError::Line { number, cause });
+    }
+    if !requirement.marker.is_false() {
+        push_requirement(alloc, text, requirement, interner)?;
+    }
+    Ok(())
+}
+
+/// Adds a requirement's text and a line feed.
+fn push_requirement(
+    alloc: Global,
+    text: &mut String,
+    requirement: &Requirement,
+    interner: &Interner,
+) -> Result<(), AllocError>
+    requires tree { IsTree interner.now.nodes requirement.now.marker }
+    requires no_url { has_url (requirement_seen requirement.now) ≡ false }
+    ensures { OnOk result (string_bytes text.new
+        ≡ string_bytes text.old ++ line_text (normal_of interner.now.nodes requirement.now)) }
+{
+    let shown = RequirementRef::new(alloc, interner, requirement);
+    writeln!(text, "{shown}")
+}
+
+/// Why a requirement has no normal text, if it has none.
+fn fault(
+    alloc: Global,
+    requirement: &Requirement,
+    interner: &Interner,
+) -> Result<Option<NormalCause>, AllocError>
+    requires { IsTree interner.now.nodes requirement.now.marker }
+    ensures { IfOk result (λ fault.
+        fault ≡ normal_fault (normal_of interner.now.nodes requirement.now)) }
+{
+    if let Some(VersionOrUrl::Url(_)) = &requirement.version_or_url {
+        return Ok(Some(NormalCause::Url));
+    }
+    let asked = requirement.marker.asked(alloc, interner)?;
+    Ok(marker_fault(asked))
+}
+
+/// The first cause for which a marker that asks so has no normal text.
+fn marker_fault(asked: Asked) -> Option<NormalCause>
+    ensures { (diagram : Diagram Question) → asked ≡ asked_by diagram → result ≡ marker_fault diagram }
+{
+    if asked.single_quote {
+        Some(NormalCause::SingleQuote)
+    } else if asked.deprecated_key {
+        Some(NormalCause::DeprecatedKey)
+    } else if asked.other_bound {
+        Some(NormalCause::Bound)
+    } else {
+        None
+    }
+}
