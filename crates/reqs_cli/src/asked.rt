@@ -61,16 +61,16 @@ impl Asked {
         match self {
             Asked::Check => {
                 let environment = path_at(given, "ENV");
-                vec![in alloc; first, environment, path_at(given, "CANDIDATES")]
+                Ok(vec![in alloc; first, environment, path_at(given, "CANDIDATES")]?)
             }
             Asked::Matrix { .. } => {
                 let environments = path_at(given, "ENVS");
-                vec![in alloc; first, environments, path_at(given, "CANDIDATES")]
+                Ok(vec![in alloc; first, environments, path_at(given, "CANDIDATES")]?)
             }
             Asked::Same { .. } => {
-                vec![in alloc; path_at(given, "LEFT"), path_at(given, "RIGHT")]
+                Ok(vec![in alloc; path_at(given, "LEFT"), path_at(given, "RIGHT")]?)
             }
-            Asked::Conflicts { .. } | Asked::Normal => vec![in alloc; first],
+            Asked::Conflicts { .. } | Asked::Normal => Ok(vec![in alloc; first]?),
         }
     }
 }
