@@ -1,5 +1,16 @@
 //! `same`: whether two lists require the same.
 
+ghost use Rattle.std.specs.Prelude.{◌≡◌, ◌≢◌, ◌∷◌, ◌++◌, [], List, codes, IfErr, IfOk, string_bytes};
+ghost use Rattle.std.specs.List.{AllZip};
+ghost use Rattle.pep508_url.specs.Vars.{Variables};
+ghost use Rattle.pep508_tree.specs.Meaning.{IsTree, diagram_of};
+ghost use Rattle.reqtable_requirements.specs.Asks.{AreOfNodes};
+ghost use Rattle.reqtable_requirements.specs.LineReading.{LineRecord};
+ghost use Rattle.reqtable_requirements.specs.Requirements.{StandsFor};
+ghost use Rattle.reqs_lists.specs.Lists.{IsOfLists, AnswersLists, Gives, two_lists};
+ghost use Rattle.reqs_lists.specs.Comparison.{difference_text, IsSameAnswer, CantBeCompared};
+ghost use Rattle.reqs_lists.specs.Comparison.{input_of, line_fault, fault_of, RunsSame};
+
 use crate::answer::Answer;
 use pep508_marker_dnf::MarkerTreeText;
 use pep508_name::PackageName;
@@ -8,7 +19,7 @@ use pep508_url::Vars;
 use reqs_ends::{
     Input, RefusedCause, RunFault, Status, read_input, read_requirements, write_answer,
 };
-use reqtable_compare::{LineCause, Same, SameError, Side};
+use reqtable_compare::{Comparison, LineCause, SameError, Side};
 use reqtable_requirements::Requirements;
 use std::alloc::{AllocError, Global};
 use std::io::{Read, Write};
@@ -32,6 +43,10 @@ pub fn same<L: Read, R: Read, W: Write>(
     limit: u64,
     output: &mut W,
 ) -> Result<Status, RunFault>
+    ensures runs { RunsSame limit vars.now (L.remaining left.old) (R.remaining right.old)
+        W.contents output.old output.new result }
+    // A refused command has written nothing.
+    ensures unwritten { IfErr result (λ fault. fault ≢ RunFault.Write → output.new ≡ output.old) }
 {
     let mut left = read_input(alloc, Input::First, left)?;
     let mut right = read_input(alloc, Input::Second, right)?;
@@ -47,6 +62,8 @@ fn same_answer(
     vars: &Vars,
     limit: u64,
 ) -> Result<Answer, RunFault>
+    ensures { AnswersLists (IsOfLists vars.now (left.old.items ∷ right.old.items ∷ [])) IsSameAnswer
+        (CantBeCompared limit) (two_lists vars.now (left.old.items ∷ right.old.items ∷ [])) result }
 {
     let mut interner = Interner::new(alloc);
     let left = read_requirements(alloc, Input::First, left, &mut interner, vars)?;
@@ -62,13 +79,19 @@ fn same_of(
     interner: &mut Interner,
     limit: u64,
 ) -> Result<Answer, RunFault>
+    requires left { AreOfNodes interner.old.nodes left.now }
+    requires right { AreOfNodes interner.old.nodes right.now }
+    ensures { (vars : Variables) (said others : List LineRecord) →
+        AllZip (StandsFor vars interner.old.nodes) left.now said →
+        AllZip (StandsFor vars interner.old.nodes) right.now others →
+        Gives IsSameAnswer (CantBeCompared limit) (said, others) result }
 {
     match reqtable_compare::same(alloc, left, right, interner, limit) {
-        Ok(Same::Yes) => Ok(Answer {
+        Ok(Comparison::Yes) => Ok(Answer {
             status: Status::Answered,
             text: String::from_str(alloc, "yes\n")?,
         }),
-        Ok(Same::No { package, tree }) => Ok(Answer {
+        Ok(Comparison::No { package, tree }) => Ok(Answer {
             status: Status::Different,
             text: difference_text(alloc, &package, tree, interner)?,
         }),
@@ -76,13 +99,16 @@ fn same_of(
     }
 }
 
-/// The text of a difference.
+/// The text of a difference, which is where the tree holds.
 fn difference_text(
     alloc: Global,
     package: &PackageName,
     tree: MarkerTree,
     interner: &Interner,
 ) -> Result<String, AllocError>
+    requires { IsTree interner.now.nodes tree }
+    ensures { IfOk result (λ text. string_bytes text
+        ≡ difference_text package.now (diagram_of interner.now.nodes tree)) }
 {
     match tree.try_to_string(alloc, interner)? {
         Some(marker) => difference_lines(alloc, package, marker.as_str()),
@@ -91,20 +117,23 @@ fn difference_text(
 }
 
 /// The lines of a difference, of which the last says where it is.
-fn difference_lines(
-    alloc: Global,
-    package: &PackageName,
-    place: &str,
-) -> Result<String, AllocError>
+fn difference_lines(alloc: Global, package: &PackageName, place: &str) -> Result<String, AllocError>
+    ensures { IfOk result (λ text. string_bytes text
+        ≡ codes "no\n" ++ (package.now ++ (codes "\n" ++ (place.now ++ codes "\n")))) }
 {
     format!(in alloc; "no\n{package}\n{place}\n")
 }
 
 /// Why the lists are refused.
 fn fault_of(error: SameError, limit: u64) -> RunFault
+    ensures { result ≡ fault_of limit error }
 {
     match error {
-        SameError::Line { side, number, cause } => line_fault(input_of(side), number, cause),
+        SameError::Line {
+            side,
+            number,
+            cause,
+        } => line_fault(input_of(side), number, cause),
         SameError::TooManyCases { side, package } => RunFault::TooManyCases {
             input: input_of(side),
             limit,
@@ -116,6 +145,7 @@ fn fault_of(error: SameError, limit: u64) -> RunFault
 
 /// The input of a side.
 fn input_of(side: Side) -> Input
+    ensures { result ≡ input_of side }
 {
     match side {
         Side::Left => Input::First,
@@ -125,6 +155,7 @@ fn input_of(side: Side) -> Input
 
 /// Why a line is refused.
 fn line_fault(input: Input, number: usize, cause: LineCause) -> RunFault
+    ensures { result ≡ line_fault input number cause }
 {
     let cause = match cause {
         LineCause::Url => RefusedCause::Url,

@@ -3,7 +3,7 @@
 ghost use Rattle.std.specs.Prelude.{◌≡◌, ◌∷◌, ◌++◌, map, IfOk, OnOk, string_bytes};
 ghost use Rattle.std.specs.List.{flat_map, join_with_byte};
 ghost use Rattle.std.specs.Fmt.{decimal};
-ghost use Rattle.reqs_lists.specs.Contradictions.{conflict_text, conflicts_text, conflict_seen};
+ghost use Rattle.reqs_lists.specs.Contradictions.{conflict_text, conflicts_text};
 
 use reqtable_conflicts::Conflict;
 use std::alloc::{AllocError, Global};
@@ -11,7 +11,7 @@ use std::fmt::Write;
 
 /// A line for each conflict.
 pub fn conflicts_text(alloc: Global, conflicts: &[Conflict]) -> Result<String, AllocError>
-    ensures { IfOk result (λ text. string_bytes text ≡ conflicts_text (map conflict_seen conflicts.now)) }
+    ensures { IfOk result (λ text. string_bytes text ≡ conflicts_text conflicts.now) }
 {
     let mut text = String::new(alloc);
     for conflict in conflicts {
@@ -23,7 +23,7 @@ pub fn conflicts_text(alloc: Global, conflicts: &[Conflict]) -> Result<String, A
 /// Adds the line of a conflict to a text.
 fn push_conflict(text: &mut String, conflict: &Conflict) -> Result<(), AllocError>
     ensures { OnOk result (string_bytes text.new
-        ≡ string_bytes text.old ++ conflict_text (conflict_seen conflict.now)) }
+        ≡ string_bytes text.old ++ conflict_text conflict.now) }
 {
     text.push_str(conflict.package.as_str())?;
     text.push(' ')?;

@@ -9,7 +9,7 @@ ghost use Rattle.reqtable_requirements.specs.Requirements.{StandsFor};
 ghost use Rattle.reqs_ends.specs.declared.fault.Input.TheVariants.{First};
 ghost use Rattle.reqs_ends.specs.Inputs.{lines_from};
 ghost use Rattle.reqs_lists.specs.Lists.{IsOfLists, AnswersLists, Gives};
-ghost use Rattle.reqs_lists.specs.Contradictions.{AreConflictsText, HasTooManyCases, RunsConflicts};
+ghost use Rattle.reqs_lists.specs.Contradictions.{IsConflictsAnswer, HasTooManyCases, RunsConflicts};
 
 use crate::answer::Answer;
 use crate::conflict_lines::conflicts_text;
@@ -51,7 +51,7 @@ fn conflicts_answer(
     vars: &Vars,
     limit: u64,
 ) -> Result<Answer, RunFault>
-    ensures { AnswersLists (IsOfLists vars.now (requirements.old.items ∷ [])) (AreConflictsText limit)
+    ensures { AnswersLists (IsOfLists vars.now (requirements.old.items ∷ [])) (IsConflictsAnswer limit)
         (HasTooManyCases limit) (lines_from vars.now First requirements.old.items) result }
 {
     let mut interner = Interner::new(alloc);
@@ -69,7 +69,7 @@ fn conflicts_of(
     requires { AreOfNodes interner.old.nodes requirements.now }
     ensures { (vars : Variables) (said : List LineRecord) →
         AllZip (StandsFor vars interner.old.nodes) requirements.now said →
-        Gives (AreConflictsText limit) (HasTooManyCases limit) said result }
+        Gives (IsConflictsAnswer limit) (HasTooManyCases limit) said result }
 {
     match reqtable_conflicts::conflicts(alloc, requirements, interner, limit) {
         Ok(conflicts) => Ok(Answer {

@@ -42,11 +42,7 @@ pub fn normal<R: Read, W: Write>(
 }
 
 /// The answer on a list, whose bytes are let go once they are read.
-fn normal_answer(
-    alloc: Global,
-    requirements: &mut Vec<u8>,
-    vars: &Vars,
-) -> Result<Answer, RunFault>
+fn normal_answer(alloc: Global, requirements: &mut Vec<u8>, vars: &Vars) -> Result<Answer, RunFault>
     ensures { AnswersLists (IsOfLists vars.now (requirements.old.items ∷ [])) IsNormalAnswer HasNoNormal
         (lines_from vars.now First requirements.old.items) result }
 {
