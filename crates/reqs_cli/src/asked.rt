@@ -133,7 +133,9 @@ fn same_command<'a>(alloc: Global) -> Result<Command<'a>, AllocError> {
         .help("The other list, a file")
         .required(true);
     Command::new(alloc, "same")
-        .about("Prints yes where two lists require the same everywhere, or else where they first differ")
+        .about(
+            "Prints yes where two lists require the same everywhere, or else where they first differ",
+        )
         .arg(limit_argument(alloc))?
         .arg(left)?
         .arg(right)

@@ -1,10 +1,13 @@
 -- What the texts of requirement lists are, or what is at fault there; and how a command on them ends.
 use Rattle.std.specs.Prelude.{◌≡◌, ◌⊎◌, ℕ, List, Result, Ok, Err}
+use Rattle.std.specs.List.{AllZip}
 use Rattle.std.specs.String.{string_bytes}
 use Rattle.pep508_url.specs.Vars.{Variables}
+use Rattle.pep508_tree.specs.Meaning.{NodeRecord}
 use Rattle.reqtable_text.specs.TextLines.{text_lines}
 use Rattle.reqtable_requirements.specs.LineReading.{LineRecord}
-use Rattle.reqtable_requirements.specs.Requirements.{IsErrorIn}
+use Rattle.reqtable_requirements.specs.Requirements.{IsErrorIn, StandsFor}
+use Rattle.reqtable_requirements.specs.declared.requirements.Line.{Line}
 use Rattle.reqs_ends.specs.declared.fault.Input.TheVariants.{First, Second}
 use Rattle.reqs_ends.specs.declared.fault.RunFault.{RunFault}
 use Rattle.reqs_ends.specs.declared.fault.RunFault.TheVariants.{Memory}
@@ -35,6 +38,14 @@ with_right vars right left = do
 -- the lines of two lists, or the first thing at fault: that of the left one before that of the right one
 abbrev pub two_lists : Variables → List (List ℕ) → Result (List LineRecord × List LineRecord) Cause
 two_lists vars inputs = lines_from vars First (of_input inputs First) >>= with_right vars (of_input inputs Second)
+
+-- lines of a left and a right list stand for those of some texts
+pub record AreBothRead (nodes : List NodeRecord) (left right : List Line) : Type 0 where
+  pub vars : Variables
+  pub said : List LineRecord
+  pub others : List LineRecord
+  pub reads_left : AllZip (StandsFor vars nodes) left said
+  pub reads_right : AllZip (StandsFor vars nodes) right others
 
 -- lists are read as what has this property
 abbrev pub IsRead : {A : Type 0} → Result A Cause → (A → Type 0) → Type 0

@@ -3,11 +3,12 @@
 ghost use Rattle.std.specs.Prelude.{◌≡◌, ◌≢◌, ◌∷◌, ◌++◌, [], List, codes, IfErr, IfOk, string_bytes};
 ghost use Rattle.std.specs.List.{AllZip};
 ghost use Rattle.pep508_url.specs.Vars.{Variables};
+ghost use Rattle.pep508_diagram.specs.Question.{IsCanonical};
+ghost use Rattle.pep508_diagram.specs.Shortened.{HasShortVersions};
 ghost use Rattle.pep508_tree.specs.Meaning.{IsTree, diagram_of};
-ghost use Rattle.reqtable_requirements.specs.Asks.{AreOfNodes};
 ghost use Rattle.reqtable_requirements.specs.LineReading.{LineRecord};
 ghost use Rattle.reqtable_requirements.specs.Requirements.{StandsFor};
-ghost use Rattle.reqs_lists.specs.Lists.{IsOfLists, AnswersLists, Gives, two_lists};
+ghost use Rattle.reqs_lists.specs.Lists.{IsOfLists, AreBothRead, AnswersLists, Gives, two_lists};
 ghost use Rattle.reqs_lists.specs.Comparison.{difference_text, IsSameAnswer, CantBeCompared};
 ghost use Rattle.reqs_lists.specs.Comparison.{input_of, line_fault, fault_of, RunsSame};
 
@@ -79,8 +80,7 @@ fn same_of(
     interner: &mut Interner,
     limit: u64,
 ) -> Result<Answer, RunFault>
-    requires left { AreOfNodes interner.old.nodes left.now }
-    requires right { AreOfNodes interner.old.nodes right.now }
+    requires { AreBothRead interner.old.nodes left.now right.now }
     ensures { (vars : Variables) (said others : List LineRecord) →
         AllZip (StandsFor vars interner.old.nodes) left.now said →
         AllZip (StandsFor vars interner.old.nodes) right.now others →
@@ -100,28 +100,32 @@ fn same_of(
 }
 
 /// The text of a difference, which is where the tree holds.
+#[tactic(auto, using(pep508_tree::proofs::OneTree::canonical_trees, pep508_tree::proofs::Shortened::short_trees))]
 fn difference_text(
     alloc: Global,
-    package: &PackageName,
+    name: &PackageName,
     tree: MarkerTree,
     interner: &Interner,
 ) -> Result<String, AllocError>
     requires { IsTree interner.now.nodes tree }
-    ensures { IfOk result (λ text. string_bytes text
-        ≡ difference_text package.now (diagram_of interner.now.nodes tree)) }
+    ensures text { IfOk result (λ text. string_bytes text
+        ≡ difference_text name.now (diagram_of interner.now.nodes tree)) }
+    ensures canonical { IsCanonical (diagram_of interner.now.nodes tree) }
+    ensures short { HasShortVersions (diagram_of interner.now.nodes tree) }
 {
+    interner.are_sound();
     match tree.try_to_string(alloc, interner)? {
-        Some(marker) => difference_lines(alloc, package, marker.as_str()),
-        None => difference_lines(alloc, package, EVERYWHERE),
+        Some(marker) => difference_lines(alloc, name, marker.as_str()),
+        None => difference_lines(alloc, name, EVERYWHERE),
     }
 }
 
 /// The lines of a difference, of which the last says where it is.
-fn difference_lines(alloc: Global, package: &PackageName, place: &str) -> Result<String, AllocError>
+fn difference_lines(alloc: Global, name: &PackageName, place: &str) -> Result<String, AllocError>
     ensures { IfOk result (λ text. string_bytes text
-        ≡ codes "no\n" ++ (package.now ++ (codes "\n" ++ (place.now ++ codes "\n")))) }
+        ≡ codes "no\n" ++ (name.now ++ (codes "\n" ++ (place.now ++ codes "\n")))) }
 {
-    format!(in alloc; "no\n{package}\n{place}\n")
+    format!(in alloc; "no\n{name}\n{place}\n")
 }
 
 /// Why the lists are refused.
