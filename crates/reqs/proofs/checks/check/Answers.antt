@@ -1,7 +1,9 @@
 use Rattle.std.proofs.Common.{◌≡◌, ℕ, ◌∷◌, [], Vec, Global, refl, rules, string_bytes}
 use Rattle.std.proofs.lemmas.Result.{err_from_is_err_and}
+use Rattle.reqs_ends.specs.declared.fault.Input.TheVariants.{First}
 use Rattle.reqs_ends.specs.declared.fault.Status.TheVariants.{Answered}
-use Rattle.reqs_ends.proofs.Steps.{first_unread, second_unread, third_unread, texts_refused, answered}
+use Rattle.reqs_ends.proofs.Steps.{first_unread, second_unread, third_unread, answered}
+use Rattle.reqs.proofs.Whole.{list_refused}
 use Rattle.reqs.proofs.checks.check.Goals as goal
 
 pub returns-in_err-requirements-clause-runs : goal.returns-in_err-requirements-clause-runs
@@ -27,20 +29,26 @@ returns-in_err-candidates-clause-runs g c =
 pub returns-in_err-text-clause-runs : goal.returns-in_err-text-clause-runs
 returns-in_err-text-clause-runs g c =
     let p = err_from_is_err_and c.from_residual-in_err-text.result c.from_residual-in_err-text.ensures.1 in
+    let first = c.in_ok-requirements in
+    let second = c.in_ok-environment in
+    let third = c.in_ok-candidates in
     let told = c.in_err-text.ensures in
-    let reqs = c.in_ok-requirements in
-    let env = c.in_ok-environment in
-    let cand = c.in_ok-candidates in
     rw (p.1, p.2)
-    (texts_refused _ _ _ _ _ _ (reqs.requirements.items ∷ env.environment.items ∷ cand.candidates.items ∷ [])
-    (reqs.ensures.0, (env.ensures.0, (cand.ensures.0, tt))) (reqs.ensures.1, (env.ensures.1, (cand.ensures.1, tt)))
-    _ _ told.0 told)
+    (list_refused _ _ _ _ _ _
+    (first.requirements.items ∷ second.environment.items ∷ third.candidates.items ∷ [])
+    (first.ensures.0, (second.ensures.0, (third.ensures.0, tt)))
+    (first.ensures.1, (second.ensures.1, (third.ensures.1, tt)))
+    c.args.vars.now First first.requirements.items _ told.0 told)
 
 pub returns-clause-runs : goal.returns-clause-runs
 returns-clause-runs g c =
-    let reqs = c.in_ok-requirements in
-    let env = c.in_ok-environment in
-    let cand = c.in_ok-candidates in
-    answered _ _ _ _ _ _ (reqs.requirements.items ∷ env.environment.items ∷ cand.candidates.items ∷ [])
-    (reqs.ensures.0, (env.ensures.0, (cand.ensures.0, tt))) (reqs.ensures.1, (env.ensures.1, (cand.ensures.1, tt)))
-    Answered (string_bytes c.in_ok-text.text) (refl, c.in_ok-text.ensures) c.write_answer.result (rw (search rules) at c.write_answer.ensures)
+    let first = c.in_ok-requirements in
+    let second = c.in_ok-environment in
+    let third = c.in_ok-candidates in
+    let bytes : c.as_str.result.now ≡ string_bytes c.in_ok-text.text = search rules in
+    answered _ _ _ _ _ _
+    (first.requirements.items ∷ second.environment.items ∷ third.candidates.items ∷ [])
+    (first.ensures.0, (second.ensures.0, (third.ensures.0, tt)))
+    (first.ensures.1, (second.ensures.1, (third.ensures.1, tt)))
+    Answered (string_bytes c.in_ok-text.text) (refl, c.in_ok-text.ensures) c.write_answer.result
+    (rw bytes at c.write_answer.ensures)
