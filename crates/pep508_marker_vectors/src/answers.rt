@@ -1,5 +1,6 @@
 //! The answers.
 
+use crate::asked::asked as asked_of;
 use crate::environment::environment;
 use crate::evaluations::{anywhere, evaluated};
 use crate::kept::{Call, keeps};
@@ -90,6 +91,7 @@ fn on_one(alloc: Global, interner: &mut Interner, asked: &str, text: &str) -> Re
         "view" => view(alloc, interner, text),
         "text" => text_in(alloc, interner, text),
         "top extra" => top_extra(alloc, interner, text),
+        "asked" => asked_of(alloc, interner, text),
         "clauses" => clauses(alloc, interner, text),
         "print" => shown::print(alloc, interner, text),
         "print in part" => shown::print_in_part(alloc, interner, text),

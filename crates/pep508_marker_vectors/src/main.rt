@@ -4,6 +4,7 @@
 #![tactic(auto)]
 
 mod answers;
+mod asked;
 mod comparisons;
 mod environment;
 mod evaluations;

@@ -1,5 +1,5 @@
 -- What a node that is lent asks, and the trees that are left to look at.
-use Rattle.std.specs.Prelude.{◌≡◌, ℕ, ◌<◌, ◌||◌, false, List, [], ◌∷◌, map}
+use Rattle.std.specs.Prelude.{◌≡◌, ℕ, ◌<◌, ◌||◌, Bool, false, List, [], ◌∷◌, map}
 use Rattle.std.specs.List.{AllByRecursion, list_any}
 use Rattle.std.specs.Ordering.{nat_cmp}
 use Rattle.std.specs.BTreeMap.{insert_entry}
@@ -60,10 +60,18 @@ lent_children (lent.Flagged flag set unset) = set ∷ unset ∷ []
 abbrev pub IsLeft : List NodeRecord → ℕ × Tree → Type 0
 IsLeft nodes entry = IsTree nodes entry.1 × (entry.0 ≡ entry.1.place)
 
--- what they ask
+-- the tree asks such a question
+abbrev pub tree_asks : List NodeRecord → (Question → Bool) → Tree → Bool
+tree_asks nodes test tree = asks_any test (diagram_of nodes tree)
+
+-- what the trees that are left ask
 abbrev pub asked_left : List NodeRecord → List (ℕ × Tree) → Asked
-asked_left nodes [] = nothing
-asked_left nodes (entry ∷ entries) = either (asked_by (diagram_of nodes entry.1)) (asked_left nodes entries)
+asked_left nodes entries =
+    record {
+      single_quote = list_any (λ entry. tree_asks nodes has_quote entry.1) entries;
+      deprecated_key = list_any (λ entry. tree_asks nodes is_of_deprecated_key entry.1) entries;
+      other_bound = list_any (λ entry. tree_asks nodes is_other_bound entry.1) entries;
+    }
 
 -- with further trees, each at its place
 abbrev pub with_trees : List (ℕ × Tree) → List Tree → List (ℕ × Tree)

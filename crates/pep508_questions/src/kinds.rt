@@ -1,18 +1,19 @@
 //! Of what kinds the questions of one node are.
 
-ghost use Rattle.std.specs.Prelude.{◌≡◌, map};
+ghost use Rattle.std.specs.Prelude.{◌≡◌, ◌^◌, false, not, nat_lt, [], ◌∷◌, map};
 ghost use Rattle.std.specs.List.{list_any};
 ghost use Rattle.pep508_diagram.specs.declared.variable.VersionVariable.{VersionVariable};
-ghost use Rattle.pep508_diagram.specs.Question.{VersionBelow, TextBelow};
-ghost use Rattle.pep508_questions.specs.Asks.{stands_at, is_quoted, flag_has_quote, flag_is_of_deprecated_key};
+ghost use Rattle.pep508_diagram.specs.Question.{VersionBelow, TextBelow, IsSet};
+ghost use Rattle.pep508_questions.specs.Asks.{stands_at, is_quoted, flag_has_quote};
+ghost use Rattle.pep508_questions.specs.Asks.{flag_is_of_deprecated_key};
 ghost use Rattle.pep508_questions.specs.Asks.{is_other_version};
-ghost use Rattle.pep508_questions.specs.Looked.{asked_among, lent_questions};
+ghost use Rattle.pep508_questions.specs.Looked.{asked_among};
 
 use crate::questions::Asked;
 use pep440_version::Version;
 use pep508_diagram::{Branch, Flag, MarkerText};
 use pep508_marker::MarkerValueString;
-use pep508_tree::{MarkerTree, TreeNode};
+use pep508_tree::MarkerTree;
 use version_ranges::Boundary;
 
 /// Whether a character of the text is a single quote.
@@ -27,10 +28,16 @@ fn is_quoted(text: &str) -> bool
     false
 }
 
+/// The numbers are of 64 bits. Does nothing.
+fn numbers_fit(numbers: &[u64])
+    ensures { list_any (λ number. not (nat_lt number (2 ^ 64))) numbers.now ≡ false }
+{}
+
 /// Whether there is more to the version than epoch 0 and release numbers.
 fn is_other_version(version: &Version) -> bool
     ensures { result ≡ is_other_version version.now }
 {
+    numbers_fit(version.release());
     version.epoch() != 0
         || version.pre().is_some()
         || version.post().is_some()
@@ -81,7 +88,7 @@ fn have_other(later: &[Branch<Version, MarkerTree>]) -> bool
 }
 
 /// What is asked between versions of a key.
-fn asked_of_versions(later: &[Branch<Version, MarkerTree>]) -> Asked
+pub(crate) fn asked_of_versions(later: &[Branch<Version, MarkerTree>]) -> Asked
     ensures { (key : VersionVariable) →
         result ≡ asked_among (map (λ branch. VersionBelow key branch.boundary) later.now) }
 {
@@ -93,7 +100,10 @@ fn asked_of_versions(later: &[Branch<Version, MarkerTree>]) -> Asked
 }
 
 /// What is asked between texts of a key. Where there is no boundary nothing is.
-fn asked_of_texts(key: MarkerValueString, later: &[Branch<MarkerText, MarkerTree>]) -> Asked
+pub(crate) fn asked_of_texts(
+    key: MarkerValueString,
+    later: &[Branch<MarkerText, MarkerTree>],
+) -> Asked
     ensures { result ≡ asked_among (map (λ branch. TextBelow key branch.boundary) later.now) }
 {
     Asked {
@@ -125,18 +135,13 @@ fn flag_is_of_deprecated_key(flag: &Flag) -> bool
     }
 }
 
-/// Of what kinds the questions of a node are, which its subtrees' don't count among.
-pub(crate) fn asked_of_node(node: TreeNode<'_>) -> Asked
-    ensures { result ≡ asked_among (lent_questions node.entry) }
+/// What a flag asks.
+pub(crate) fn asked_of_flag(flag: &Flag) -> Asked
+    ensures { result ≡ asked_among (IsSet flag.now ∷ []) }
 {
-    match node {
-        TreeNode::Constant(_) => Asked::NOTHING,
-        TreeNode::Versions(_, children) => asked_of_versions(children.later),
-        TreeNode::Texts(key, children) => asked_of_texts(key, children.later),
-        TreeNode::Flagged(flag, _, _) => Asked {
-            single_quote: flag_has_quote(flag),
-            deprecated_key: flag_is_of_deprecated_key(flag),
-            other_bound: false,
-        },
+    Asked {
+        single_quote: flag_has_quote(flag),
+        deprecated_key: flag_is_of_deprecated_key(flag),
+        other_bound: false,
     }
 }

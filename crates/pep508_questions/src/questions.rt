@@ -37,11 +37,13 @@ pub trait MarkerTreeQuestions {
     /// The tree.
     ghost tree: { Self → Tree };
 
-    /// Of what kinds the tree's questions are. A tree asks what its answer hangs on, and not what was written:
-    /// one that always holds asks nothing. Makes no tree and counts nothing; the only refusal is want of
+    /// Of what kinds the tree's questions are. A tree asks what its answer hangs on, and not what was
+    /// written: one that always holds asks nothing.
+    ///
+    /// Makes no tree and counts nothing; the only refusal is want of
     /// memory for the nodes that are left to look at.
     ///
-    /// Looks at each node of the tree once, and at each boundary in it. No recursion, however deep the tree is.
+    /// Looks at each node of the tree once, and at each boundary in it. No recursion, however deep it is.
     fn asked(self, alloc: Global, interner: &Interner) -> Result<Asked, AllocError>
         requires { IsTree interner.now.nodes (tree self) }
         ensures { IfOk result (λ asked. asked ≡ asked_by (diagram_of interner.now.nodes (tree self))) };

@@ -1,13 +1,14 @@
 //! A walk over a tree's nodes, those of the highest places first, so that none comes again.
 
-ghost use Rattle.std.specs.Prelude.{◌≡◌, ◌∷◌, map, IfOk, OnOk};
+ghost use Rattle.std.specs.Prelude.{◌≡◌, [], ◌∷◌, map, IfOk, OnOk};
 ghost use Rattle.pep508_tree.specs.Meaning.{IsTree, diagram_of};
 ghost use Rattle.pep508_questions.specs.Asks.{asked_by};
-ghost use Rattle.pep508_questions.specs.Looked.{either, lent_children, with_trees, Looked};
+ghost use Rattle.pep508_questions.specs.Looked.{either, with_trees, Looked};
 
-use crate::kinds::asked_of_node;
+use crate::kinds::{asked_of_flag, asked_of_texts, asked_of_versions};
 use crate::questions::Asked;
-use pep508_tree::{Children, Interner, MarkerTree, TreeNode};
+use pep508_diagram::Branch;
+use pep508_tree::{Interner, MarkerTree, TreeNode};
 use std::alloc::{AllocError, Global};
 use std::collections::BTreeMap;
 
@@ -26,30 +27,27 @@ fn either(a: Asked, b: Asked) -> Asked
 }
 
 /// Puts what stands between boundaries among the trees that are left.
-fn add_branches<T>(left: &mut Left, children: Children<'_, T>) -> Result<(), AllocError>
-    ensures { OnOk result (left.new.entries ≡ with_trees left.old.entries
-        (children.entry.first ∷ map (λ branch. branch.child) children.entry.later.now)) }
+fn add_branches<T>(
+    left: &mut Left,
+    first: MarkerTree,
+    later: &[Branch<T, MarkerTree>],
+) -> Result<(), AllocError>
+    ensures { OnOk result (left.new.entries
+        ≡ with_trees left.old.entries (first ∷ map (λ branch. branch.child) later.now)) }
 {
-    left.insert(children.first.place(), children.first)?;
-    for branch in children.later {
+    left.insert(first.place(), first)?;
+    for branch in later {
         left.insert(branch.child.place(), branch.child)?;
     }
     Ok(())
 }
 
-/// Puts what stands in a node among the trees that are left.
-fn add_children(left: &mut Left, node: TreeNode<'_>) -> Result<(), AllocError>
-    ensures { OnOk result (left.new.entries ≡ with_trees left.old.entries (lent_children node.entry)) }
+/// Puts what stands under a flag among the trees that are left.
+fn add_two(left: &mut Left, set: MarkerTree, unset: MarkerTree) -> Result<(), AllocError>
+    ensures { OnOk result (left.new.entries ≡ with_trees left.old.entries (set ∷ unset ∷ [])) }
 {
-    match node {
-        TreeNode::Constant(_) => {}
-        TreeNode::Versions(_, children) => add_branches(left, children)?,
-        TreeNode::Texts(_, children) => add_branches(left, children)?,
-        TreeNode::Flagged(_, set, unset) => {
-            left.insert(set.place(), set)?;
-            left.insert(unset.place(), unset)?;
-        }
-    }
+    left.insert(set.place(), set)?;
+    left.insert(unset.place(), unset)?;
     Ok(())
 }
 
@@ -59,9 +57,21 @@ fn look_at(interner: &Interner, left: &mut Left, tree: MarkerTree) -> Result<Ask
     ensures { IfOk result (λ asked. Looked interner.now.nodes tree left.old.entries left.new.entries asked) }
 {
     interner.are_sound();
-    let node = tree.node(interner);
-    add_children(left, node)?;
-    Ok(asked_of_node(node))
+    match tree.node(interner) {
+        TreeNode::Constant(_) => Ok(Asked::NOTHING),
+        TreeNode::Versions(_, children) => {
+            add_branches(left, children.first, children.later)?;
+            Ok(asked_of_versions(children.later))
+        }
+        TreeNode::Texts(key, children) => {
+            add_branches(left, children.first, children.later)?;
+            Ok(asked_of_texts(key, children.later))
+        }
+        TreeNode::Flagged(flag, set, unset) => {
+            add_two(left, set, unset)?;
+            Ok(asked_of_flag(flag))
+        }
+    }
 }
 
 /// Of what kinds a tree's questions are.

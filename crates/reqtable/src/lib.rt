@@ -12,6 +12,12 @@
 //! let text = answer.text(alloc, &candidates)?;
 //! ```
 //!
+//! A list has one normal text, which all lists that say the same share:
+//!
+//! ```text
+//! let text = normal(alloc, &requirements, &interner)?;
+//! ```
+//!
 //! For many environments a table is made of the requirements beforehand, which takes them. Its answers
 //! are those of the judge:
 //!

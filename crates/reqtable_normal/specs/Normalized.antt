@@ -1,5 +1,5 @@
 -- The normal text of requirement lines, and which lines have none.
-use Rattle.std.specs.Prelude.{◌≡◌, ℕ, Bool, not, List, ◌∷◌, ◌++◌, codes, filter, Option, Some, None}
+use Rattle.std.specs.Prelude.{◌≡◌, ℕ, Bool, false, not, List, ◌∷◌, ◌++◌, codes, filter, Option, Some, None}
 use Rattle.std.specs.Prelude.{Result, Ok, Err, String, if◌then◌else◌}
 use Rattle.std.specs.List.{AllByRecursion, AllZip, flat_map}
 use Rattle.std.specs.String.{string_bytes}

@@ -10,12 +10,21 @@ ghost use Rattle.reqtable_requirements.specs.Asks.{asks_of};
 ghost use Rattle.reqtable_requirements.specs.LineReading.{LineRecord};
 ghost use Rattle.reqtable_requirements.specs.Requirements.{requirements_of};
 ghost use Rattle.reqtable_normal.specs.Meant.{SayAlike, LeavesOut, ReadsAs};
-ghost use Rattle.reqtable_normal.specs.Normalized.{IsNormalText};
+ghost use Rattle.reqtable_normal.specs.Normalized.{IsFirstFault, IsNormalText};
+ghost use Rattle.reqtable_normal.specs.declared.error.NormalCause.{NormalCause};
+
+use reqtable_requirements::laws::requirements_are_their_lines;
 
 /// The lines of a text have one normal text at most.
 pub fn there_is_one_normal_text()
     ensures { (said : List LineRecord) (text other : List ℕ) →
         IsNormalText said text → IsNormalText said other → text ≡ other }
+{}
+
+/// And where they have one, none of them has a fault.
+pub fn what_has_a_normal_text_has_no_fault()
+    ensures { (said : List LineRecord) (text : List ℕ) (number : ℕ) (cause : NormalCause) →
+        IsNormalText said text → IsFirstFault said number cause → ⊥ }
 {}
 
 /// A normal text is read again, with whatever variables, as lines that ask for what those do of which it is
@@ -29,7 +38,9 @@ pub fn a_normal_text_reads_back()
         requirements_of others text ≡ Ok again →
         IsAnswerText admits (asks_of v said) candidates answer
         ↔ IsAnswerText admits (asks_of v again) candidates answer }
-{}
+{
+    requirements_are_their_lines();
+}
 
 /// Lines that say the same in one order, those aside that never apply, have one normal text.
 pub fn what_says_the_same_has_one_normal_text()
@@ -43,4 +54,6 @@ pub fn a_normal_text_is_its_own()
     ensures { (vars others : Variables) (bytes text : List ℕ) (said again : List LineRecord) →
         requirements_of vars bytes ≡ Ok said → IsNormalText said text →
         requirements_of others text ≡ Ok again → IsNormalText again text }
-{}
+{
+    requirements_are_their_lines();
+}

@@ -6,20 +6,21 @@ ghost use Rattle.pep508_url.specs.Vars.{Variables};
 ghost use Rattle.pep508_questions.specs.Asks.{asked_by};
 ghost use Rattle.pep508_diagram.specs.Diagram.{Diagram};
 ghost use Rattle.pep508_diagram.specs.Question.{Question};
-ghost use Rattle.pep508_tree.specs.Meaning.{IsTree};
+ghost use Rattle.pep508_tree.specs.Meaning.{IsTree, diagram_of};
 ghost use Rattle.reqtable_answer.specs.Asks.{has_url};
 ghost use Rattle.reqtable_answer.specs.Says.{requirement_seen};
 ghost use Rattle.reqtable_requirements.specs.Asks.{AreOfNodes};
 ghost use Rattle.reqtable_requirements.specs.LineReading.{LineRecord};
 ghost use Rattle.reqtable_requirements.specs.Requirements.{StandsFor};
-ghost use Rattle.reqtable_normal.specs.Normalized.{Normalizes, line_text, marker_fault, normal_fault};
+ghost use Rattle.reqtable_normal.specs.Normalized.{Normalizes, line_text, marker_fault, never_holds};
+ghost use Rattle.reqtable_normal.specs.Normalized.{normal_fault};
 ghost use Rattle.reqtable_normal.specs.Seen.{PushesLine, normal_of};
 
 use crate::error::{NormalCause, NormalError};
 use pep508_questions::{Asked, MarkerTreeQuestions};
 use pep508_requirement::{Requirement, VersionOrUrl};
 use pep508_requirement_ref::RequirementRef;
-use pep508_tree::Interner;
+use pep508_tree::{Interner, MarkerTree};
 use reqtable_requirements::{Line, Requirements};
 use std::alloc::{AllocError, Global};
 use std::fmt::Write;
@@ -53,6 +54,7 @@ pub fn normal(
 }
 
 /// Adds a line's text, or nothing where its marker never holds.
+#[tactic(auto, using(crate::proofs::Pushing::pushed, crate::proofs::Pushing::skipped))]
 fn push_line(
     alloc: Global,
     text: &mut String,
@@ -67,10 +69,19 @@ fn push_line(
         let number = line.number;
         return Err(NormalError::Line { number, cause });
     }
-    if !requirement.marker.is_false() {
+    if !never_holds(requirement.marker, interner) {
         push_requirement(alloc, text, requirement, interner)?;
     }
     Ok(())
+}
+
+/// Whether a marker never holds.
+fn never_holds(marker: MarkerTree, interner: &Interner) -> bool
+    requires { IsTree interner.now.nodes marker }
+    ensures { result ≡ never_holds (diagram_of interner.now.nodes marker) }
+{
+    interner.are_sound();
+    marker.is_false()
 }
 
 /// Adds a requirement's text and a line feed.

@@ -1,0 +1,27 @@
+//! What is asked of the questions of markers.
+
+use crate::reading::read;
+use crate::stop::{Stop, said};
+use pep508_questions::{Asked, MarkerTreeQuestions};
+use pep508_tree::Interner;
+use std::alloc::Global;
+
+/// Of what kinds the questions of a marker's tree are.
+pub fn asked(alloc: Global, interner: &mut Interner, text: &str) -> Result<String, Stop> {
+    let tree = read(alloc, interner, text)?;
+    let asked = tree.asked(alloc, interner)?;
+    said(alloc, words(asked))
+}
+
+fn words(asked: Asked) -> &'static str {
+    match (asked.single_quote, asked.deprecated_key, asked.other_bound) {
+        (false, false, false) => "none",
+        (true, false, false) => "quote",
+        (false, true, false) => "old",
+        (false, false, true) => "bound",
+        (true, true, false) => "quote old",
+        (true, false, true) => "quote bound",
+        (false, true, true) => "old bound",
+        (true, true, true) => "quote old bound",
+    }
+}
