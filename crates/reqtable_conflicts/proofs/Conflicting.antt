@@ -1,0 +1,357 @@
+-- The cases that are picked are the conflicts of their package's lines, and they stand by name.
+use Rattle.std.proofs.Common.{◌≡◌, ◌∙◌, ◌<◌, ◌⊎◌, ℕ, Bool, true, false, cond, ◌||◌, List, [], ◌∷◌, ◌++◌, map, filter}
+use Rattle.std.proofs.Common.{length, Option, Some, None, refl, sym, ap, subst, inl, inr, true≢false, Less, Greater, arith}
+use Rattle.std.specs.List.{list_any, AllZip, AllByRecursion}
+use Rattle.std.specs.List.Sorted.{IsStrictlySortedBy}
+use Rattle.std.specs.Ordering.{nat_cmp, is_eq, ordering_reverse}
+use Rattle.std.specs.Cmp.Lexicographic.{slice_cmp}
+use Rattle.std.specs.Str.{bytes_eq}
+use Rattle.std.specs.declared.cmp.Ordering.{Ordering}
+use Rattle.std.proofs.lemmas.Cmp.{nat_list_cmp_total}
+use Rattle.std.proofs.lemmas.List.{length-map, append-nil}
+use Rattle.std.proofs.lemmas.Map.Text.{is_eq-slice_cmp}
+use Rattle.version_ranges.specs.Point.{Point}
+use Rattle.version_ranges.specs.Held.{holds_at}
+use Rattle.pep440_version.specs.Record.{VersionRecord}
+use Rattle.pep440_version.specs.Order.{version_cmp}
+use Rattle.pep508_diagram.specs.Question.{Valuation}
+use Rattle.pep508_tree.specs.Tree.{Tree}
+use Rattle.pep508_tree.specs.Meaning.{NodeRecord}
+use Rattle.pep508_cases.specs.Cases.{Marks, same_marks, marks_cmp, sets_of, IsRealised, IsCase, AreCases}
+use Rattle.pep508_cases.proofs.Marks.{marks_is}
+use Rattle.pep508_url.specs.Vars.{Variables}
+use Rattle.reqtable_answer.specs.Asks.{is_of}
+use Rattle.reqtable_answer.proofs.Tests.{same_bytes}
+use Rattle.reqtable_requirements.specs.Asks.{lines_of}
+use Rattle.reqtable_requirements.specs.LineReading.{LineRecord}
+use Rattle.reqtable_requirements.specs.Requirements.{StandsFor}
+use Rattle.reqtable_requirements.specs.declared.requirements.Line.{Line}
+use Rattle.reqtable_cases.specs.Lines.{line_marks, marked, numbers_of, asked_by, is_named}
+use Rattle.reqtable_cases.specs.Usable.{IsRangeOf, is_usable, points_of}
+use Rattle.reqtable_cases.specs.Conflicts.{IsConflict, AreConflicts}
+use Rattle.reqtable_table.specs.Cases.{HasItsCases, IsCaseOfLines, AreCasesOf, cases_under}
+use Rattle.reqtable_table.specs.Given.{is_under}
+use Rattle.reqtable_table.specs.Kept.{KeptCase, KeptPackage, KeepsAll}
+use Rattle.reqtable_table.proofs.CasesOfLines.{cases_of_lines, none_of_lines}
+use Rattle.reqtable_conflicts.specs.Contradictions.{ConflictRecord, HasNoPoint, StandByName, numbers_under}
+use Rattle.reqtable_conflicts.specs.Picking.{Picks, PicksOf, FoundFor, named}
+use Rattle.reqtable_conflicts.proofs.Picked.{in_or}
+
+-- ---- a case without any point is a conflict
+
+as_many : (set : Marks) (lines : List LineRecord) → length (asked_by set lines) ≡ length (numbers_of set lines)
+as_many set lines =
+    length-map (marked set lines) (λ line. line.front) ∙ sym (length-map (marked set lines) (λ line. line.number))
+
+conflict_by : (lines : List LineRecord) (case : KeptCase) (set : Marks × Tree)
+    (range : Option (List (Point VersionRecord))) → case.range ≡ range → IsCaseOfLines lines case set →
+    IsRangeOf (asked_by set.0 lines) range → HasNoPoint case → IsConflict (asked_by set.0 lines)
+conflict_by lines case set None is one of none =
+    let wrong : None ≡ Some none.set = sym is ∙ none.ranged in absurd (cc)
+conflict_by lines case set (Some points) is one of none =
+    let same : Some points ≡ Some none.set = sym is ∙ none.ranged in
+    record {
+      some = subst (λ n. 0 < n) (ap length one.numbers ∙ sym (as_many set.0 lines)) none.some;
+      usable = of.0;
+      none = λ p. sym (of.1 p) ∙ ap (λ s. holds_at version_cmp s p) (ap (in_or points) same) ∙ none.none p;
+    }
+
+no_point_by : (lines : List LineRecord) (case : KeptCase) (set : Marks × Tree)
+    (range : Option (List (Point VersionRecord))) → case.range ≡ range → IsCaseOfLines lines case set →
+    IsRangeOf (asked_by set.0 lines) range → IsConflict (asked_by set.0 lines) → HasNoPoint case
+no_point_by lines case set None is one of conflict = absurd (true≢false (sym conflict.usable ∙ of))
+no_point_by lines case set (Some points) is one of conflict = record {
+  some = subst (λ n. 0 < n) (as_many set.0 lines ∙ sym (ap length one.numbers)) conflict.some;
+  set = points;
+  ranged = is;
+  none = λ p. of.1 p ∙ conflict.none p;
+}
+
+to_conflict : (lines : List LineRecord) (case : KeptCase) (set : Marks × Tree) → IsCaseOfLines lines case set →
+    HasNoPoint case → IsConflict (asked_by set.0 lines)
+to_conflict lines case set one = conflict_by lines case set case.range refl one one.range
+
+to_no_point : (lines : List LineRecord) (case : KeptCase) (set : Marks × Tree) → IsCaseOfLines lines case set →
+    IsConflict (asked_by set.0 lines) → HasNoPoint case
+to_no_point lines case set one = no_point_by lines case set case.range refl one one.range
+
+-- ---- and those picked are all conflicts
+
+-- the sets of the picked cases, among those of all
+record Kept (lines : List LineRecord) (sets : List (Marks × Tree)) (picked : List (List ℕ)) : Type 1 where
+  kept : List Marks
+  within : (P : Marks → Type 0) → AllByRecursion P (sets_of sets) → AllByRecursion P kept
+  rising : IsStrictlySortedBy marks_cmp (sets_of sets) → IsStrictlySortedBy marks_cmp kept
+  conflicts : AllByRecursion (λ set. IsConflict (asked_by set lines)) kept
+  all : (m : Marks) → IsConflict (asked_by m lines) → list_any (same_marks m) (sets_of sets) ≡ true →
+      list_any (same_marks m) kept ≡ true
+  numbers : picked ≡ map (λ set. numbers_of set lines) kept
+
+or_there : (b c d : Bool) → (b || c) ≡ true → (c ≡ true → d ≡ true) → (b || d) ≡ true
+or_there true c d h f = refl
+or_there false c d h f = f h
+
+or_other : (b c : Bool) → (b || c) ≡ true → (b ≡ true → ⊥) → c ≡ true
+or_other true c h never = absurd (never refl)
+or_other false c h never = h
+
+picked_kept : (lines : List LineRecord) (cases : List KeptCase) (sets : List (Marks × Tree)) (picked : List (List ℕ)) →
+    AllZip (IsCaseOfLines lines) cases sets → Picks cases picked → Kept lines sets picked
+unfolding IsStrictlySortedBy
+picked_kept lines [] [] picked h picks = record {
+  kept = [];
+  within = λ P all. tt;
+  rising = λ rise. tt;
+  conflicts = tt;
+  all = λ m conflict there. there;
+  numbers = picks;
+}
+picked_kept lines [] (set ∷ sets) picked h picks = absurd h
+picked_kept lines (case ∷ cases) [] picked h picks = absurd h
+picked_kept lines (case ∷ cases) (set ∷ sets) picked h (inl (none, (rest, is, below))) =
+    let k = picked_kept lines cases sets rest h.1 below in
+    record {
+      kept = set.0 ∷ k.kept;
+      within = λ P all. (all.0, k.within P all.1);
+      rising = λ rise. (k.within (λ m. marks_cmp set.0 m ≡ Less) rise.0, k.rising rise.1);
+      conflicts = (to_conflict lines case set h.0 none, k.conflicts);
+      all = λ m conflict there. or_there (same_marks m set.0) (list_any (same_marks m) (sets_of sets))
+          (list_any (same_marks m) k.kept) there (k.all m conflict);
+      numbers = is ∙ (λ i. h.0.numbers i ∷ k.numbers i);
+    }
+picked_kept lines (case ∷ cases) (set ∷ sets) picked h (inr (some, below)) =
+    let k = picked_kept lines cases sets picked h.1 below in
+    record {
+      kept = k.kept;
+      within = λ P all. k.within P all.1;
+      rising = λ rise. k.rising rise.1;
+      conflicts = k.conflicts;
+      all = λ m conflict there. k.all m conflict
+          (or_other (same_marks m set.0) (list_any (same_marks m) (sets_of sets)) there
+          (λ same. some (to_no_point lines case set h.0
+          (subst (λ s. IsConflict (asked_by s lines)) (marks_is m set.0 same) conflict))));
+      numbers = k.numbers;
+    }
+
+realised_each : (lines : List LineRecord) (nodes : List NodeRecord) (sets : List (Marks × Tree)) →
+    AllByRecursion (IsCase (line_marks lines) nodes) sets →
+    AllByRecursion (IsRealised (line_marks lines)) (sets_of sets)
+realised_each lines nodes [] h = tt
+realised_each lines nodes (set ∷ sets) h = (h.0.realised, realised_each lines nodes sets h.1)
+
+pub picked_are_conflicts : (lines : List LineRecord) (nodes : List NodeRecord) (cases : List KeptCase)
+    (picked : List (List ℕ)) → AreCasesOf nodes lines cases → Picks cases picked → AreConflicts lines picked
+picked_are_conflicts lines nodes cases picked h picks =
+    let k = picked_kept lines cases h.sets picked h.each picks in
+    record {
+      sets = k.kept;
+      rising = k.rising h.are.rising;
+      realised = k.within (IsRealised (line_marks lines)) (realised_each lines nodes h.sets h.are.each);
+      conflicts = k.conflicts;
+      all = λ v conflict. k.all (line_marks lines v) conflict (h.are.all v);
+      numbers = k.numbers;
+    }
+
+-- lines that there are none of have none
+none_rise : IsStrictlySortedBy marks_cmp []
+unfolding IsStrictlySortedBy
+none_rise = tt
+
+none_conflict : (lines : List LineRecord) (picked : List (List ℕ)) → lines ≡ [] → picked ≡ [] →
+    AreConflicts lines picked
+none_conflict lines picked empty none =
+    subst (λ l. AreConflicts l picked) (sym empty) (record {
+      sets = [];
+      rising = none_rise;
+      realised = tt;
+      conflicts = tt;
+      all = λ v conflict. absurd (omega (arith, conflict.some));
+      numbers = none;
+    })
+
+-- ---- by name
+
+unnamed_by : {A : Type 0} (b : Bool) (rest : Bool) (x : A) (ys : List A) → (b || rest) ≡ false →
+    (rest ≡ false → ys ≡ []) → cond b (x ∷ ys) ys ≡ []
+unnamed_by true rest x ys h below = absurd (true≢false h)
+unnamed_by false rest x ys h below = below h
+
+unnamed : {A : Type 0} (p : A → Bool) (xs : List A) → list_any p xs ≡ false → filter p xs ≡ []
+unnamed p [] h = refl
+unnamed p (x ∷ xs) h = unnamed_by (p x) (list_any p xs) x (filter p xs) h (unnamed p xs)
+
+-- lines that stand for others are of the same packages
+named_alike : (vars : Variables) (nodes : List NodeRecord) (lines : List Line) (said : List LineRecord)
+    (q : List ℕ) → AllZip (StandsFor vars nodes) lines said → list_any (is_under q) lines ≡ is_named q said
+named_alike vars nodes [] [] q h = refl
+named_alike vars nodes [] (one ∷ said) q h = absurd h
+named_alike vars nodes (line ∷ lines) [] q h = absurd h
+named_alike vars nodes (line ∷ lines) (one ∷ said) q h =
+    let first = ap (bytes_eq q) h.0.name in
+    let rest = named_alike vars nodes lines said q h.1 in
+    λ i. first i || rest i
+
+first_by : (b : Bool) (c : ConflictRecord) (cs : List ConflictRecord) → b ≡ true →
+    map (λ c. c.numbers) (cond b (c ∷ cs) cs) ≡ c.numbers ∷ map (λ c. c.numbers) cs
+first_by true c cs h = refl
+first_by false c cs h = absurd (true≢false (sym h))
+
+passed_by : (b : Bool) (c : ConflictRecord) (cs : List ConflictRecord) → b ≡ false →
+    map (λ c. c.numbers) (cond b (c ∷ cs) cs) ≡ map (λ c. c.numbers) cs
+passed_by true c cs h = absurd (true≢false h)
+passed_by false c cs h = refl
+
+-- a package's own
+own_under : (q n : List ℕ) (picked : List (List ℕ)) (rest : List ConflictRecord) → bytes_eq q n ≡ true →
+    numbers_under q (map (named n) picked ++ rest) ≡ picked ++ numbers_under q rest
+own_under q n [] rest h = refl
+own_under q n (x ∷ picked) rest h =
+    first_by (bytes_eq q n) (named n x) (filter (λ c. bytes_eq q c.name) (map (named n) picked ++ rest)) h
+    ∙ ap (λ l. x ∷ l) (own_under q n picked rest h)
+
+-- and another one's
+other_under : (q n : List ℕ) (picked : List (List ℕ)) (rest : List ConflictRecord) → bytes_eq q n ≡ false →
+    numbers_under q (map (named n) picked ++ rest) ≡ numbers_under q rest
+other_under q n [] rest h = refl
+other_under q n (x ∷ picked) rest h =
+    passed_by (bytes_eq q n) (named n x) (filter (λ c. bytes_eq q c.name) (map (named n) picked ++ rest)) h
+    ∙ other_under q n picked rest h
+
+not_later : (q n : List ℕ) (names : List (List ℕ)) → q ≡ n →
+    AllByRecursion (λ y. slice_cmp nat_cmp n y ≡ Less) names → list_any (bytes_eq q) names ≡ false
+not_later q n [] same h = refl
+not_later q n (y ∷ names) same h =
+    let here : bytes_eq q y ≡ false =
+    sym (is_eq-slice_cmp q y) ∙ ap (λ m. is_eq (slice_cmp nat_cmp m y)) same ∙ ap is_eq h.0 in
+    let rest = not_later q n names same h.1 in
+    λ i. here i || rest i
+
+abbrev Under : List KeptPackage → List (List ℕ) → List ConflictRecord → List ℕ → Type 0
+Under table names found q =
+    ((list_any (bytes_eq q) names ≡ true) × PicksOf (cases_under q table) (numbers_under q found))
+    ⊎ ((list_any (bytes_eq q) names ≡ false) × (numbers_under q found ≡ []))
+
+absent : (table : List KeptPackage) (names : List (List ℕ)) (found : List ConflictRecord) (q : List ℕ) →
+    Under table names found q → list_any (bytes_eq q) names ≡ false → numbers_under q found ≡ []
+absent table names found q (inl there) none = absurd (true≢false (sym there.0 ∙ none))
+absent table names found q (inr h) none = h.1
+
+under_by : (table : List KeptPackage) (n : List ℕ) (names : List (List ℕ)) (found rest : List ConflictRecord)
+    (picked : List (List ℕ)) (q : List ℕ) (b : Bool) → bytes_eq q n ≡ b →
+    AllByRecursion (λ y. slice_cmp nat_cmp n y ≡ Less) names → PicksOf (cases_under n table) picked →
+    found ≡ map (named n) picked ++ rest → Under table names rest q → Under table (n ∷ names) found q
+under_by table n names found rest picked q true e later picks is below =
+    let same : q ≡ n = same_bytes q n e in
+    let none = absent table names rest q below (not_later q n names same later) in
+    let numbers : numbers_under q found ≡ picked =
+    ap (numbers_under q) is ∙ own_under q n picked rest e ∙ ap (λ l. picked ++ l) none ∙ append-nil picked in
+    inl (
+      ap (λ b. b || list_any (bytes_eq q) names) e,
+      subst (λ l. PicksOf (cases_under q table) l) (sym numbers)
+          (subst (λ m. PicksOf (cases_under m table) picked) (sym same) picks),
+    )
+under_by table n names found rest picked q false e later picks is (inl below) =
+    let numbers : numbers_under q found ≡ numbers_under q rest =
+    ap (numbers_under q) is ∙ other_under q n picked rest e in
+    inl (
+      ap (λ b. b || list_any (bytes_eq q) names) e ∙ below.0,
+      subst (λ l. PicksOf (cases_under q table) l) (sym numbers) below.1,
+    )
+under_by table n names found rest picked q false e later picks is (inr below) =
+    inr (
+      ap (λ b. b || list_any (bytes_eq q) names) e ∙ below.0,
+      ap (numbers_under q) is ∙ other_under q n picked rest e ∙ below.1,
+    )
+
+found_under : (table : List KeptPackage) (names : List (List ℕ)) (found : List ConflictRecord) →
+    IsStrictlySortedBy (slice_cmp nat_cmp) names → FoundFor table names found → (q : List ℕ) →
+    Under table names found q
+unfolding IsStrictlySortedBy
+found_under table [] found rise h q = inr (refl, ap (numbers_under q) h)
+found_under table (n ∷ names) found rise (picked, rest, picks, is, below) q =
+    under_by table n names found rest picked q (bytes_eq q n) refl rise.0 picks is
+    (found_under table names rest rise.1 below q)
+
+-- ---- they stand by name
+
+abbrev NotBefore : List ℕ → ConflictRecord → Type 0
+NotBefore n other = slice_cmp nat_cmp other.name n ≡ Less → ⊥
+
+later_not_before : (n m : List ℕ) → slice_cmp nat_cmp n m ≡ Less → slice_cmp nat_cmp m n ≡ Less → ⊥
+later_not_before n m h back =
+    let turned : Less ≡ Greater = sym back ∙ nat_list_cmp_total.antisymm m n ∙ ap ordering_reverse h in absurd (cc)
+
+own_not_before : (n : List ℕ) → slice_cmp nat_cmp n n ≡ Less → ⊥
+own_not_before n h = later_not_before n n h h
+
+each_named : (n : List ℕ) (table : List KeptPackage) (names : List (List ℕ)) (found : List ConflictRecord) →
+    AllByRecursion (λ y. slice_cmp nat_cmp n y ≡ Less) names → FoundFor table names found →
+    AllByRecursion (NotBefore n) found
+each_named n table [] found h is = subst (AllByRecursion (NotBefore n)) (sym is) tt
+each_named n table (m ∷ names) found h (picked, rest, picks, is, below) =
+    subst (AllByRecursion (NotBefore n)) (sym is)
+    (own_and_rest m picked (later_not_before n m h.0) (each_named n table names rest h.1 below))
+  where
+    own_and_rest : (m : List ℕ) (picked : List (List ℕ)) → (slice_cmp nat_cmp m n ≡ Less → ⊥) →
+        AllByRecursion (NotBefore n) rest → AllByRecursion (NotBefore n) (map (named m) picked ++ rest)
+    own_and_rest m [] one all = all
+    own_and_rest m (x ∷ picked) one all = (one, own_and_rest m picked one all)
+
+with_own : (n : List ℕ) (picked : List (List ℕ)) (rest : List ConflictRecord) →
+    AllByRecursion (NotBefore n) rest → AllByRecursion (NotBefore n) (map (named n) picked ++ rest)
+with_own n [] rest h = h
+with_own n (x ∷ picked) rest h = (own_not_before n, with_own n picked rest h)
+
+own_stand : (n : List ℕ) (picked : List (List ℕ)) (rest : List ConflictRecord) →
+    AllByRecursion (NotBefore n) rest → StandByName rest → StandByName (map (named n) picked ++ rest)
+own_stand n [] rest h stand = stand
+own_stand n (x ∷ picked) rest h stand = (with_own n picked rest h, own_stand n picked rest h stand)
+
+pub found_stand : (table : List KeptPackage) (names : List (List ℕ)) (found : List ConflictRecord) →
+    IsStrictlySortedBy (slice_cmp nat_cmp) names → FoundFor table names found → StandByName found
+unfolding IsStrictlySortedBy
+found_stand table [] found rise h = subst StandByName (sym h) tt
+found_stand table (n ∷ names) found rise (picked, rest, picks, is, below) =
+    subst StandByName (sym is)
+    (own_stand n picked rest (each_named n table names rest rise.0 below) (found_stand table names rest rise.1 below))
+
+-- ---- and are the conflicts of each package
+
+abbrev Unnamed : List LineRecord → List ℕ → Type 0
+Unnamed said q = is_named q said ≡ false
+
+conflicts_by : (nodes : List NodeRecord) (table : List KeptPackage) (said : List LineRecord) (q : List ℕ)
+    (picked : List (List ℕ)) (cases : Option (List KeptCase)) → KeepsAll nodes table said →
+    AllByRecursion (HasItsCases nodes) table → cases_under q table ≡ cases → PicksOf cases picked →
+    AreConflicts (lines_of q said) picked
+conflicts_by nodes table said q picked None keeps has is picks =
+    none_conflict (lines_of q said) picked
+    (unnamed (λ line. is_of q line.front) said (none_of_lines nodes table said q keeps is)) picks
+conflicts_by nodes table said q picked (Some cases) keeps has is picks =
+    picked_are_conflicts (lines_of q said) nodes cases picked
+    (cases_of_lines nodes table said q cases keeps has is) picks
+
+conflicts_under : (nodes : List NodeRecord) (table : List KeptPackage) (said : List LineRecord)
+    (names : List (List ℕ)) (found : List ConflictRecord) (q : List ℕ) → KeepsAll nodes table said →
+    AllByRecursion (HasItsCases nodes) table → list_any (bytes_eq q) names ≡ is_named q said →
+    Under table names found q → AreConflicts (lines_of q said) (numbers_under q found)
+conflicts_under nodes table said names found q keeps has are (inl there) =
+    conflicts_by nodes table said q (numbers_under q found) (cases_under q table) keeps has refl there.1
+conflicts_under nodes table said names found q keeps has are (inr none) =
+    none_conflict (lines_of q said) (numbers_under q found)
+    (unnamed (λ line. is_of q line.front) said (sym are ∙ none.0)) none.1
+
+or_nothing : (b : Bool) → (b || false) ≡ b
+or_nothing true = refl
+or_nothing false = refl
+
+pub all_conflicts : (vars : Variables) (old nodes : List NodeRecord) (lines : List Line) (said : List LineRecord)
+    (table : List KeptPackage) (names : List (List ℕ)) (found : List ConflictRecord) →
+    AllZip (StandsFor vars old) lines said → KeepsAll nodes table said →
+    AllByRecursion (HasItsCases nodes) table → IsStrictlySortedBy (slice_cmp nat_cmp) names →
+    ((q : List ℕ) → list_any (bytes_eq q) names ≡ (list_any (is_under q) lines || false)) →
+    FoundFor table names found → (q : List ℕ) → AreConflicts (lines_of q said) (numbers_under q found)
+all_conflicts vars old nodes lines said table names found stand keeps has rise are h q =
+    conflicts_under nodes table said names found q keeps has
+    (are q ∙ or_nothing (list_any (is_under q) lines) ∙ named_alike vars old lines said q stand)
+    (found_under table names found rise h q)

@@ -1,0 +1,4 @@
+pub mod Copied
+pub mod Gathered
+pub mod Picked
+pub mod Conflicting

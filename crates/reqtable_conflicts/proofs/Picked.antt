@@ -1,0 +1,119 @@
+-- Cases without any point, picked one after another.
+use Rattle.std.proofs.Common.{◌≡◌, ◌∙◌, ◌<◌, ◌+◌, ◌↔◌, ℕ, Bool, false, IsTrue, List, [], ◌∷◌, ◌++◌, map, length}
+use Rattle.std.proofs.Common.{take, get_or, Bor}
+use Rattle.std.proofs.Common.{Option, Some, None, refl, sym, ap, subst, inl, inr}
+use Rattle.std.proofs.lemmas.List.{map-append, append_assoc, append-nil, take_more}
+use Rattle.version_ranges.specs.Point.{Point}
+use Rattle.version_ranges.specs.Held.{holds_at}
+use Rattle.pep440_version.specs.Record.{VersionRecord}
+use Rattle.pep440_version.specs.Order.{version_cmp}
+use Rattle.reqtable_table.specs.Cases.{cases_under}
+use Rattle.reqtable_table.specs.Casing.{case_record}
+use Rattle.reqtable_table.specs.declared.table.Case.{Case}
+use Rattle.reqtable_table.specs.Kept.{KeptCase, KeptPackage}
+use Rattle.reqtable_conflicts.specs.Contradictions.{ConflictRecord, HasNoPoint}
+use Rattle.reqtable_conflicts.specs.Picking.{Picks, PicksOf, AddsPicked, FoundFor, named}
+
+abbrev Set : Type 0
+Set = List (Point VersionRecord)
+
+abbrev pub in_or : Set → Option Set → Set
+in_or other None = other
+in_or other (Some set) = set
+
+pub has_none : (case : KeptCase) (set : Set) (r : Bool) → 0 < length case.numbers → case.range ≡ Some set →
+    (IsTrue r ↔ ((p : Point VersionRecord) → holds_at version_cmp set p ≡ false)) →
+    IsTrue r ↔ HasNoPoint case
+has_none case set r some is tells = (
+  λ t. record { some = some; set = set; ranged = is; none = tells.0 t },
+  λ h. tells.1
+      (λ p. subst (λ s. holds_at version_cmp s p ≡ false) (ap (in_or set) (sym h.ranged ∙ is)) (h.none p)),
+)
+
+pub picked_more : (cases : List KeptCase) (picked : List (List ℕ)) (case : KeptCase) → Picks cases picked →
+    HasNoPoint case → Picks (cases ++ case ∷ []) (picked ++ case.numbers ∷ [])
+picked_more [] picked case h none = inl (none, ([], ap (λ l. l ++ case.numbers ∷ []) h, refl))
+picked_more (c ∷ cases) picked case (inl (one, (rest, is, below))) none =
+    inl (
+      one,
+      (
+        rest ++ case.numbers ∷ [],
+        ap (λ l. l ++ case.numbers ∷ []) is,
+        picked_more cases rest case below none,
+      ),
+    )
+picked_more (c ∷ cases) picked case (inr (never, below)) none = inr (never, picked_more cases picked case below none)
+
+pub passed_more : (cases : List KeptCase) (picked : List (List ℕ)) (case : KeptCase) → Picks cases picked →
+    (HasNoPoint case → ⊥) → Picks (cases ++ case ∷ []) picked
+passed_more [] picked case h some = inr (some, h)
+passed_more (c ∷ cases) picked case (inl (one, (rest, is, below))) some =
+    inl (one, (rest, is, passed_more cases rest case below some))
+passed_more (c ∷ cases) picked case (inr (never, below)) some = inr (never, passed_more cases picked case below some)
+
+-- a case that was added, or passed over
+pub added_more : (name : List ℕ) (cases : List KeptCase) (case : KeptCase) (old new more : List ConflictRecord) →
+    AddsPicked name cases old new → HasNoPoint case → more ≡ new ++ named name case.numbers ∷ [] →
+    AddsPicked name (cases ++ case ∷ []) old more
+added_more name cases case old new more (picked, picks, is) none grown = (
+  picked ++ case.numbers ∷ [],
+  picked_more cases picked case picks none,
+  grown
+      ∙ ap (λ l. l ++ named name case.numbers ∷ []) is
+      ∙ append_assoc old (map (named name) picked) (named name case.numbers ∷ [])
+      ∙ ap (λ l. old ++ l) (sym (map-append (named name) picked (case.numbers ∷ []))),
+)
+
+pub added_same : (name : List ℕ) (cases : List KeptCase) (case : KeptCase) (old new : List ConflictRecord) →
+    AddsPicked name cases old new → (HasNoPoint case → ⊥) → AddsPicked name (cases ++ case ∷ []) old new
+added_same name cases case old new (picked, picks, is) some =
+    (picked, passed_more cases picked case picks some, is)
+
+-- one package after another
+pub found_more : (table : List KeptPackage) (names : List (List ℕ)) (name : List ℕ)
+    (found more : List ConflictRecord) (picked : List (List ℕ)) → FoundFor table names found →
+    PicksOf (cases_under name table) picked → more ≡ found ++ map (named name) picked →
+    FoundFor table (names ++ name ∷ []) more
+found_more table [] name found more picked h picks grown =
+    (picked, [], picks, grown ∙ ap (λ l. l ++ map (named name) picked) h ∙ sym (append-nil _), refl)
+found_more table (n ∷ names) name found more picked (first, rest, firsts, is, below) picks grown = (
+  first,
+  rest ++ map (named name) picked,
+  firsts,
+  grown ∙ ap (λ l. l ++ map (named name) picked) is
+      ∙ append_assoc (map (named n) first) rest (map (named name) picked),
+  found_more table names name rest (rest ++ map (named name) picked) picked below picks refl,
+)
+
+-- ---- while the loops go
+
+abbrev next_case : (cases : List Case) (i : ℕ) (case : Case) → i < length cases → case ≡ get_or cases i case →
+    map case_record (take i cases) ++ case_record case ∷ [] ≡ map case_record (take (i + 1) cases)
+next_case cases i case lt is =
+    sym (map-append case_record (take i cases) (case ∷ []))
+    ∙ ap (map case_record) (ap (λ c. take i cases ++ c ∷ []) is ∙ sym (take_more cases i case lt))
+
+pub picks_next : (name : List ℕ) (cases : List Case) (i : ℕ) (case : Case) (old new more : List ConflictRecord) →
+    i < length cases → case ≡ get_or cases i case → AddsPicked name (map case_record (take i cases)) old new →
+    HasNoPoint (case_record case) → more ≡ new ++ named name case.lines.items ∷ [] →
+    AddsPicked name (map case_record (take (i + 1) cases)) old more
+picks_next name cases i case old new more lt is h none grown =
+    subst (λ cs. AddsPicked name cs old more) (next_case cases i case lt is)
+    (added_more name (map case_record (take i cases)) (case_record case) old new more h none grown)
+
+pub passes_next : (name : List ℕ) (cases : List Case) (i : ℕ) (case : Case) (old new : List ConflictRecord) →
+    i < length cases → case ≡ get_or cases i case → AddsPicked name (map case_record (take i cases)) old new →
+    (HasNoPoint (case_record case) → ⊥) → AddsPicked name (map case_record (take (i + 1) cases)) old new
+passes_next name cases i case old new lt is h some =
+    subst (λ cs. AddsPicked name cs old new) (next_case cases i case lt is)
+    (added_same name (map case_record (take i cases)) (case_record case) old new h some)
+
+pub found_next : (table : List KeptPackage) (names : List (Bor (List ℕ))) (i : ℕ) (name : Bor (List ℕ))
+    (found more : List ConflictRecord) (picked : List (List ℕ)) → i < length names → name ≡ get_or names i name →
+    FoundFor table (map (λ n. n.now) (take i names)) found → PicksOf (cases_under name.now table) picked →
+    more ≡ found ++ map (named name.now) picked → FoundFor table (map (λ n. n.now) (take (i + 1) names)) more
+found_next table names i name found more picked lt is h picks grown =
+    subst (λ ns. FoundFor table ns more)
+    (sym (map-append (λ n. n.now) (take i names) (name ∷ []))
+    ∙ ap (map (λ n. n.now)) (ap (λ n. take i names ++ n ∷ []) is ∙ sym (take_more names i name lt)))
+    (found_more table (map (λ n. n.now) (take i names)) name.now found more picked h picks grown)

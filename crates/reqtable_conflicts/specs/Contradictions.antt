@@ -1,0 +1,54 @@
+-- The conflicts that a list's lines have.
+use Rattle.std.specs.Prelude.{◌≡◌, ◌<◌, ℕ, false, List, [], ◌∷◌, length, map, filter, Some, Result, Ok, Err}
+use Rattle.std.specs.List.{AllByRecursion}
+use Rattle.std.specs.Ordering.{nat_cmp}
+use Rattle.std.specs.Cmp.Lexicographic.{slice_cmp}
+use Rattle.std.specs.Str.{bytes_eq}
+use Rattle.std.specs.declared.cmp.Ordering.TheVariants.{Less}
+use Rattle.version_ranges.specs.Point.{Point}
+use Rattle.version_ranges.specs.Held.{holds_at}
+use Rattle.pep440_version.specs.Record.{VersionRecord}
+use Rattle.pep440_version.specs.Order.{version_cmp}
+use Rattle.reqtable_requirements.specs.LineReading.{LineRecord}
+use Rattle.reqtable_requirements.specs.Asks.{lines_of}
+use Rattle.reqtable_cases.specs.Lines.{HasTooMany, IsFirstTooMany}
+use Rattle.reqtable_cases.specs.Conflicts.{AreConflicts}
+use Rattle.reqtable_table.specs.declared.table.TableError.{TableError}
+use Rattle.reqtable_table.specs.declared.table.TableError.TheVariants.{TooManyCases, Memory}
+use Rattle.reqtable_table.specs.Kept.{KeptCase}
+use Rattle.reqtable_conflicts.specs.declared.contradicting.Conflict.{Conflict}
+
+-- some lines of a package, by their numbers
+pub record ConflictRecord : Type 0 where
+  pub name : List ℕ
+  pub numbers : List ℕ
+
+abbrev pub conflict_record : Conflict → ConflictRecord
+conflict_record found = record { name = found.package; numbers = found.lines.items }
+
+-- those of a package, in their order
+abbrev pub numbers_under : List ℕ → List ConflictRecord → List (List ℕ)
+numbers_under name found = map (λ c. c.numbers) (filter (λ c. bytes_eq name c.name) found)
+
+-- none stands behind one of a later name
+abbrev pub StandByName : List ConflictRecord → Type 0
+StandByName [] = Unit {0}
+StandByName (c ∷ found) =
+    AllByRecursion (λ other. slice_cmp nat_cmp other.name c.name ≡ Less → ⊥) found × StandByName found
+
+-- what is found in some lines: the conflicts of each package, by the packages' names; or the first package by
+-- name that has more cases than the limit; or want of memory
+abbrev pub FindsConflicts : {X : Type 0} → (X → List ConflictRecord) → ℕ → List LineRecord
+    → Result X TableError → Type 0
+FindsConflicts view limit said (Ok found) =
+    ((name : List ℕ) → HasTooMany limit said name → ⊥) × StandByName (view found)
+    × ((name : List ℕ) → AreConflicts (lines_of name said) (numbers_under name (view found)))
+FindsConflicts view limit said (Err (TooManyCases name)) = IsFirstTooMany limit said name
+FindsConflicts view limit said (Err Memory) = Unit {0}
+
+-- a case of some line with a range without any point
+pub record HasNoPoint (case : KeptCase) : Type 0 where
+  pub some : 0 < length case.numbers
+  pub set : List (Point VersionRecord)
+  pub ranged : case.range ≡ Some set
+  pub none : (p : Point VersionRecord) → holds_at version_cmp set p ≡ false

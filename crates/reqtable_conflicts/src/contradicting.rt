@@ -1,0 +1,127 @@
+//! Lines of a package that contradict each other.
+
+ghost use Rattle.std.specs.Prelude.{◌≡◌, ◌≤◌, ◌+◌, ◌*◌, ◌++◌, ◌∷◌, [], ◌↔◌, IsTrue, List, length, map, IfOk, OnOk};
+ghost use Rattle.std.specs.List.{AllZip};
+ghost use Rattle.pep508_url.specs.Vars.{Variables};
+ghost use Rattle.pep508_tree.specs.Meaning.{Extends};
+ghost use Rattle.reqtable_requirements.specs.Asks.{AreOfNodes};
+ghost use Rattle.reqtable_requirements.specs.LineReading.{LineRecord};
+ghost use Rattle.reqtable_requirements.specs.Requirements.{StandsFor};
+ghost use Rattle.reqtable_table.specs.Casing.{case_record};
+ghost use Rattle.reqtable_conflicts.specs.Contradictions.{conflict_record, FindsConflicts, HasNoPoint};
+ghost use Rattle.reqtable_conflicts.specs.Picking.{AddsPicked, FoundFor, named};
+
+use crate::lent_table::table_of;
+use crate::names::package_names;
+use pep508_name::PackageName;
+use pep508_tree::Interner;
+use reqtable_requirements::Requirements;
+use reqtable_table::{Case, Table, TableError};
+use std::alloc::{AllocError, Global};
+
+/// Some lines of a package that apply together in some environment with extras, without any version that
+/// all of them could take.
+#[derive(Debug, PartialEq, Eq, Drop)]
+pub struct Conflict {
+    pub package: PackageName,
+    /// The numbers of the lines in their text, from 1, which rise.
+    pub lines: Vec<usize>,
+}
+
+/// The lines of each package that contradict each other: its cases of some line whose specifiers have no
+/// version in common, not even one between two that could be written (PEP 440, "Version specifiers"). A case
+/// of a line with a URL, with `===`, or with `<` or `>` and a post-release is none.
+///
+/// They stand by the names of their packages, those of a package in the order of `Table::cases`. A package
+/// that has more cases than the limit is refused, the first by name. n lines take a copy of them, what
+/// `Table::build` takes, and O(n log n) comparisons of names.
+pub fn conflicts(
+    alloc: Global,
+    requirements: &Requirements,
+    interner: &mut Interner,
+    limit: u64,
+) -> Result<Vec<Conflict>, TableError>
+    requires trees { AreOfNodes interner.old.nodes requirements.now }
+    ensures found { (vars : Variables) (said : List LineRecord) →
+        AllZip (StandsFor vars interner.old.nodes) requirements.now said →
+        FindsConflicts (λ found. map conflict_record found.items) limit said result }
+    ensures keeps { Extends interner.old.nodes interner.new.nodes }
+    ensures counts { interner.new.conjunctions
+        ≤ interner.old.conjunctions + 2 * (limit * length requirements.now) }
+{
+    let table = table_of(alloc, requirements, interner, limit)?;
+    let names = package_names(alloc, &[requirements.lines()])?;
+    let found = conflicts_in(alloc, &table, &names)?;
+    Ok(found)
+}
+
+/// Those of the packages of these names, one package after another.
+fn conflicts_in(
+    alloc: Global,
+    table: &Table,
+    names: &[&PackageName],
+) -> Result<Vec<Conflict>, AllocError>
+    ensures { IfOk result (λ found.
+        FoundFor table.now (map (λ name. name.now) names.now) (map conflict_record found.items)) }
+{
+    let mut found = Vec::new(alloc);
+    for name in names {
+        match table.cases(name) {
+            Some(cases) => add_conflicts(alloc, &mut found, name, cases)?,
+            None => (),
+        }
+    }
+    Ok(found)
+}
+
+/// Adds those of a package's cases that are conflicts.
+fn add_conflicts(
+    alloc: Global,
+    found: &mut Vec<Conflict>,
+    name: &PackageName,
+    cases: &[Case],
+) -> Result<(), AllocError>
+    ensures { OnOk result (AddsPicked name.now (map case_record cases.now)
+        (map conflict_record found.old.items) (map conflict_record found.new.items)) }
+{
+    for case in cases {
+        if is_conflict(case) {
+            push_conflict(alloc, found, name, &case.lines)?;
+        }
+    }
+    Ok(())
+}
+
+fn push_conflict(
+    alloc: Global,
+    found: &mut Vec<Conflict>,
+    name: &PackageName,
+    numbers: &[usize],
+) -> Result<(), AllocError>
+    ensures { OnOk result (map conflict_record found.new.items
+        ≡ map conflict_record found.old.items ++ named name.now numbers.now ∷ []) }
+{
+    let package = name.try_clone(alloc)?;
+    let lines = copied(alloc, numbers)?;
+    found.push(Conflict { package, lines })?;
+    Ok(())
+}
+
+/// Whether the case has a line, and a range without any point.
+#[tactic(auto, using(crate::proofs::Picked::has_none))]
+fn is_conflict(case: &Case) -> bool
+    ensures { IsTrue result ↔ HasNoPoint (case_record case.now) }
+{
+    match &case.range {
+        Some(range) => !case.lines.is_empty() && range.is_empty(),
+        None => false,
+    }
+}
+
+fn copied(alloc: Global, numbers: &[usize]) -> Result<Vec<usize>, AllocError>
+    ensures { IfOk result (λ copy. copy.items ≡ numbers.now) }
+{
+    let mut copy = Vec::new(alloc);
+    copy.extend_from_slice(numbers)?;
+    Ok(copy)
+}

@@ -1,0 +1,35 @@
+//! The table of a list that is lent.
+
+ghost use Rattle.std.specs.Prelude.{◌≡◌, ◌≤◌, ◌+◌, ◌*◌, List, length};
+ghost use Rattle.std.specs.List.{AllZip};
+ghost use Rattle.pep508_url.specs.Vars.{Variables};
+ghost use Rattle.pep508_tree.specs.Meaning.{Extends};
+ghost use Rattle.reqtable_requirements.specs.Asks.{AreOfNodes};
+ghost use Rattle.reqtable_requirements.specs.LineReading.{LineRecord};
+ghost use Rattle.reqtable_requirements.specs.Requirements.{StandsFor};
+ghost use Rattle.reqtable_table.specs.Cases.{Builds};
+
+use pep508_tree::Interner;
+use reqtable_requirements::Requirements;
+use reqtable_table::{Table, TableError};
+use std::alloc::Global;
+
+/// The table of requirements that stay the caller's: `Table::build` of a copy of them, which costs a
+/// twentieth of what reading them does.
+pub fn table_of(
+    alloc: Global,
+    requirements: &Requirements,
+    interner: &mut Interner,
+    limit: u64,
+) -> Result<Table, TableError>
+    requires trees { AreOfNodes interner.old.nodes requirements.now }
+    ensures built { (vars : Variables) (said : List LineRecord) →
+        AllZip (StandsFor vars interner.old.nodes) requirements.now said →
+        Builds limit interner.new.nodes said result }
+    ensures keeps { Extends interner.old.nodes interner.new.nodes }
+    ensures counts { interner.new.conjunctions
+        ≤ interner.old.conjunctions + 2 * (limit * length requirements.now) }
+{
+    let copy = requirements.try_clone(alloc)?;
+    Table::build(alloc, copy, interner, limit)
+}

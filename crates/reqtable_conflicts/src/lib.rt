@@ -1,0 +1,11 @@
+//! Lines of requirement lists that contradict each other; and what every command on whole lists begins with:
+//! the packages that lists name, and the table of a list that is lent.
+#![tactic(auto)]
+
+mod contradicting;
+mod lent_table;
+mod names;
+
+pub use contradicting::{Conflict, conflicts};
+pub use lent_table::table_of;
+pub use names::package_names;
