@@ -4,10 +4,13 @@ use Rattle.pep508_tree.specs.Meaning.{NodeRecord}
 use Rattle.reqtable_requirements.specs.LineReading.{LineRecord}
 use Rattle.reqtable_cases.specs.Lines.{HasTooMany, IsFirstTooMany}
 use Rattle.reqtable_cases.specs.Requires.{RequireTheSame, IsFirstDifference}
+use Rattle.reqtable_table.specs.Cases.{Builds}
+use Rattle.reqtable_table.specs.Kept.{KeptPackage}
 use Rattle.reqtable_compare.specs.declared.sides.Same.{Same}
 use Rattle.reqtable_compare.specs.declared.sides.Same.TheVariants.{Yes, No}
 use Rattle.reqtable_compare.specs.declared.sides.SameError.{SameError}
 use Rattle.reqtable_compare.specs.declared.sides.SameError.TheVariants.{Line, TooManyCases, Memory}
+use Rattle.reqtable_compare.specs.declared.sides.Side.{Side}
 use Rattle.reqtable_compare.specs.declared.sides.Side.TheVariants.{Left, Right}
 use Rattle.reqtable_compare.specs.Refusals.{Refusal, line_refusal}
 
@@ -35,3 +38,12 @@ Compares limit nodes left right (Err (TooManyCases Left name)) =
 Compares limit nodes left right (Err (TooManyCases Right name)) =
     (line_refusal left right ≡ None) × NoneTooMany limit left × IsFirstTooMany limit right name
 Compares limit nodes left right (Err Memory) = Unit {0}
+
+-- what making the table of one of two lists answers
+abbrev pub TablesSide : Side → ℕ → List NodeRecord → List LineRecord → Result (List KeptPackage) SameError
+    → Type 0
+TablesSide side limit nodes said (Ok table) = Builds limit nodes said (Ok table)
+TablesSide side limit nodes said (Err (Line other number cause)) = ⊥
+TablesSide side limit nodes said (Err (TooManyCases other name)) =
+    (other ≡ side) × IsFirstTooMany limit said name
+TablesSide side limit nodes said (Err Memory) = Unit {0}

@@ -1,9 +1,8 @@
 -- Pairs of cases of two sides.
-use Rattle.std.specs.Prelude.{◌≡◌, ◌⊎◌, ◌&&◌, Bool, true, false, List, ◌∷◌, ◌++◌, Option, Some, None}
+use Rattle.std.specs.Prelude.{◌≡◌, ◌⊎◌, Bool, true, false, List, ◌∷◌, ◌++◌, Option, Some, None}
 use Rattle.std.specs.List.{AllByRecursion}
-use Rattle.pep508_diagram.specs.Question.{Valuation}
 use Rattle.pep508_tree.specs.Tree.{Tree}
-use Rattle.pep508_tree.specs.Meaning.{NodeRecord, IsTree, holds}
+use Rattle.pep508_tree.specs.Meaning.{NodeRecord, IsTree}
 use Rattle.pep508_tree.specs.Disjoint.{AreDisjoint}
 use Rattle.reqtable_compare.specs.Summed.{SummaryRecord, Alike}
 
@@ -55,19 +54,3 @@ pub record IsFirstPair (nodes : List NodeRecord) (left right : List SummaryRecor
 abbrev pub FindsTrees : List NodeRecord → List SummaryRecord → List SummaryRecord → Option (Tree × Tree) → Type 0
 FindsTrees nodes left right None = AllByRecursion (PassesAll nodes right) left
 FindsTrees nodes left right (Some trees) = IsFirstPair nodes left right trees.0 trees.1
-
--- a tree of new nodes that holds somewhere, and just where both of the first pair do
-pub record IsPairsTree (old new : List NodeRecord) (left right : List SummaryRecord) (tree : Tree)
-    : Type 0 where
-  pub one : Tree
-  pub other : Tree
-  pub pair : IsFirstPair old left right one other
-  pub made : IsTree new tree
-  pub somewhere : (v : Valuation) × (holds new tree v ≡ true)
-  pub means : (v : Valuation) → holds new tree v ≡ (holds old one v && holds old other v)
-
--- what looking for it answers
-abbrev pub FindsPair : List NodeRecord → List NodeRecord → List SummaryRecord → List SummaryRecord
-    → Option Tree → Type 0
-FindsPair old new left right None = AllByRecursion (PassesAll old right) left
-FindsPair old new left right (Some tree) = IsPairsTree old new left right tree

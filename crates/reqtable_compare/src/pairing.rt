@@ -1,49 +1,21 @@
 //! The first pair of cases that hold together and require different things.
 
-ghost use Rattle.std.specs.Prelude.{◌≡◌, ◌⊎◌, ◌&&◌, false, List, map, IfOk, IsTrue, Some, None};
-ghost use Rattle.std.specs.List.{AllByRecursion};
-ghost use Rattle.pep508_diagram.specs.Question.{Valuation};
-ghost use Rattle.pep508_tree.specs.Meaning.{IsTree, Extends, holds};
+ghost use Rattle.std.specs.Prelude.{map, IfOk};
+ghost use Rattle.pep508_tree.specs.Meaning.{IsTree};
 ghost use Rattle.reqtable_compare.specs.Seen.{summary_record};
-ghost use Rattle.reqtable_compare.specs.Pairs.{Decides, FindsOther, FindsTrees, FindsPair, AreOfTrees};
+ghost use Rattle.reqtable_compare.specs.Pairs.{Decides, FindsOther, FindsTrees, AreOfTrees};
 
 use crate::summary::Summary;
 use pep508_disjointness::MarkerTreeDisjointness;
 use pep508_tree::{Interner, MarkerTree};
-use pep508_tree_laws::{a_tree_holds_somewhere, constants_are_named};
 use std::alloc::{AllocError, Global};
 
-/// The tree of the first pair, by the left side's cases and then by the right side's, which holds where both
-/// cases of the pair do. None where each pair requires the same or never holds together.
+/// The trees of the first pair, by the left side's cases and then by the right side's. None where each pair
+/// requires the same or never holds together.
 ///
 /// k and m cases take at most k * m comparisons, and as many looks at whether two trees are disjoint as there
 /// are pairs that require different things.
-pub(crate) fn first_pair(
-    alloc: Global,
-    interner: &mut Interner,
-    left: &[Summary<'_>],
-    right: &[Summary<'_>],
-) -> Result<Option<MarkerTree>, AllocError>
-    requires left { AreOfTrees interner.old.nodes (map summary_record left.now) }
-    requires right { AreOfTrees interner.old.nodes (map summary_record right.now) }
-    ensures found { IfOk result (FindsPair interner.old.nodes interner.new.nodes (map summary_record left.now)
-        (map summary_record right.now)) }
-    ensures keeps { Extends interner.old.nodes interner.new.nodes }
-{
-    match first_trees(alloc, interner, left, right)? {
-        Some((one, other)) => {
-            let tree = one.and(alloc, interner, other)?;
-            interner.are_sound();
-            a_tree_holds_somewhere(interner);
-            constants_are_named(interner);
-            Ok(Some(tree))
-        }
-        None => Ok(None),
-    }
-}
-
-/// The trees of the first pair.
-fn first_trees(
+pub(crate) fn first_trees(
     alloc: Global,
     interner: &Interner,
     left: &[Summary<'_>],

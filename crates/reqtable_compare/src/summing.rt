@@ -8,7 +8,7 @@ ghost use Rattle.reqtable_table.specs.Casing.{case_record};
 ghost use Rattle.reqtable_table.specs.Cases.{cases_under};
 ghost use Rattle.reqtable_compare.specs.Numbered.{extras_at};
 ghost use Rattle.reqtable_compare.specs.Seen.{summary_record};
-ghost use Rattle.reqtable_compare.specs.Summing.{IsSummed, AreSummed};
+ghost use Rattle.reqtable_compare.specs.Totals.{IsSummed, AreSummed};
 
 use crate::summary::Summary;
 use pep508_name::{ExtraName, PackageName};
