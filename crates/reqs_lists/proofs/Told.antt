@@ -5,10 +5,10 @@ use Rattle.pep508_url.specs.Vars.{Variables}
 use Rattle.reqtable_text.specs.TextLines.{text_lines}
 use Rattle.reqtable_requirements.specs.LineReading.{LineRecord}
 use Rattle.reqtable_requirements.specs.Requirements.{IsErrorIn}
-use Rattle.reqtable_compare.specs.declared.LineCause.{LineCause}
-use Rattle.reqtable_compare.specs.declared.LineCause.TheVariants as cause
-use Rattle.reqtable_compare.specs.declared.SameError.{SameError}
-use Rattle.reqtable_compare.specs.declared.SameError.TheVariants as errors
+use Rattle.reqtable_compare.specs.declared.sides.LineCause.{LineCause}
+use Rattle.reqtable_compare.specs.declared.sides.LineCause.TheVariants as cause
+use Rattle.reqtable_compare.specs.declared.sides.SameError.{SameError}
+use Rattle.reqtable_compare.specs.declared.sides.SameError.TheVariants as errors
 use Rattle.reqs_io.specs.Front.{AreAsTold}
 use Rattle.reqs_ends.specs.declared.fault.Input.{Input}
 use Rattle.reqs_ends.specs.declared.fault.RunFault.{RunFault}

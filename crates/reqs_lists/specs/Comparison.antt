@@ -1,5 +1,5 @@
 -- What `same` does, from the bytes of two lists to those of its answer.
-use Rattle.std.specs.Prelude.{◌≡◌, ◌⊎◌, ℕ, List, [], ◌∷◌, ◌++◌, codes, unwrap_or, Option, Result}
+use Rattle.std.specs.Prelude.{◌≡◌, ◌⊎◌, ℕ, List, [], ◌∷◌, ◌++◌, codes, unwrap_or, Option, Result, Err}
 use Rattle.pep508_url.specs.Vars.{Variables}
 use Rattle.pep508_diagram.specs.Diagram.{Diagram}
 use Rattle.pep508_diagram.specs.Question.{Question, Valuation, truth, IsCanonical}
@@ -9,13 +9,13 @@ use Rattle.pep508_tree.specs.Meaning.{NodeRecord, holds}
 use Rattle.pep508_marker_text.specs.MarkerText.{marker_text}
 use Rattle.reqtable_requirements.specs.LineReading.{LineRecord}
 use Rattle.reqtable_cases.specs.Requires.{RequireTheSame, IsFirstDifference}
-use Rattle.reqtable_compare.specs.Compared.{CantCompare}
-use Rattle.reqtable_compare.specs.declared.LineCause.{LineCause}
-use Rattle.reqtable_compare.specs.declared.LineCause.TheVariants as cause
-use Rattle.reqtable_compare.specs.declared.SameError.{SameError}
-use Rattle.reqtable_compare.specs.declared.SameError.TheVariants as errors
-use Rattle.reqtable_compare.specs.declared.Side.{Side}
-use Rattle.reqtable_compare.specs.declared.Side.TheVariants.{Left, Right}
+use Rattle.reqtable_compare.specs.Compared.{MayCompare, Compares}
+use Rattle.reqtable_compare.specs.declared.sides.LineCause.{LineCause}
+use Rattle.reqtable_compare.specs.declared.sides.LineCause.TheVariants as cause
+use Rattle.reqtable_compare.specs.declared.sides.SameError.{SameError}
+use Rattle.reqtable_compare.specs.declared.sides.SameError.TheVariants as errors
+use Rattle.reqtable_compare.specs.declared.sides.Side.{Side}
+use Rattle.reqtable_compare.specs.declared.sides.Side.TheVariants.{Left, Right}
 use Rattle.reqs_ends.specs.declared.fault.Input.{Input}
 use Rattle.reqs_ends.specs.declared.fault.Input.TheVariants.{First, Second}
 use Rattle.reqs_ends.specs.declared.fault.RefusedCause.TheVariants as refused
@@ -52,12 +52,13 @@ pub record IsToldDifference (lists : Lists) (name : List ℕ) (diagram : Diagram
   pub short : HasShortVersions diagram
   pub means : (v : Valuation) → truth diagram v ≡ holds nodes tree v
 
--- both require the same, or differ first so
-abbrev pub IsSameAnswer : Lists → Status → List ℕ → Type 0
-IsSameAnswer lists ended text =
-    ((ended ≡ status.Answered) × (text ≡ codes "yes\n") × RequireTheSame lists.0 lists.1)
+-- nothing is in the way of an answer, and both require the same, or differ first so
+abbrev pub IsSameAnswer : ℕ → Lists → Status → List ℕ → Type 0
+IsSameAnswer limit lists ended text =
+    MayCompare limit lists.0 lists.1
+    × (((ended ≡ status.Answered) × (text ≡ codes "yes\n") × RequireTheSame lists.0 lists.1)
     ⊎ ((ended ≡ status.Different) × ((name : List ℕ) × (diagram : Diagram Question)
-    × IsToldDifference lists name diagram × (text ≡ difference_text name diagram)))
+    × IsToldDifference lists name diagram × (text ≡ difference_text name diagram))))
 
 -- ---- why they are refused
 
@@ -79,13 +80,14 @@ fault_of limit errors.Memory = run.Memory
 -- the fault tells why lists that are read can't be compared
 abbrev pub CantBeCompared : ℕ → Lists → RunFault → Type 0
 CantBeCompared limit lists fault =
-    (error : SameError) × (fault ≡ fault_of limit error) × CantCompare limit lists.0 lists.1 error
+    (error : SameError) × (fault ≡ fault_of limit error)
+    × ((nodes : List NodeRecord) × Compares limit nodes lists.0 lists.1 (Err error))
 
 -- ---- the command
 
 abbrev pub SameAnswersAs : ℕ → Variables → List (List ℕ) → Status → List ℕ → Type 0
 SameAnswersAs limit vars inputs ended text =
-    IsRead (two_lists vars inputs) (λ lists. IsSameAnswer lists ended text)
+    IsRead (two_lists vars inputs) (λ lists. IsSameAnswer limit lists ended text)
 
 abbrev pub SameRefuses : ℕ → Variables → List (List ℕ) → RunFault → Type 0
 SameRefuses limit vars inputs fault =

@@ -5,8 +5,7 @@ use Rattle.std.specs.Fmt.{decimal}
 use Rattle.pep508_url.specs.Vars.{Variables}
 use Rattle.reqtable_requirements.specs.LineReading.{LineRecord}
 use Rattle.reqtable_cases.specs.Lines.{IsFirstTooMany}
-use Rattle.reqtable_conflicts.specs.Found.{AreAllConflicts}
-use Rattle.reqtable_conflicts.specs.declared.Conflict.{Conflict}
+use Rattle.reqtable_conflicts.specs.Contradictions.{ConflictRecord, FindsConflicts}
 use Rattle.reqs_ends.specs.declared.fault.Input.TheVariants.{First}
 use Rattle.reqs_ends.specs.declared.fault.RunFault.{RunFault}
 use Rattle.reqs_ends.specs.declared.fault.RunFault.TheVariants as run
@@ -18,11 +17,11 @@ use Rattle.reqs_lists.specs.Lists.{IsOfLists, one_list, IsRead, RefusesLists}
 -- ---- the text
 
 -- the package of a conflict, and the numbers of its lines with commas between them
-abbrev pub conflict_text : Conflict → List ℕ
+abbrev pub conflict_text : ConflictRecord → List ℕ
 conflict_text found =
-    found.package ++ (codes " " ++ (join_with_byte 44 (map decimal found.lines.items) ++ codes "\n"))
+    found.name ++ (codes " " ++ (join_with_byte 44 (map decimal found.numbers) ++ codes "\n"))
 
-abbrev pub conflicts_text : List Conflict → List ℕ
+abbrev pub conflicts_text : List ConflictRecord → List ℕ
 conflicts_text found = flat_map conflict_text found
 
 -- ---- what lines are answered with
@@ -31,7 +30,8 @@ conflicts_text found = flat_map conflict_text found
 abbrev pub IsConflictsAnswer : ℕ → List LineRecord → Status → List ℕ → Type 0
 IsConflictsAnswer limit lines ended text =
     (ended ≡ status.Answered)
-    × ((found : List Conflict) × AreAllConflicts limit lines found × (text ≡ conflicts_text found))
+    × ((found : List ConflictRecord) × FindsConflicts (λ all. all) limit lines (Ok found)
+    × (text ≡ conflicts_text found))
 
 -- the fault names the first package that has more
 abbrev pub HasTooManyCases : ℕ → List LineRecord → RunFault → Type 0

@@ -20,7 +20,7 @@ use pep508_url::Vars;
 use reqs_ends::{
     Input, RefusedCause, RunFault, Status, read_input, read_requirements, write_answer,
 };
-use reqtable_compare::{Comparison, LineCause, SameError, Side};
+use reqtable_compare::{LineCause, Same, SameError, Side};
 use reqtable_requirements::Requirements;
 use std::alloc::{AllocError, Global};
 use std::io::{Read, Write};
@@ -63,7 +63,7 @@ fn same_answer(
     vars: &Vars,
     limit: u64,
 ) -> Result<Answer, RunFault>
-    ensures { AnswersLists (IsOfLists vars.now (left.old.items ∷ right.old.items ∷ [])) IsSameAnswer
+    ensures { AnswersLists (IsOfLists vars.now (left.old.items ∷ right.old.items ∷ [])) (IsSameAnswer limit)
         (CantBeCompared limit) (two_lists vars.now (left.old.items ∷ right.old.items ∷ [])) result }
 {
     let mut interner = Interner::new(alloc);
@@ -84,14 +84,14 @@ fn same_of(
     ensures { (vars : Variables) (said others : List LineRecord) →
         AllZip (StandsFor vars interner.old.nodes) left.now said →
         AllZip (StandsFor vars interner.old.nodes) right.now others →
-        Gives IsSameAnswer (CantBeCompared limit) (said, others) result }
+        Gives (IsSameAnswer limit) (CantBeCompared limit) (said, others) result }
 {
     match reqtable_compare::same(alloc, left, right, interner, limit) {
-        Ok(Comparison::Yes) => Ok(Answer {
+        Ok(Same::Yes) => Ok(Answer {
             status: Status::Answered,
             text: String::from_str(alloc, "yes\n")?,
         }),
-        Ok(Comparison::No { package, tree }) => Ok(Answer {
+        Ok(Same::No { package, tree }) => Ok(Answer {
             status: Status::Different,
             text: difference_text(alloc, &package, tree, interner)?,
         }),

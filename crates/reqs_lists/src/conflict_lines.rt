@@ -3,6 +3,7 @@
 ghost use Rattle.std.specs.Prelude.{◌≡◌, ◌∷◌, ◌++◌, map, IfOk, OnOk, string_bytes};
 ghost use Rattle.std.specs.List.{flat_map, join_with_byte};
 ghost use Rattle.std.specs.Fmt.{decimal};
+ghost use Rattle.reqtable_conflicts.specs.Contradictions.{conflict_record};
 ghost use Rattle.reqs_lists.specs.Contradictions.{conflict_text, conflicts_text};
 
 use reqtable_conflicts::Conflict;
@@ -11,7 +12,8 @@ use std::fmt::Write;
 
 /// A line for each conflict.
 pub fn conflicts_text(alloc: Global, conflicts: &[Conflict]) -> Result<String, AllocError>
-    ensures { IfOk result (λ text. string_bytes text ≡ conflicts_text conflicts.now) }
+    ensures { IfOk result (λ text.
+        string_bytes text ≡ conflicts_text (map conflict_record conflicts.now)) }
 {
     let mut text = String::new(alloc);
     for conflict in conflicts {
@@ -23,7 +25,7 @@ pub fn conflicts_text(alloc: Global, conflicts: &[Conflict]) -> Result<String, A
 /// Adds the line of a conflict to a text.
 fn push_conflict(text: &mut String, conflict: &Conflict) -> Result<(), AllocError>
     ensures { OnOk result (string_bytes text.new
-        ≡ string_bytes text.old ++ conflict_text conflict.now) }
+        ≡ string_bytes text.old ++ conflict_text (conflict_record conflict.now)) }
 {
     text.push_str(conflict.package.as_str())?;
     text.push(' ')?;

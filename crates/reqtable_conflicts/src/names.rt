@@ -45,7 +45,8 @@ fn lent_names<'a>(alloc: Global, lists: &[&'a [Line]]) -> Result<Vec<&'a Package
 
 fn lend<'a>(names: &mut Vec<&'a PackageName>, lines: &'a [Line]) -> Result<(), AllocError>
     ensures { OnOk result
-        (map (λ name. name.now) names.new.items ≡ map (λ name. name.now) names.old.items ++ names_of lines.now) }
+        (map (λ name. name.now) names.new.items
+        ≡ map (λ name. name.now) names.old.items ++ names_of lines.now) }
 {
     for line in lines {
         names.push(&line.requirement.name)?;

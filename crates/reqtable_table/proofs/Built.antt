@@ -58,7 +58,7 @@ module _ (limit : ℕ) (nodes : List NodeRecord) where
       ∙ (λ i. mapped (bytes_eq q group.name) group.lines.items i ++ under_alike q groups table h.1 i)
       ∙ sym (map-append kept_by own (lines_under q groups))
 
-  all_cases : (groups : List Group) (table : List KeptPackage) → AllZip (IsPackageOf limit nodes) groups table →
+  pub all_cases : (groups : List Group) (table : List KeptPackage) → AllZip (IsPackageOf limit nodes) groups table →
       AllByRecursion (HasItsCases nodes) table
   all_cases [] [] h = tt
   all_cases [] (kept ∷ table) h = absurd h

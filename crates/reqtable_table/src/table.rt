@@ -9,7 +9,7 @@ ghost use Rattle.reqtable_requirements.specs.Asks.{AreOfNodes};
 ghost use Rattle.reqtable_requirements.specs.LineReading.{LineRecord};
 ghost use Rattle.reqtable_requirements.specs.Requirements.{StandsFor};
 ghost use Rattle.reqtable_table.specs.Building.{AreOfTrees, IsPackageOf, IsRefusal, IsFirstRefusal};
-ghost use Rattle.reqtable_table.specs.Cases.{Builds, cases_under};
+ghost use Rattle.reqtable_table.specs.Cases.{Builds, HasItsCases, cases_under};
 ghost use Rattle.reqtable_table.specs.Casing.{case_record};
 ghost use Rattle.reqtable_table.specs.Counts.{up_to_64_bits, tests_of, table_tests};
 ghost use Rattle.reqtable_table.specs.Given.{lines_in};
@@ -130,6 +130,7 @@ impl Table {
         ensures built { (vars : Variables) (said : List LineRecord) →
             AllZip (StandsFor vars interner.old.nodes) requirements said →
             Builds limit interner.new.nodes said result }
+        ensures cases { IfOk result (AllByRecursion (HasItsCases interner.new.nodes)) }
         ensures keeps { Extends interner.old.nodes interner.new.nodes }
         ensures counts { interner.new.conjunctions
             ≤ interner.old.conjunctions + 2 * (limit * length requirements) }

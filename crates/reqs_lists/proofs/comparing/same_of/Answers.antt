@@ -14,18 +14,19 @@ pub difference_text-requires : goal.difference_text-requires
 difference_text-requires c =
     let read = c.requires in
     (rw c.in-Ok-No.field-0-is at
-    (c.in-Ok-No.ensures.compared read.vars read.said read.others read.reads_left read.reads_right)).made
+    (c.in-Ok-No.ensures.compared read.vars read.said read.others read.reads_left read.reads_right)).1.made
 
 pub returns-in_ok-difference_text-in-Ok-No : goal.returns-in_ok-difference_text-in-Ok-No
 returns-in_ok-difference_text-in-Ok-No c = λ vars said others left right.
     let name = c.in-Ok-No.package in
     let diagram = diagram_of c.same.new.interner.nodes c.in-Ok-No.tree in
+    let compared = rw c.in-Ok-No.field-0-is at (c.in-Ok-No.ensures.compared vars said others left right) in
     let told : IsToldDifference (said, others) name diagram = record {
       nodes = c.same.new.interner.nodes;
       tree = c.in-Ok-No.tree;
-      difference = rw c.in-Ok-No.field-0-is at (c.in-Ok-No.ensures.compared vars said others left right);
+      difference = compared.1;
       canonical = c.difference_text.ensures.canonical;
       short = c.difference_text.ensures.short;
       means = λ v. refl;
     } in
-    inr (refl, (name, diagram, told, c.in_ok-difference_text-in-Ok-No.ensures.text))
+    (compared.0, inr (refl, (name, diagram, told, c.in_ok-difference_text-in-Ok-No.ensures.text)))

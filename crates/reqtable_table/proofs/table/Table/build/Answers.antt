@@ -2,7 +2,7 @@ use Rattle.std.proofs.Common.{subst, map}
 use Rattle.reqtable_requirements.specs.ReadLines.{AreRead}
 use Rattle.reqtable_table.specs.Given.{AreGrouped}
 use Rattle.reqtable_table.specs.KeptLines.{package_record}
-use Rattle.reqtable_table.proofs.Built.{groups_of_trees, all_built, refused_so}
+use Rattle.reqtable_table.proofs.Built.{groups_of_trees, all_cases, all_built, refused_so}
 use Rattle.reqtable_table.proofs.StandingLines.{is_table}
 use Rattle.reqtable_table.proofs.table.Table.build.Goals as goal
 
@@ -34,3 +34,8 @@ returns-in-Err-clause-built c = λ vars said stand.
     let are : AreGrouped c.args.requirements groups = subst (λ lines. AreGrouped lines groups) c.into_lines.ensures.lines c.in_ok-groups.ensures in
     refused_so vars c.args.interner.now.nodes c.args.requirements groups are said stand
     c.args.limit c.packages_of.new.interner.nodes c.in-Err.error c.in-Err.ensures.refused
+
+pub returns-in-Ok-clause-cases : goal.returns-in-Ok-clause-cases
+returns-in-Ok-clause-cases c =
+    all_cases c.args.limit c.packages_of.new.interner.nodes c.in_ok-groups.groups.items
+    (map package_record c.in-Ok.packages.items) c.in-Ok.ensures.made

@@ -1,0 +1,12 @@
+//! Whether two requirement lists require the same, and if not, of which package and where.
+#![tactic(auto)]
+
+mod comparing;
+mod pairing;
+mod refusing;
+mod sides;
+mod summary;
+mod summing;
+
+pub use comparing::same;
+pub use sides::{LineCause, Same, SameError, Side};
