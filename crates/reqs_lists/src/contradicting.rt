@@ -16,8 +16,8 @@ use crate::conflict_lines::conflicts_text;
 use pep508_tree::Interner;
 use pep508_url::Vars;
 use reqs_ends::{Input, RunFault, Status, read_input, read_requirements, write_answer};
-use reqtable_table::TableError;
 use reqtable_requirements::Requirements;
+use reqtable_table::TableError;
 use std::alloc::Global;
 use std::io::{Read, Write};
 
