@@ -1,0 +1,4 @@
+pub mod Steps
+pub mod Likeness
+pub mod Finding
+pub mod Paired
