@@ -1,0 +1,3 @@
+pub mod Comparable
+pub mod AnsweredAlike
+pub mod OfTexts
