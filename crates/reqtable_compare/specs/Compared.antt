@@ -21,8 +21,8 @@ NoneTooMany limit lines = (name : List ℕ) → HasTooMany limit lines name → 
 -- nothing is in the way of an answer
 pub record MayCompare (limit : ℕ) (left right : List LineRecord) : Type 0 where
   pub lines : line_refusal left right ≡ None
-  pub left : NoneTooMany limit left
-  pub right : NoneTooMany limit right
+  pub ours : NoneTooMany limit left
+  pub theirs : NoneTooMany limit right
 
 -- what comparing the lines of two lists answers, with these nodes afterwards: whether both require the same,
 -- and if not, the first difference; or the first line that is in the way, those of the left list first; or

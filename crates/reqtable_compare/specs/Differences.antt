@@ -35,8 +35,8 @@ Sums side name summaries = AreSummed side.lines (cases_under name side.table) su
 pub record AgreeOn (nodes : List NodeRecord) (left right : Listed) (name : List ℕ) : Type 0 where
   pub ours : List SummaryRecord
   pub theirs : List SummaryRecord
-  pub left : Sums left name ours
-  pub right : Sums right name theirs
+  pub our_sums : Sums left name ours
+  pub their_sums : Sums right name theirs
   pub pass : AllByRecursion (PassesAll nodes theirs) ours
 
 -- they don't of this one, at these trees of both
@@ -44,8 +44,8 @@ pub record DifferOn (nodes : List NodeRecord) (left right : Listed) (name : List
     : Type 0 where
   pub ours : List SummaryRecord
   pub theirs : List SummaryRecord
-  pub left : Sums left name ours
-  pub right : Sums right name theirs
+  pub our_sums : Sums left name ours
+  pub their_sums : Sums right name theirs
   pub pair : IsFirstPair nodes ours theirs one other
 
 -- a package by its name, and a tree of each side

@@ -7,3 +7,4 @@ pub mod Seen
 pub mod Totals
 pub mod Pairs
 pub mod Differences
+pub mod Answered

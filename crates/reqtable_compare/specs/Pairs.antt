@@ -34,7 +34,7 @@ pub record IsFirstOther (nodes : List NodeRecord) (one : SummaryRecord) (right :
   pub split : right ≡ front ++ other ∷ back
   pub before : PassesAll nodes front one
   pub fails : Fails nodes one other
-  pub tree : tree ≡ other.tree
+  pub is : tree ≡ other.tree
 
 abbrev pub FindsOther : List NodeRecord → SummaryRecord → List SummaryRecord → Option Tree → Type 0
 FindsOther nodes one right None = PassesAll nodes right one
@@ -48,7 +48,7 @@ pub record IsFirstPair (nodes : List NodeRecord) (left right : List SummaryRecor
   pub back : List SummaryRecord
   pub split : left ≡ front ++ first ∷ back
   pub before : AllByRecursion (PassesAll nodes right) front
-  pub tree : one ≡ first.tree
+  pub is : one ≡ first.tree
   pub beside : IsFirstOther nodes first right other
 
 abbrev pub FindsTrees : List NodeRecord → List SummaryRecord → List SummaryRecord → Option (Tree × Tree) → Type 0

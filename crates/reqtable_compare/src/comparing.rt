@@ -29,6 +29,7 @@ use reqtable_table::{Table, TableError};
 use std::alloc::{AllocError, Global};
 
 /// Where two lists require different things: of a package, where both trees hold.
+#[derive(Clone, Copy)]
 struct Place<'a> {
     name: &'a PackageName,
     one: MarkerTree,

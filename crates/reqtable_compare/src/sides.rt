@@ -78,6 +78,7 @@ pub enum SameError {
 }
 
 impl From<AllocError> for SameError {
+    ghost use Rattle.std.specs.Prelude.{◌≡◌};
     ghost use Rattle.reqtable_compare.specs.declared.sides.SameError.TheVariants.{Memory};
 
     ghost from_gives = { λ _ error. error ≡ Memory };
@@ -88,6 +89,7 @@ impl From<AllocError> for SameError {
 }
 
 impl<T: Drop> From<AllocFailed<T>> for SameError {
+    ghost use Rattle.std.specs.Prelude.{◌≡◌};
     ghost use Rattle.reqtable_compare.specs.declared.sides.SameError.TheVariants.{Memory};
 
     ghost from_gives = { λ _ error. error ≡ Memory };

@@ -36,7 +36,7 @@ impl<'a> Summary<'a> {
 }
 
 fn is_same_range(a: Option<&Ranges<Version>>, b: Option<&Ranges<Version>>) -> bool
-    ensures { IsTrue result ↔ SameRange (option_map (λ r. r.now) a) (option_map (λ r. r.now) b) }
+    ensures { IsTrue result ↔ SameRange (option_map (λ r. r.now) a.entry) (option_map (λ r. r.now) b.entry) }
 {
     match a {
         Some(a) => match b {
