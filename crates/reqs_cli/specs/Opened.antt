@@ -75,7 +75,8 @@ AreGiven gives inputs readers = AllZip (λ input reader. gives input (Ok reader)
 -- all inputs of a command are opened, or one is not
 abbrev pub Opens : {S : Type 0} → Asked → (Input → Result S RunFault → Type 0)
     → Result (Opened S) RunFault → Type 0
-Opens asked gives (Ok opened) = (asked_of opened ≡ asked) × AreGiven gives (inputs_of asked) (readers_of opened)
+Opens asked gives (Ok opened) =
+    (asked_of opened ≡ asked) × AreGiven gives (inputs_of asked) (readers_of opened)
 Opens asked gives (Err fault) = (input : Input) × gives input (Err fault)
 
 -- ---- and the command on them

@@ -126,7 +126,7 @@ fn matrix_command<'a>(alloc: Global) -> Result<Command<'a>, AllocError> {
 fn same_command<'a>(alloc: Global) -> Result<Command<'a>, AllocError> {
     let left = Arg::new(alloc, "LEFT")
         .help(
-            "The one list, one requirement a line, a file; - is standard input, here or in place of the other",
+            "The one list, one requirement a line, a file; - is standard input, here or for the other",
         )
         .required(true);
     let right = Arg::new(alloc, "RIGHT")

@@ -29,7 +29,8 @@ may_be_said IsOne Declines lists fault each (inl h) = h.0
 may_be_said IsOne Declines lists fault each (inr h) = each h.0 h.2
 
 module _ (vars : Variables) (inputs : List (List ℕ)) where
-  of_line : (input : Input) (number : ℕ) (why : LineCause) → IsOfLists vars inputs (line_fault input number why)
+  of_line : (input : Input) (number : ℕ) (why : LineCause)
+      → IsOfLists vars inputs (line_fault input number why)
   of_line input number cause.Url = tt
   of_line input number cause.ExactEqual = tt
   of_line input number cause.PostAfterBound = tt
@@ -57,7 +58,8 @@ module _ {W : Type 0} (contents : W → Option (List ℕ)) (old new : W) (told :
     (inputs : List (List ℕ)) (are_told : AllZip AreAsTold told inputs) (within : AreWithin inputs)
     (vars : Variables) (fault : RunFault) where
   refused : (Answers : Answering) (Refuses : List (List ℕ) → RunFault → Type 0)
-      → IsOfLists vars inputs fault → Refuses inputs fault → Runs Answers Refuses told contents old new (Err fault)
+      → IsOfLists vars inputs fault → Refuses inputs fault
+      → Runs Answers Refuses told contents old new (Err fault)
   refused Answers Refuses h r =
       texts_refused Answers Refuses contents old new told inputs are_told within
       (λ input error. IsErrorIn vars (text_lines (of_input inputs input)) error) fault h r

@@ -52,4 +52,5 @@ ConflictsRefuse limit vars inputs fault =
 abbrev pub RunsConflicts : {W : Type 0} → ℕ → Variables → Option (List ℕ) → (W → Option (List ℕ)) → W → W
     → Result Status RunFault → Type 0
 RunsConflicts limit vars requirements contents old new result =
-    Runs (ConflictsAnswerAs limit vars) (ConflictsRefuse limit vars) (requirements ∷ []) contents old new result
+    Runs (ConflictsAnswerAs limit vars) (ConflictsRefuse limit vars)
+    (requirements ∷ []) contents old new result

@@ -30,14 +30,16 @@ abbrev pub one_list : Variables → List (List ℕ) → Result (List LineRecord)
 one_list vars inputs = lines_from vars First (of_input inputs First)
 
 -- the lines of a right list behind those of the left one
-abbrev pub with_right : Variables → List ℕ → List LineRecord → Result (List LineRecord × List LineRecord) Cause
+abbrev pub with_right : Variables → List ℕ → List LineRecord
+    → Result (List LineRecord × List LineRecord) Cause
 with_right vars right left = do
   lines ← lines_from vars Second right
   Ok (left, lines)
 
 -- the lines of two lists, or the first thing at fault: that of the left one before that of the right one
 abbrev pub two_lists : Variables → List (List ℕ) → Result (List LineRecord × List LineRecord) Cause
-two_lists vars inputs = lines_from vars First (of_input inputs First) >>= with_right vars (of_input inputs Second)
+two_lists vars inputs =
+    lines_from vars First (of_input inputs First) >>= with_right vars (of_input inputs Second)
 
 -- lines of a left and a right list stand for those of some texts
 pub record AreBothRead (nodes : List NodeRecord) (left right : List Line) : Type 0 where

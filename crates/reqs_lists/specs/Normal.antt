@@ -33,7 +33,8 @@ HasNoNormal lines fault =
     × IsFirstFault lines number why
 
 abbrev pub NormalAnswersAs : Variables → List (List ℕ) → Status → List ℕ → Type 0
-NormalAnswersAs vars inputs ended text = IsRead (one_list vars inputs) (λ lines. IsNormalAnswer lines ended text)
+NormalAnswersAs vars inputs ended text =
+    IsRead (one_list vars inputs) (λ lines. IsNormalAnswer lines ended text)
 
 abbrev pub NormalRefuses : Variables → List (List ℕ) → RunFault → Type 0
 NormalRefuses vars inputs = RefusesLists (IsOfLists vars inputs) HasNoNormal (one_list vars inputs)

@@ -100,7 +100,7 @@ fn same_of(
 }
 
 /// The text of a difference, which is where the tree holds.
-#[tactic(auto, using(pep508_tree::proofs::OneTree::canonical_trees, pep508_tree::proofs::Shortened::short_trees))]
+#[tactic(auto, using(crate::proofs::Trees::canonical, crate::proofs::Trees::short))]
 fn difference_text(
     alloc: Global,
     name: &PackageName,

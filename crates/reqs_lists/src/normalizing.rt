@@ -32,7 +32,8 @@ pub fn normal<R: Read, W: Write>(
     vars: &Vars,
     output: &mut W,
 ) -> Result<Status, RunFault>
-    ensures runs { RunsNormal vars.now (R.remaining requirements.old) W.contents output.old output.new result }
+    ensures runs { RunsNormal vars.now (R.remaining requirements.old)
+        W.contents output.old output.new result }
     // A refused command has written nothing.
     ensures unwritten { IfErr result (λ fault. fault ≢ RunFault.Write → output.new ≡ output.old) }
 {

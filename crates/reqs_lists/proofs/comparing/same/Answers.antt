@@ -15,11 +15,13 @@ returns-in_err-right-clause-runs g c =
     let p = err_from_is_err_and c.from_residual-in_err-right.result c.from_residual-in_err-right.ensures.1 in
     let bytes : Vec ℕ Global → _ = λ read. read.items in
     rw (p.1, p.2)
-    (second_unread _ _ _ _ _ _ _ _ c.in_ok-left.left.items c.in_ok-left.ensures bytes _ c.in_err-right.ensures)
+    (second_unread _ _ _ _ _ _ _ _ c.in_ok-left.left.items c.in_ok-left.ensures bytes _
+    c.in_err-right.ensures)
 
 pub returns-in_err-answer-clause-runs : goal.returns-in_err-answer-clause-runs
 returns-in_err-answer-clause-runs g c =
-    let p = err_from_is_err_and c.from_residual-in_err-answer.result c.from_residual-in_err-answer.ensures.1 in
+    let left_by = c.from_residual-in_err-answer in
+    let p = err_from_is_err_and left_by.result left_by.ensures.1 in
     let left = c.in_ok-left.ensures in
     let right = c.in_ok-right.ensures in
     rw (p.1, p.2)

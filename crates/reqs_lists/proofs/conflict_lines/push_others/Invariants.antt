@@ -5,4 +5,5 @@ use Rattle.reqs_lists.proofs.conflict_lines.push_others.Given as goal
 
 abbrev pub invariant-loop-number : goal.invariant-loop-number
 invariant-loop-number l =
-    string_bytes l.text ≡ string_bytes l.fn.text ++ flat_map (λ number. 44 ∷ decimal number) (take l.number-index l.numbers)
+    string_bytes l.text
+    ≡ string_bytes l.fn.text ++ flat_map (λ number. 44 ∷ decimal number) (take l.number-index l.numbers)

@@ -12,7 +12,8 @@ returns-in_err-requirements-clause-runs g c =
 
 pub returns-in_err-answer-clause-runs : goal.returns-in_err-answer-clause-runs
 returns-in_err-answer-clause-runs g c =
-    let p = err_from_is_err_and c.from_residual-in_err-answer.result c.from_residual-in_err-answer.ensures.1 in
+    let left_by = c.from_residual-in_err-answer in
+    let p = err_from_is_err_and left_by.result left_by.ensures.1 in
     let read = c.in_ok-requirements.ensures in
     rw (p.1, p.2)
     (normal_refused _ _ _ _ (c.in_ok-requirements.requirements.items ∷ []) (read.0, tt) (read.1, tt)
