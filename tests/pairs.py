@@ -98,7 +98,9 @@ def marker(draw):
     kind = draw.below(10)
     if kind < 3:
         return ""
-    return draw.one(draw.one(OPPOSITES)) if kind < 6 else alike.marker(draw, 1)
+    text = draw.one(draw.one(OPPOSITES)) if kind < 6 else alike.marker(draw, 1)
+    # (a `#` behind a blank begins a comment, also in a marker's text)
+    return "" if re.search(r"\s#", text) else text
 
 
 def list_of_lines(draw):
