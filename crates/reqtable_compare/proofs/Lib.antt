@@ -8,4 +8,3 @@ pub mod Paired
 pub mod Causes
 pub mod ByNumber
 pub mod Summaries
-pub mod Whole
