@@ -16,10 +16,10 @@ use Rattle.reqtable_requirements.specs.Requirements.{StandsFor}
 use Rattle.reqtable_requirements.specs.declared.requirements.Line.{Line}
 use Rattle.reqtable_compare.specs.Numbered.{extras_in, extras_at}
 
-abbrev numbers_of : List Line → List ℕ
+abbrev pub numbers_of : List Line → List ℕ
 numbers_of lines = map (λ line. line.number) lines
 
-abbrev Rise : List Line → Type 0
+abbrev pub Rise : List Line → Type 0
 Rise lines = IsStrictlySortedBy nat_cmp (numbers_of lines)
 
 abbrev is : ℕ → Line → Bool
@@ -44,7 +44,7 @@ sorted lines h k d low within =
 pub searchable : (lines : List Line) (n : ℕ) → Rise lines →
     IsNonDecreasingBy (λ (line : Line). ordering_index (nat_cmp line.number n)) lines
 searchable lines n h =
-    searchable_from_sorted nat_cmp_total (λ (line : Line). line.number) n lines (sorted lines h)
+    searchable_from_sorted nat_cmp_total (λ (line : Line). line.number) lines n (sorted lines h)
 
 -- ---- found
 
@@ -72,9 +72,9 @@ found_at (p ∷ lines) zero line n h within here e =
     ap (λ b. cond b (Some p) (find (is n) lines)) (turned_equal p.number n same) ∙ ap (λ l. Some l) (sym here)
 found_at (p ∷ lines) (suc i) line n h within here e =
     let less : nat_cmp p.number line.number ≡ Less =
-            subst (λ (l : Line). nat_cmp p.number l.number ≡ Less) (sym here) (below_at p.number lines i line h.0 (omega arith)) in
+    subst (λ (l : Line). nat_cmp p.number l.number ≡ Less) (sym here) (below_at p.number lines i line h.0 (omega arith)) in
     let other : is_eq (nat_cmp n p.number) ≡ false =
-            ap is_eq (sym (nat_cmp_total.congr line.number n p.number e)) ∙ turned_less p.number line.number less in
+    ap is_eq (sym (nat_cmp_total.congr line.number n p.number e)) ∙ turned_less p.number line.number less in
     ap (λ b. cond b (Some p) (find (is n) lines)) other ∙ found_at lines i line n h.1 (omega arith) here e
 
 pub found_extras : (lines : List Line) (i : ℕ) (line : Line) (n : ℕ) → Rise lines → i < length lines →
@@ -110,7 +110,6 @@ no_extras lines i n parted =
 
 -- ---- the lines that stand for those of a text
 
-
 lifted : (vars : Variables) (nodes : List NodeRecord) (k : ℕ) (lines : List Line) (said : List LineRecord) →
     AllZip (StandsFor vars nodes) lines said → AllByRecursion (λ n. nat_cmp k n ≡ Less) (numbers_of lines) →
     AllByRecursion (λ (r : LineRecord). nat_cmp k r.number ≡ Less) said
@@ -128,9 +127,11 @@ behind_first : (p : Line) (lines : List Line) (said : List LineRecord) →
     AllByRecursion (λ (r : LineRecord). nat_cmp p.number r.number ≡ Less) said → AllByRecursion (HasExtras lines) said →
     AllByRecursion (HasExtras (p ∷ lines)) said
 behind_first p lines [] less all = tt
-behind_first p lines (r ∷ said) less all =
-    (ap (λ b. extras_in (cond b (Some p) (find (is r.number) lines))) (turned_less p.number r.number less.0)
-    ∙ all.0, behind_first p lines said less.1 all.1)
+behind_first p lines (r ∷ said) less all = (
+  ap (λ b. extras_in (cond b (Some p) (find (is r.number) lines))) (turned_less p.number r.number less.0)
+      ∙ all.0,
+  behind_first p lines said less.1 all.1,
+)
 
 pub extras_said : (vars : Variables) (nodes : List NodeRecord) (lines : List Line) (said : List LineRecord) →
     AllZip (StandsFor vars nodes) lines said → Rise lines → AllByRecursion (HasExtras lines) said
@@ -140,7 +141,9 @@ extras_said vars nodes [] (one ∷ said) h rise = absurd h
 extras_said vars nodes (line ∷ lines) [] h rise = absurd h
 extras_said vars nodes (line ∷ lines) (one ∷ said) h rise =
     let same : nat_cmp line.number one.number ≡ Equal =
-            subst (λ n. nat_cmp line.number n ≡ Equal) h.0.number (tied_itself nat_cmp_total line.number) in
-    (ap (λ b. extras_in (cond b (Some line) (find (is one.number) lines))) (turned_equal line.number one.number same)
-    ∙ h.0.extras, behind_first line lines said (lifted vars nodes line.number lines said h.1 rise.0)
-    (extras_said vars nodes lines said h.1 rise.1))
+    subst (λ n. nat_cmp line.number n ≡ Equal) h.0.number (tied_itself nat_cmp_total line.number) in (
+      ap (λ b. extras_in (cond b (Some line) (find (is one.number) lines))) (turned_equal line.number one.number same)
+          ∙ h.0.extras,
+      behind_first line lines said (lifted vars nodes line.number lines said h.1 rise.0)
+          (extras_said vars nodes lines said h.1 rise.1),
+    )

@@ -1,5 +1,6 @@
 -- A read line can be compared where what it says can.
-use Rattle.std.proofs.Common.{◌≡◌, List, [], ◌∷◌, Option, Some, None, cond, refl, is_none}
+use Rattle.std.proofs.Common.{◌≡◌, ℕ, List, [], ◌∷◌, Option, Some, None, cond, refl, sym, is_none}
+use Rattle.std.proofs.lemmas.Option.{none-some}
 use Rattle.std.specs.List.{list_any, AllZip}
 use Rattle.pep440_specifier.specs.Matching.{SpecifierRecord}
 use Rattle.pep440_specifier_list.specs.Lists.{IsInOrder}
@@ -58,3 +59,30 @@ refusal_said vars nodes side (line ∷ lines) (one ∷ said) later h =
     let cause = cause_said vars one.front.source line.requirement.version_or_url h.0.asks in
     let rest = refusal_said vars nodes side lines said later h.1 in
     λ i. refused_by side (h.0.number i) (cause i) (rest i)
+
+-- ---- a list's first, and a later one
+
+some_by : (side : Side) (n : ℕ) (cause : Option LineCause) (a b : Option Refusal) (x : Refusal) →
+    refused_by side n cause a ≡ Some x → (a ≡ Some x → b ≡ Some x) → refused_by side n cause b ≡ Some x
+some_by side n (Some cause) a b x h f = h
+some_by side n None a b x h f = f h
+
+pub some_first : (side : Side) (lines : List Line) (x : Refusal) (later : Option Refusal) →
+    lines_refusal side lines None ≡ Some x → lines_refusal side lines later ≡ Some x
+some_first side [] x later h = absurd (none-some x h)
+some_first side (line ∷ lines) x later h =
+    some_by side line.number (line_cause_in line) (lines_refusal side lines None) (lines_refusal side lines later) x h
+    (some_first side lines x later)
+
+none_by : (side : Side) (n : ℕ) (cause : Option LineCause) (a b later : Option Refusal) →
+    refused_by side n cause a ≡ None → (a ≡ None → b ≡ later) → refused_by side n cause b ≡ later
+none_by side n (Some cause) a b later h f =
+    absurd (none-some (record { side = side; number = n; cause = cause }) (sym h))
+none_by side n None a b later h f = f h
+
+pub none_first : (side : Side) (lines : List Line) (later : Option Refusal) →
+    lines_refusal side lines None ≡ None → lines_refusal side lines later ≡ later
+none_first side [] later h = refl
+none_first side (line ∷ lines) later h =
+    none_by side line.number (line_cause_in line) (lines_refusal side lines None) (lines_refusal side lines later) later
+    h (none_first side lines later)

@@ -62,7 +62,7 @@ of_set : (lines : List Line) (name : List ℕ) (said : List LineRecord) (s : Sum
 of_set lines name said s case set extras comparable sum of =
     let own = marked set.0 (lines_of name said) in
     let own_extras = marked_all (HasExtras lines) set.0 (lines_of name said)
-            (kept (HasExtras lines) (λ line. is_of name line.front) said extras) in
+    (kept (HasExtras lines) (λ line. is_of name line.front) said extras) in
     record {
       asks = record {
         some = sum.some ∙ ap some_numbers of.numbers ∙ some_same own;
@@ -85,9 +85,10 @@ each_set lines name said [] [] (set ∷ sets) extras comparable sums of = absurd
 each_set lines name said [] (case ∷ cases) sets extras comparable sums of = absurd sums
 each_set lines name said (s ∷ summaries) [] sets extras comparable sums of = absurd sums
 each_set lines name said (s ∷ summaries) (case ∷ cases) [] extras comparable sums of = absurd of
-each_set lines name said (s ∷ summaries) (case ∷ cases) (set ∷ sets) extras comparable sums of =
-    (of_set lines name said s case set extras comparable sums.0 of.0,
-    each_set lines name said summaries cases sets extras comparable sums.1 of.1)
+each_set lines name said (s ∷ summaries) (case ∷ cases) (set ∷ sets) extras comparable sums of = (
+  of_set lines name said s case set extras comparable sums.0 of.0,
+  each_set lines name said summaries cases sets extras comparable sums.1 of.1,
+)
 
 anywhere : Valuation
 anywhere = record { version = λ k. BelowAll; text = λ k. BelowAll; flag = λ f. false }
@@ -108,16 +109,19 @@ nothing_summed nodes = record {
     each = (record { realised = (anywhere, refl); made = omega arith; means = λ v. always_holds nodes v }, tt);
     all = λ v. refl;
   };
-  each = (record {
-    asks = record {
-      some = refl;
-      rising = none_rise;
-      extras = λ e. refl;
-      usable = refl;
-      range = λ there. absurd (cc);
-    };
-    tree = refl;
-  }, tt);
+  each = (
+    record {
+      asks = record {
+        some = refl;
+        rising = none_rise;
+        extras = λ e. refl;
+        usable = refl;
+        range = λ there. absurd (cc);
+      };
+      tree = refl;
+    },
+    tt,
+  );
 }
 
 pub no_summaries : (nodes : List NodeRecord) (lines : List LineRecord) (summaries : List SummaryRecord) →
