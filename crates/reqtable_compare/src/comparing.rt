@@ -49,10 +49,10 @@ struct Place<'a> {
 ///
 /// The tables of both lists are made, as `Table::build` does. A package with k and m cases takes at most
 /// k * m comparisons of what two cases require.
-pub fn same(
+pub fn same<'a>(
     alloc: Global,
-    left: &Requirements,
-    right: &Requirements,
+    left: &'a Requirements,
+    right: &'a Requirements,
     interner: &mut Interner,
     limit: u64,
 ) -> Result<Same, SameError>
@@ -99,11 +99,11 @@ fn side_table(
 }
 
 /// Compares two lists by their tables.
-fn compared(
+fn compared<'a>(
     alloc: Global,
-    left: &Requirements,
+    left: &'a Requirements,
     left_table: &Table,
-    right: &Requirements,
+    right: &'a Requirements,
     right_table: &Table,
     interner: &mut Interner,
 ) -> Result<Same, SameError>
