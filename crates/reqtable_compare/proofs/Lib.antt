@@ -1,0 +1,11 @@
+pub mod Steps
+pub mod Comparable
+pub mod AnsweredAlike
+pub mod OfTexts
+pub mod Likeness
+pub mod Finding
+pub mod Paired
+pub mod Causes
+pub mod ByNumber
+pub mod Summaries
+pub mod Whole

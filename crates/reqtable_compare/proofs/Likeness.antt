@@ -1,0 +1,60 @@
+-- Cases are alike exactly where their asks require the same.
+use Rattle.std.proofs.Common.{◌≡◌, ◌∙◌, ◌⊎◌, ◌↔◌, ℕ, Bool, true, false, IsTrue, List, [], ◌∷◌, Option, Some, None}
+use Rattle.std.proofs.Common.{refl, sym, ap, inl, inr, true≢false}
+use Rattle.std.specs.List.{list_any}
+use Rattle.std.specs.Str.{bytes_eq}
+use Rattle.version_ranges.specs.Point.{Point}
+use Rattle.version_ranges.specs.Held.{holds_at, HoldSamePoints}
+use Rattle.pep440_version.specs.Record.{VersionRecord}
+use Rattle.pep440_version.specs.Order.{version_cmp}
+use Rattle.pep508_requirement_text.specs.FrontReading.{Front}
+use Rattle.reqtable_answer.proofs.OneAnswer.{same_texts}
+use Rattle.reqtable_cases.specs.Usable.{is_usable, points_of, IsRangeOf}
+use Rattle.reqtable_cases.specs.Requires.{AskAlike, RequireAlike}
+use Rattle.reqtable_compare.specs.Summed.{SummaryRecord, SameRange, BothAlike, Alike, IsSummaryOf}
+
+abbrev Range : Type 0
+Range = Option (List (Point VersionRecord))
+
+points_by : (asks others : List Front) (a b : Range) → IsRangeOf asks a → IsRangeOf others b → SameRange a b →
+    (p : Point VersionRecord) → points_of asks p ≡ points_of others p
+points_by asks others None b of other same p = absurd same
+points_by asks others (Some x) None of other same p = absurd same
+points_by asks others (Some x) (Some y) of other same p = sym (of.1 p) ∙ same p ∙ other.1 p
+
+range_by : (asks others : List Front) (a b : Range) → is_usable asks ≡ true → is_usable others ≡ true →
+    IsRangeOf asks a → IsRangeOf others b → ((p : Point VersionRecord) → points_of asks p ≡ points_of others p) →
+    SameRange a b
+range_by asks others None b usable usable' of other same = absurd (true≢false (sym usable ∙ of))
+range_by asks others (Some x) None usable usable' of other same = absurd (true≢false (sym usable' ∙ other))
+range_by asks others (Some x) (Some y) usable usable' of other same =
+    (λ p. of.1 p ∙ same p ∙ sym (other.1 p))
+
+never_both : (a : Bool) → a ≡ true → a ≡ false → ⊥
+never_both a is not = true≢false (sym is ∙ not)
+
+pub to_require : (asks others : List Front) (a b : SummaryRecord) → IsSummaryOf asks a → IsSummaryOf others b →
+    Alike a b → RequireAlike asks others
+to_require [] [] a b one other alike = tt
+to_require [] (o ∷ os) a b one other (inl none) = never_both b.some other.some none.1
+to_require [] (o ∷ os) a b one other (inr both) = never_both a.some both.some one.some
+to_require (x ∷ xs) [] a b one other (inl none) = never_both a.some one.some none.0
+to_require (x ∷ xs) [] a b one other (inr both) = never_both b.some both.other other.some
+to_require (x ∷ xs) (o ∷ os) a b one other (inl none) = absurd (never_both a.some one.some none.0)
+to_require (x ∷ xs) (o ∷ os) a b one other (inr both) = record {
+  extras = λ e. sym (one.extras e) ∙ ap (list_any (bytes_eq e)) both.extras ∙ other.extras e;
+  points = points_by (x ∷ xs) (o ∷ os) a.range b.range (one.range refl) (other.range refl) both.range;
+}
+
+pub from_require : (asks others : List Front) (a b : SummaryRecord) → IsSummaryOf asks a → IsSummaryOf others b →
+    RequireAlike asks others → Alike a b
+from_require [] [] a b one other h = inl (one.some, other.some)
+from_require [] (o ∷ os) a b one other h = absurd h
+from_require (x ∷ xs) [] a b one other h = absurd h
+from_require (x ∷ xs) (o ∷ os) a b one other h = inr (record {
+  some = one.some;
+  other = other.some;
+  extras = same_texts a.extras b.extras one.rising other.rising
+      (λ q. one.extras q ∙ h.extras q ∙ sym (other.extras q));
+  range = range_by (x ∷ xs) (o ∷ os) a.range b.range one.usable other.usable (one.range refl) (other.range refl) h.points;
+})

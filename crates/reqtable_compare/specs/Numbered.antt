@@ -1,0 +1,11 @@
+-- Lines by their numbers.
+use Rattle.std.specs.Prelude.{ℕ, nat_eq, List, [], Option, Some, None, find}
+use Rattle.reqtable_requirements.specs.declared.requirements.Line.{Line}
+
+abbrev pub extras_in : Option Line → List (List ℕ)
+extras_in None = []
+extras_in (Some line) = line.requirement.extras.items
+
+-- the extras of the line with a number, none where there is no such line
+abbrev pub extras_at : List Line → ℕ → List (List ℕ)
+extras_at lines number = extras_in (find (λ line. nat_eq number line.number) lines)
