@@ -34,12 +34,12 @@ later nodes lines s summaries v found = record {
   any = λ P all. found.any P all.1;
 }
 
-itself : (m : Marks) → same_marks m m ≡ true
+pub itself : (m : Marks) → same_marks m m ≡ true
 itself [] = refl
 itself (true ∷ m) = itself m
 itself (false ∷ m) = itself m
 
-pub here : (nodes : List NodeRecord) (lines : List LineRecord) (s : SummaryRecord) (summaries : List SummaryRecord)
+abbrev pub here : (nodes : List NodeRecord) (lines : List LineRecord) (s : SummaryRecord) (summaries : List SummaryRecord)
     (set : Marks × Tree) (v : Valuation) → IsOfSet lines s set → IsCase (line_marks lines) nodes set →
     line_marks lines v ≡ set.0 → Found nodes lines (s ∷ summaries) v
 here nodes lines s summaries set v of case same = record {

@@ -8,4 +8,5 @@ pub mod Paired
 pub mod Causes
 pub mod ByNumber
 pub mod Summaries
+pub mod Trees
 pub mod Whole

@@ -1,6 +1,8 @@
 -- Cases are alike exactly where their asks require the same.
 use Rattle.std.proofs.Common.{◌≡◌, ◌∙◌, ◌⊎◌, ◌↔◌, ℕ, Bool, true, false, IsTrue, List, [], ◌∷◌, Option, Some, None}
-use Rattle.std.proofs.Common.{refl, sym, ap, inl, inr, true≢false}
+use Rattle.std.proofs.Common.{◌&&◌, refl, sym, ap, subst, inl, inr, true≢false}
+use Rattle.std.proofs.lemmas.Cmp.{nat_list_eq_equiv}
+use Rattle.std.specs.Cmp.Lexicographic.{pointwise}
 use Rattle.std.specs.List.{list_any}
 use Rattle.std.specs.Str.{bytes_eq}
 use Rattle.version_ranges.specs.Point.{Point}
@@ -9,6 +11,7 @@ use Rattle.pep440_version.specs.Record.{VersionRecord}
 use Rattle.pep440_version.specs.Order.{version_cmp}
 use Rattle.pep508_requirement_text.specs.FrontReading.{Front}
 use Rattle.reqtable_answer.proofs.OneAnswer.{same_texts}
+use Rattle.reqtable_answer.proofs.Tests.{same_bytes}
 use Rattle.reqtable_cases.specs.Usable.{is_usable, points_of, IsRangeOf}
 use Rattle.reqtable_cases.specs.Requires.{AskAlike, RequireAlike}
 use Rattle.reqtable_compare.specs.Summed.{SummaryRecord, SameRange, BothAlike, Alike, IsSummaryOf}
@@ -58,3 +61,29 @@ from_require (x ∷ xs) (o ∷ os) a b one other h = inr (record {
       (λ q. one.extras q ∙ h.extras q ∙ sym (other.extras q));
   range = range_by (x ∷ xs) (o ∷ os) a.range b.range one.usable other.usable (one.range refl) (other.range refl) h.points;
 })
+
+-- ---- lists of names
+
+both_true : (a b : Bool) → (a && b) ≡ true → (a ≡ true) × (b ≡ true)
+both_true true b h = (refl, h)
+both_true false b h = absurd (true≢false (sym h))
+
+itself : (xs : List (List ℕ)) → pointwise bytes_eq xs xs ≡ true
+itself [] = refl
+itself (x ∷ xs) =
+    let first = nat_list_eq_equiv.refl x in
+    let rest = itself xs in
+    λ i. first i && rest i
+
+pub names_are : (xs ys : List (List ℕ)) → pointwise bytes_eq xs ys ≡ true → xs ≡ ys
+names_are [] [] h = refl
+names_are [] (y ∷ ys) h = absurd (true≢false (sym h))
+names_are (x ∷ xs) [] h = absurd (true≢false (sym h))
+names_are (x ∷ xs) (y ∷ ys) h =
+    let parts = both_true (bytes_eq x y) (pointwise bytes_eq xs ys) h in
+    let first = same_bytes x y parts.0 in
+    let rest = names_are xs ys parts.1 in
+    λ i. first i ∷ rest i
+
+pub names_same : (xs ys : List (List ℕ)) → xs ≡ ys → pointwise bytes_eq xs ys ≡ true
+names_same xs ys same = subst (λ l. pointwise bytes_eq xs l ≡ true) same (itself xs)

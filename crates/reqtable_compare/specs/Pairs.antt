@@ -4,6 +4,7 @@ use Rattle.std.specs.List.{AllByRecursion}
 use Rattle.pep508_tree.specs.Tree.{Tree}
 use Rattle.pep508_tree.specs.Meaning.{NodeRecord, IsTree}
 use Rattle.pep508_tree.specs.Disjoint.{AreDisjoint}
+use Rattle.reqtable_compare.specs.declared.pairing.Meeting.{Meeting}
 use Rattle.reqtable_compare.specs.Summed.{SummaryRecord, Alike}
 
 -- a pair requires the same, or never holds together
@@ -51,6 +52,6 @@ pub record IsFirstPair (nodes : List NodeRecord) (left right : List SummaryRecor
   pub is : one ≡ first.tree
   pub beside : IsFirstOther nodes first right other
 
-abbrev pub FindsTrees : List NodeRecord → List SummaryRecord → List SummaryRecord → Option (Tree × Tree) → Type 0
+abbrev pub FindsTrees : List NodeRecord → List SummaryRecord → List SummaryRecord → Option Meeting → Type 0
 FindsTrees nodes left right None = AllByRecursion (PassesAll nodes right) left
-FindsTrees nodes left right (Some trees) = IsFirstPair nodes left right trees.0 trees.1
+FindsTrees nodes left right (Some meeting) = IsFirstPair nodes left right meeting.one meeting.other

@@ -1,9 +1,11 @@
 //! Two lists, compared package by package.
 
-ghost use Rattle.std.specs.Prelude.{◌≡◌, List, map, IfOk};
-ghost use Rattle.std.specs.List.{AllZip, AllByRecursion};
+ghost use Rattle.std.specs.Prelude.{◌≡◌, ◌||◌, ℕ, false, List, map, IfOk};
+ghost use Rattle.std.specs.List.{list_any, AllZip, AllByRecursion};
 ghost use Rattle.std.specs.List.Sorted.{IsStrictlySortedBy};
 ghost use Rattle.std.specs.Ordering.{nat_cmp};
+ghost use Rattle.std.specs.Cmp.Lexicographic.{slice_cmp};
+ghost use Rattle.std.specs.Str.{bytes_eq};
 ghost use Rattle.std.specs.Option.{option_map};
 ghost use Rattle.pep508_url.specs.Vars.{Variables};
 ghost use Rattle.pep508_tree.specs.Meaning.{IsTree, Extends};
@@ -12,16 +14,17 @@ ghost use Rattle.reqtable_requirements.specs.Asks.{AreOfNodes};
 ghost use Rattle.reqtable_requirements.specs.LineReading.{LineRecord};
 ghost use Rattle.reqtable_requirements.specs.Requirements.{StandsFor};
 ghost use Rattle.reqtable_table.specs.Cases.{HasItsCases};
+ghost use Rattle.reqtable_table.specs.Given.{is_under};
 ghost use Rattle.reqtable_compare.specs.Compared.{Compares, TablesSide};
 ghost use Rattle.reqtable_compare.specs.Differences.{FindsPlace, place_seen, listed, AnswersPlace};
 ghost use Rattle.reqtable_compare.specs.Differences.{ComparesTables};
 
-use crate::pairing::first_trees;
+use crate::pairing::{Meeting, first_trees};
 use crate::refusing::first_refusal;
 use crate::sides::{Same, SameError, Side};
 use crate::summing::summaries;
 use pep508_name::PackageName;
-use pep508_tree::{Interner, MarkerTree};
+use pep508_tree::Interner;
 use pep508_tree_laws::{a_tree_holds_somewhere, constants_are_named};
 use reqtable_conflicts::{package_names, table_of};
 use reqtable_requirements::{Line, Requirements};
@@ -32,8 +35,7 @@ use std::alloc::{AllocError, Global};
 #[derive(Clone, Copy)]
 struct Place<'a> {
     name: &'a PackageName,
-    one: MarkerTree,
-    other: MarkerTree,
+    meeting: Meeting,
 }
 
 /// Whether two lists require the same of each package in each environment, with whatever extras: the package
@@ -47,10 +49,10 @@ struct Place<'a> {
 ///
 /// The tables of both lists are made, as `Table::build` does. A package with k and m cases takes at most
 /// k * m comparisons of what two cases require.
-pub fn same(
+pub fn same<'a>(
     alloc: Global,
-    left: &Requirements,
-    right: &Requirements,
+    left: &'a Requirements,
+    right: &'a Requirements,
     interner: &mut Interner,
     limit: u64,
 ) -> Result<Same, SameError>
@@ -97,11 +99,11 @@ fn side_table(
 }
 
 /// Compares two lists by their tables.
-fn compared(
+fn compared<'a>(
     alloc: Global,
-    left: &Requirements,
+    left: &'a Requirements,
     left_table: &Table,
-    right: &Requirements,
+    right: &'a Requirements,
     right_table: &Table,
     interner: &mut Interner,
 ) -> Result<Same, SameError>
@@ -111,7 +113,7 @@ fn compared(
         (listed left.now left_table.now) (listed right.now right_table.now) result }
     ensures keeps { Extends interner.old.nodes interner.new.nodes }
 {
-    let names = package_names(alloc, &[left.lines(), right.lines()])?;
+    let names = names_of(alloc, left.lines(), right.lines())?;
     left.are_read();
     right.are_read();
     let place = first_place(
@@ -129,15 +131,30 @@ fn compared(
     }
 }
 
+/// The names of the packages that either list names, each once and in the order of their bytes.
+fn names_of<'a>(
+    alloc: Global,
+    left: &'a [Line],
+    right: &'a [Line],
+) -> Result<Vec<&'a PackageName>, AllocError>
+    ensures rise { IfOk result (λ names.
+        IsStrictlySortedBy (slice_cmp nat_cmp) (map (λ name. name.now) names.items)) }
+    ensures are { IfOk result (λ names. (name : List ℕ) →
+        list_any (bytes_eq name) (map (λ n. n.now) names.items)
+        ≡ (list_any (is_under name) left.now || (list_any (is_under name) right.now || false))) }
+{
+    package_names(alloc, &[left, right])
+}
+
 /// The answer of a difference.
 fn difference(alloc: Global, place: &Place<'_>, interner: &mut Interner) -> Result<Same, SameError>
-    requires one { IsTree interner.old.nodes place.now.one }
-    requires other { IsTree interner.old.nodes place.now.other }
-    requires meet { AreDisjoint interner.old.nodes place.now.one place.now.other → ⊥ }
+    requires one { IsTree interner.old.nodes place.now.meeting.one }
+    requires other { IsTree interner.old.nodes place.now.meeting.other }
+    requires meet { AreDisjoint interner.old.nodes place.now.meeting.one place.now.meeting.other → ⊥ }
     ensures answered { AnswersPlace interner.old.nodes interner.new.nodes (place_seen place.now) result }
     ensures keeps { Extends interner.old.nodes interner.new.nodes }
 {
-    let tree = place.one.and(alloc, interner, place.other)?;
+    let tree = place.meeting.one.and(alloc, interner, place.meeting.other)?;
     interner.are_sound();
     a_tree_holds_somewhere(interner);
     constants_are_named(interner);
@@ -165,8 +182,8 @@ fn first_place<'a>(
     for name in names {
         let ours = summaries(alloc, left, left_table, name)?;
         let theirs = summaries(alloc, right, right_table, name)?;
-        if let Some((one, other)) = first_trees(alloc, interner, &ours, &theirs)? {
-            return Ok(Some(Place { name, one, other }));
+        if let Some(meeting) = first_trees(alloc, interner, &ours, &theirs)? {
+            return Ok(Some(Place { name, meeting }));
         }
     }
     Ok(None)

@@ -10,6 +10,13 @@ use pep508_disjointness::MarkerTreeDisjointness;
 use pep508_tree::{Interner, MarkerTree};
 use std::alloc::{AllocError, Global};
 
+/// The trees of two cases that hold together and require different things.
+#[derive(Clone, Copy)]
+pub(crate) struct Meeting {
+    pub(crate) one: MarkerTree,
+    pub(crate) other: MarkerTree,
+}
+
 /// The trees of the first pair, by the left side's cases and then by the right side's. None where each pair
 /// requires the same or never holds together.
 ///
@@ -20,7 +27,7 @@ pub(crate) fn first_trees(
     interner: &Interner,
     left: &[Summary<'_>],
     right: &[Summary<'_>],
-) -> Result<Option<(MarkerTree, MarkerTree)>, AllocError>
+) -> Result<Option<Meeting>, AllocError>
     requires left { AreOfTrees interner.now.nodes (map summary_record left.now) }
     requires right { AreOfTrees interner.now.nodes (map summary_record right.now) }
     ensures { IfOk result (FindsTrees interner.now.nodes (map summary_record left.now)
@@ -28,7 +35,10 @@ pub(crate) fn first_trees(
 {
     for one in left {
         if let Some(other) = first_other(alloc, interner, one, right)? {
-            return Ok(Some((one.tree, other)));
+            return Ok(Some(Meeting {
+                one: one.tree,
+                other,
+            }));
         }
     }
     Ok(None)

@@ -39,8 +39,8 @@ fn is_same_range(a: Option<&Ranges<Version>>, b: Option<&Ranges<Version>>) -> bo
     ensures { IsTrue result ↔ SameRange (option_map (λ r. r.now) a.entry) (option_map (λ r. r.now) b.entry) }
 {
     match a {
-        Some(a) => match b {
-            Some(b) => *a == *b,
+        Some(ours) => match b {
+            Some(theirs) => *ours == *theirs,
             None => false,
         },
         None => false,

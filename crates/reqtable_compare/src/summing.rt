@@ -8,7 +8,7 @@ ghost use Rattle.reqtable_table.specs.Casing.{case_record};
 ghost use Rattle.reqtable_table.specs.Cases.{cases_under};
 ghost use Rattle.reqtable_compare.specs.Numbered.{extras_at};
 ghost use Rattle.reqtable_compare.specs.Seen.{summary_record};
-ghost use Rattle.reqtable_compare.specs.Totals.{IsSummed, AreSummed};
+ghost use Rattle.reqtable_compare.specs.Totals.{IsSummed, AreSummed, some_numbers};
 
 use crate::summary::Summary;
 use pep508_name::{ExtraName, PackageName};
@@ -75,7 +75,7 @@ fn summary<'a>(alloc: Global, lines: &[Line], case: &'a Case) -> Result<Summary<
     let lists = lists_of(alloc, lines, &case.lines)?;
     let extras = united_extras(alloc, &lists)?;
     Ok(Summary {
-        has_lines: !case.lines.is_empty(),
+        has_lines: has_some(&case.lines),
         extras,
         range: case.range.as_ref(),
         tree: case.tree,
@@ -106,5 +106,14 @@ fn extras_of(lines: &[Line], number: usize) -> &[ExtraName]
     match lines.binary_search_by(|line| line.number.cmp(&number)) {
         Ok(place) => &lines[place].requirement.extras,
         Err(_) => &[],
+    }
+}
+
+fn has_some(numbers: &[usize]) -> bool
+    ensures { result ≡ some_numbers numbers.now }
+{
+    match numbers.split_first() {
+        Some(_) => true,
+        None => false,
     }
 }
