@@ -14,6 +14,8 @@
 //! `pep440_rs`.
 #![tactic(auto)]
 
+pub mod laws;
+
 pub use pep440_rs;
 pub use pep508_disjointness::MarkerTreeDisjointness;
 pub use pep508_environment::{
