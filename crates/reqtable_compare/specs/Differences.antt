@@ -76,7 +76,7 @@ abbrev pub listed : List Line → List KeptPackage → Listed
 listed lines table = record { lines = lines; table = table }
 
 abbrev pub place_seen : Found → Place
-place_seen place = (place.name.now, (place.meeting.one, place.meeting.other))
+place_seen place = (place.name, (place.meeting.one, place.meeting.other))
 
 -- a tree of new nodes that holds somewhere, and just where both of a place do
 pub record IsBoth (old new : List NodeRecord) (one other tree : Tree) : Type 0 where

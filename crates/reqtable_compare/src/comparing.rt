@@ -32,9 +32,9 @@ use reqtable_table::{Table, TableError};
 use std::alloc::{AllocError, Global};
 
 /// Where two lists require different things: of a package, where both trees hold.
-#[derive(Clone, Copy)]
-struct Place<'a> {
-    name: &'a PackageName,
+#[derive(Drop)]
+struct Place {
+    name: PackageName,
     meeting: Meeting,
 }
 
@@ -126,7 +126,7 @@ fn compared<'a>(
         interner,
     )?;
     match place {
-        Some(place) => difference(alloc, &place, interner),
+        Some(place) => difference(alloc, place, interner),
         None => Ok(Same::Yes),
     }
 }
@@ -147,31 +147,33 @@ fn names_of<'a>(
 }
 
 /// The answer of a difference.
-fn difference(alloc: Global, place: &Place<'_>, interner: &mut Interner) -> Result<Same, SameError>
-    requires one { IsTree interner.old.nodes place.now.meeting.one }
-    requires other { IsTree interner.old.nodes place.now.meeting.other }
-    requires meet { AreDisjoint interner.old.nodes place.now.meeting.one place.now.meeting.other → ⊥ }
-    ensures answered { AnswersPlace interner.old.nodes interner.new.nodes (place_seen place.now) result }
+fn difference(alloc: Global, place: Place, interner: &mut Interner) -> Result<Same, SameError>
+    requires one { IsTree interner.old.nodes place.meeting.one }
+    requires other { IsTree interner.old.nodes place.meeting.other }
+    requires meet { AreDisjoint interner.old.nodes place.meeting.one place.meeting.other → ⊥ }
+    ensures answered { AnswersPlace interner.old.nodes interner.new.nodes (place_seen place) result }
     ensures keeps { Extends interner.old.nodes interner.new.nodes }
 {
     let tree = place.meeting.one.and(alloc, interner, place.meeting.other)?;
     interner.are_sound();
     a_tree_holds_somewhere(interner);
     constants_are_named(interner);
-    let package = place.name.try_clone(alloc)?;
-    Ok(Same::No { package, tree })
+    Ok(Same::No {
+        package: place.name,
+        tree,
+    })
 }
 
 /// The first of some packages of which two lists require different things.
-fn first_place<'a>(
+fn first_place(
     alloc: Global,
     left: &[Line],
     left_table: &Table,
     right: &[Line],
     right_table: &Table,
-    names: &[&'a PackageName],
+    names: &[&PackageName],
     interner: &Interner,
-) -> Result<Option<Place<'a>>, AllocError>
+) -> Result<Option<Place>, AllocError>
     requires left_rises { IsStrictlySortedBy nat_cmp (map (λ line. line.number) left.now) }
     requires right_rises { IsStrictlySortedBy nat_cmp (map (λ line. line.number) right.now) }
     requires left_cases { AllByRecursion (HasItsCases interner.now.nodes) left_table.now }
@@ -183,7 +185,11 @@ fn first_place<'a>(
         let ours = summaries(alloc, left, left_table, name)?;
         let theirs = summaries(alloc, right, right_table, name)?;
         if let Some(meeting) = first_trees(alloc, interner, &ours, &theirs)? {
-            return Ok(Some(Place { name, meeting }));
+            let package = name.try_clone(alloc)?;
+            return Ok(Some(Place {
+                name: package,
+                meeting,
+            }));
         }
     }
     Ok(None)

@@ -1,4 +1,4 @@
-use Rattle.std.proofs.Common.{◌∙◌, sym}
+use Rattle.std.proofs.Common.{◌∙◌, refl, sym}
 use Rattle.reqtable_compare.proofs.comparing.difference.Goals as goal
 
 pub returns-clause-answered : goal.returns-clause-answered
@@ -6,7 +6,7 @@ returns-clause-answered c =
     let tree = c.in_ok-tree.tree in
     let made = c.in_ok-tree.ensures.made in
     let truth = c.in_ok-tree.ensures.truth in (
-      c.in_ok-package.ensures,
+      refl,
       record {
         made = made;
         somewhere = c.a_tree_holds_somewhere.ensures tree made

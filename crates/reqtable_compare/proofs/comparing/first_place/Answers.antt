@@ -2,6 +2,7 @@ use Rattle.std.proofs.Common.{map, take, refl, sym, ap, subst}
 use Rattle.pep508_tree.specs.Meaning.{IsTree}
 use Rattle.reqtable_compare.specs.Seen.{summary_record}
 use Rattle.reqtable_compare.specs.Pairs.{AreOfTrees, FindsTrees, IsFirstPair}
+use Rattle.reqtable_compare.specs.Differences.{IsFirstPlace, listed}
 use Rattle.reqtable_compare.proofs.Steps.{split_at}
 use Rattle.reqtable_compare.proofs.Trees.{trees_under}
 use Rattle.reqtable_compare.proofs.comparing.first_place.Goals as goal
@@ -23,7 +24,11 @@ pub returns-in-Some : goal.returns-in-Some
 returns-in-Some c =
     let parts = split_at (λ name. name.now) c.args.names.now c.loop-name.name-index c.name-item.result
     c.loop-name-test.true c.name-item.is in
-    record {
+    let left = listed c.args.left.now c.args.left_table.now in
+    let right = listed c.args.right.now c.args.right_table.now in
+    let names = map (λ name. name.now) c.args.names.now in
+    subst (λ name. IsFirstPlace c.args.interner.now.nodes left right names
+    (name, (c.in-Some.meeting.one, c.in-Some.meeting.other))) (sym c.in_ok-package.ensures) record {
       front = map (λ name. name.now) (take c.loop-name.name-index c.args.names.now);
       back = parts.0;
       split = parts.1;
