@@ -1,5 +1,5 @@
 -- Pairs of cases of two sides.
-use Rattle.std.specs.Prelude.{◌≡◌, ◌⊎◌, Bool, true, false, List, ◌∷◌, ◌++◌, Option, Some, None}
+use Rattle.std.specs.Prelude.{◌≡◌, ◌⊎◌, Bool, true, false, List, [], ◌∷◌, ◌++◌, Option, Some, None}
 use Rattle.std.specs.List.{AllByRecursion}
 use Rattle.pep508_tree.specs.Tree.{Tree}
 use Rattle.pep508_tree.specs.Meaning.{NodeRecord, IsTree}
@@ -16,6 +16,16 @@ PassesAll nodes right a = AllByRecursion (Passes nodes a) right
 
 abbrev pub AreOfTrees : List NodeRecord → List SummaryRecord → Type 0
 AreOfTrees nodes summaries = AllByRecursion (λ s. IsTree nodes s.tree) summaries
+
+-- no two hold together
+abbrev pub AreApart : List NodeRecord → List SummaryRecord → Type 0
+AreApart nodes [] = Unit {0}
+AreApart nodes (s ∷ rest) = AllByRecursion (λ other. AreDisjoint nodes s.tree other.tree) rest × AreApart nodes rest
+
+-- both hold under the same valuations, and require the same
+pub record ArePartners (a b : SummaryRecord) : Type 0 where
+  pub tree : a.tree ≡ b.tree
+  pub alike : Alike a b
 
 -- it doesn't
 pub record Fails (nodes : List NodeRecord) (a b : SummaryRecord) : Type 0 where

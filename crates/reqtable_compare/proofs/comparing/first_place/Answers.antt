@@ -1,7 +1,8 @@
 use Rattle.std.proofs.Common.{map, take, refl, sym, ap, subst}
 use Rattle.pep508_tree.specs.Meaning.{IsTree}
 use Rattle.reqtable_compare.specs.Seen.{summary_record}
-use Rattle.reqtable_compare.specs.Pairs.{AreOfTrees, FindsTrees, IsFirstPair}
+use Rattle.reqtable_compare.specs.Pairs.{AreOfTrees, AreApart, FindsTrees, IsFirstPair}
+use Rattle.reqtable_compare.proofs.Apart.{apart_under}
 use Rattle.reqtable_compare.specs.Differences.{IsFirstPlace, listed}
 use Rattle.reqtable_compare.proofs.Steps.{split_at}
 use Rattle.reqtable_compare.proofs.Trees.{trees_under}
@@ -18,6 +19,13 @@ first_trees-requires-clause-right c =
     subst (λ l. AreOfTrees c.args.interner.now.nodes (map summary_record l))
     (sym c.deref-in-loop-name.ensures.value)
     (trees_under c.args.interner.now.nodes c.args.right.now c.name-item.result.now c.args.right_table.now
+    (map summary_record c.in_ok-theirs.theirs.items) c.requires.right_cases c.in_ok-theirs.ensures)
+
+pub first_trees-requires-clause-apart : goal.first_trees-requires-clause-apart
+first_trees-requires-clause-apart c =
+    subst (λ l. AreApart c.args.interner.now.nodes (map summary_record l))
+    (sym c.deref-in-loop-name.ensures.value)
+    (apart_under c.args.interner.now.nodes c.args.right.now c.name-item.result.now c.args.right_table.now
     (map summary_record c.in_ok-theirs.theirs.items) c.requires.right_cases c.in_ok-theirs.ensures)
 
 pub returns-in-Some : goal.returns-in-Some
