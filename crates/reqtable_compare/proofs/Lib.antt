@@ -10,3 +10,5 @@ pub mod ByNumber
 pub mod Summaries
 pub mod Trees
 pub mod Whole
+pub mod Answering
+pub mod Apart

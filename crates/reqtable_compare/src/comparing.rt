@@ -64,6 +64,8 @@ pub fn same<'a>(
         Compares limit interner.new.nodes said others result }
     ensures keeps { Extends interner.old.nodes interner.new.nodes }
 {
+    left.are_read();
+    right.are_read();
     if let Some(refused) = first_refusal(alloc, left.lines(), right.lines())? {
         return Err(SameError::Line {
             side: refused.side,
