@@ -1,5 +1,6 @@
 -- What comparing two lists answers, from what is known of their lines and their tables.
-use Rattle.std.proofs.Common.{◌≡◌, ◌∙◌, ℕ, List, [], ◌∷◌, Some, None, Result, Ok, Err, sym, ap}
+use Rattle.std.proofs.Common.{◌≡◌, ◌∙◌, ℕ, List, [], ◌∷◌, Option, Some, None, Result, Ok, refl, sym, ap, subst}
+use Rattle.std.specs.Option.{option_map}
 use Rattle.std.specs.List.{AllZip, AllByRecursion}
 use Rattle.pep508_url.specs.Vars.{Variables}
 use Rattle.pep508_tree.specs.Meaning.{NodeRecord, Extends}
@@ -16,9 +17,11 @@ use Rattle.reqtable_compare.specs.declared.sides.Same.{Same}
 use Rattle.reqtable_compare.specs.declared.sides.SameError.{SameError}
 use Rattle.reqtable_compare.specs.declared.sides.Side.TheVariants.{Left, Right}
 use Rattle.reqtable_compare.specs.Compared.{Compares, TablesSide}
-use Rattle.reqtable_compare.specs.Differences.{ComparesTables, listed}
+use Rattle.reqtable_compare.specs.declared.comparing.Place.{Place}
+use Rattle.reqtable_compare.specs.declared.refusing.Refused.{Refused}
+use Rattle.reqtable_compare.specs.Differences.{ComparesTables, FindsPlace, IsFirstPlace, listed, place_seen}
 use Rattle.reqtable_compare.specs.Refusals.{line_refusal, refusal_in}
-use Rattle.reqtable_compare.specs.RefusedLines.{lines_refusal}
+use Rattle.reqtable_compare.specs.RefusedLines.{lines_refusal, refused_seen}
 use Rattle.reqtable_compare.proofs.ByNumber.{Rise}
 use Rattle.reqtable_compare.proofs.Causes.{refusal_said}
 use Rattle.reqtable_compare.proofs.Comparable.{both_comparable}
@@ -46,6 +49,39 @@ pub refusal_of : (vars : Variables) (nodes : List NodeRecord) (left right : List
 refusal_of vars nodes left right said others h h' =
     refusal_said vars nodes Left left said (lines_refusal Right right None) h
     ∙ ap (refusal_in Left said) (refusal_said vars nodes Right right others None h')
+
+refused_by : (l l' r r' : List Line) (found x : Option Refused) → l ≡ l' → r ≡ r' → found ≡ x →
+    option_map refused_seen found ≡ lines_refusal Left l (lines_refusal Right r None) →
+    lines_refusal Left l' (lines_refusal Right r' None) ≡ option_map refused_seen x
+refused_by l l' r r' found x el er ef h =
+    sym (λ i. lines_refusal Left (el i) (lines_refusal Right (er i) None)) ∙ sym h ∙ ap (option_map refused_seen) ef
+
+pub refused_is : (l l' r r' : List Line) (found : Option Refused) (x : Refused) → l ≡ l' → r ≡ r' → found ≡ Some x →
+    option_map refused_seen found ≡ lines_refusal Left l (lines_refusal Right r None) →
+    lines_refusal Left l' (lines_refusal Right r' None) ≡ Some (refused_seen x)
+refused_is l l' r r' found x = refused_by l l' r r' found (Some x)
+
+none_is : (found : Option Refused) → ((x : Refused) → found ≡ Some x → ⊥) → found ≡ None
+none_is None never = refl
+none_is (Some x) never = absurd (never x refl)
+
+pub none_refused : (l l' r r' : List Line) (found : Option Refused) → l ≡ l' → r ≡ r' →
+    ((x : Refused) → found ≡ Some x → ⊥) →
+    option_map refused_seen found ≡ lines_refusal Left l (lines_refusal Right r None) →
+    lines_refusal Left l' (lines_refusal Right r' None) ≡ None
+none_refused l l' r r' found el er never h = refused_by l l' r r' found None el er (none_is found never) h
+
+-- ---- the place that was found
+
+pub place_found : (nodes : List NodeRecord) (l l' r r' : List Line) (lt rt : List KeptPackage) (ns ns' : List (List ℕ))
+    (found : Option Place) (place : Place) → l ≡ l' → r ≡ r' → ns ≡ ns' → found ≡ Some place →
+    FindsPlace nodes (listed l lt) (listed r rt) ns (option_map place_seen found) →
+    IsFirstPlace nodes (listed l' lt) (listed r' rt) ns' (place_seen place)
+place_found nodes l l' r r' lt rt ns ns' found place el er en ef h =
+    subst (λ x. IsFirstPlace nodes (listed x lt) (listed r' rt) ns' (place_seen place)) el
+    (subst (λ x. IsFirstPlace nodes (listed l lt) (listed x rt) ns' (place_seen place)) er
+    (subst (λ x. IsFirstPlace nodes (listed l lt) (listed r rt) x (place_seen place)) en
+    (subst (λ f. FindsPlace nodes (listed l lt) (listed r rt) ns (option_map place_seen f)) ef h)))
 
 -- ---- two tables
 

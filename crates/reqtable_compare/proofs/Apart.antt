@@ -1,13 +1,12 @@
 -- A case beside the cases of which one has its tree.
-use Rattle.std.proofs.Common.{◌≡◌, ◌∙◌, ◌&&◌, true, false, Bool, ℕ, zero, suc, List, [], ◌∷◌, ◌++◌, map, Option, Some, None}
-use Rattle.std.proofs.Common.{◌<◌, length, get_or, take, refl, sym, ap, subst, inl, inr, true≢false, Less, Greater}
+use Rattle.std.proofs.Common.{◌≡◌, ◌∙◌, ◌&&◌, true, false, Bool, ℕ, List, [], ◌∷◌, ◌++◌, map, Option, Some}
+use Rattle.std.proofs.Common.{refl, sym, ap, subst, inl, inr, Less, Greater}
 use Rattle.std.specs.Prelude.{find, cond}
 use Rattle.std.specs.Option.{option_map}
 use Rattle.std.specs.Str.{bytes_eq}
 use Rattle.std.specs.List.{AllZip, AllByRecursion}
 use Rattle.std.specs.List.Sorted.{IsStrictlySortedBy}
 use Rattle.std.specs.Ordering.{ordering_reverse}
-use Rattle.pep508_diagram.specs.Question.{Valuation}
 use Rattle.pep508_tree.specs.Tree.{Tree}
 use Rattle.pep508_tree.specs.Meaning.{NodeRecord, holds}
 use Rattle.pep508_tree.specs.Disjoint.{AreDisjoint}
@@ -19,7 +18,7 @@ use Rattle.reqtable_table.specs.Cases.{IsCaseOf, HasItsCases, cases_under}
 use Rattle.reqtable_table.specs.Kept.{KeptLine, KeptCase, KeptPackage}
 use Rattle.reqtable_compare.specs.Summed.{SummaryRecord}
 use Rattle.reqtable_compare.specs.Totals.{IsSummed, AreSummed, no_lines}
-use Rattle.reqtable_compare.specs.Pairs.{Passes, PassesAll, AreApart, ArePartners}
+use Rattle.reqtable_compare.specs.Pairs.{PassesAll, AreApart, ArePartners}
 
 -- ---- it passes beside all of them
 

@@ -1,7 +1,7 @@
 -- A read line can be compared where what it says can.
 use Rattle.std.proofs.Common.{◌≡◌, ℕ, List, [], ◌∷◌, Option, Some, None, cond, refl, sym, is_none}
 use Rattle.std.proofs.lemmas.Option.{none-some}
-use Rattle.std.specs.List.{list_any, AllZip}
+use Rattle.std.specs.List.{AllZip}
 use Rattle.pep440_specifier.specs.Matching.{SpecifierRecord}
 use Rattle.pep440_specifier_list.specs.Lists.{IsInOrder}
 use Rattle.pep440_range.specs.Ranges.{range_of}
@@ -22,7 +22,7 @@ use Rattle.reqtable_requirements.specs.declared.requirements.Line.{Line}
 use Rattle.reqtable_compare.specs.declared.sides.LineCause.{LineCause}
 use Rattle.reqtable_compare.specs.declared.sides.LineCause.TheVariants as causes
 use Rattle.reqtable_compare.specs.declared.sides.Side.{Side}
-use Rattle.reqtable_compare.specs.Refusals.{Refusal, is_exact, bounds_post, members_cause, line_cause}
+use Rattle.reqtable_compare.specs.Refusals.{Refusal, is_exact, bounds_post, members_cause}
 use Rattle.reqtable_compare.specs.Refusals.{refused_by, refusal_in}
 use Rattle.reqtable_compare.specs.RefusedLines.{cause_by, line_cause_in, lines_refusal}
 

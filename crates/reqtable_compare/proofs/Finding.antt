@@ -6,7 +6,7 @@ use Rattle.std.specs.Ordering.{ordering_reverse}
 use Rattle.pep508_diagram.specs.Question.{Valuation}
 use Rattle.pep508_tree.specs.Tree.{Tree}
 use Rattle.pep508_tree.specs.Meaning.{NodeRecord, holds}
-use Rattle.pep508_cases.specs.Cases.{Marks, same_marks, marks_cmp, sets_of, IsCase, AreCases}
+use Rattle.pep508_cases.specs.Cases.{Marks, same_marks, marks_cmp, sets_of, IsCase}
 use Rattle.pep508_cases.proofs.Counting.{marks_total}
 use Rattle.pep508_cases.proofs.Marks.{marks_is}
 use Rattle.reqtable_requirements.specs.LineReading.{LineRecord}

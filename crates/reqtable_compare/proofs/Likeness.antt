@@ -1,20 +1,18 @@
 -- Cases are alike exactly where their asks require the same.
-use Rattle.std.proofs.Common.{◌≡◌, ◌∙◌, ◌⊎◌, ◌↔◌, ℕ, Bool, true, false, IsTrue, List, [], ◌∷◌, Option, Some, None}
+use Rattle.std.proofs.Common.{◌≡◌, ◌∙◌, ℕ, Bool, true, false, List, [], ◌∷◌, Option, Some, None}
 use Rattle.std.proofs.Common.{◌&&◌, refl, sym, ap, subst, inl, inr, true≢false}
 use Rattle.std.proofs.lemmas.Cmp.{nat_list_eq_equiv}
 use Rattle.std.specs.Cmp.Lexicographic.{pointwise}
 use Rattle.std.specs.List.{list_any}
 use Rattle.std.specs.Str.{bytes_eq}
 use Rattle.version_ranges.specs.Point.{Point}
-use Rattle.version_ranges.specs.Held.{holds_at, HoldSamePoints}
 use Rattle.pep440_version.specs.Record.{VersionRecord}
-use Rattle.pep440_version.specs.Order.{version_cmp}
 use Rattle.pep508_requirement_text.specs.FrontReading.{Front}
 use Rattle.reqtable_answer.proofs.OneAnswer.{same_texts}
 use Rattle.reqtable_answer.proofs.Tests.{same_bytes}
 use Rattle.reqtable_cases.specs.Usable.{is_usable, points_of, IsRangeOf}
-use Rattle.reqtable_cases.specs.Requires.{AskAlike, RequireAlike}
-use Rattle.reqtable_compare.specs.Summed.{SummaryRecord, SameRange, BothAlike, Alike, IsSummaryOf}
+use Rattle.reqtable_cases.specs.Requires.{RequireAlike}
+use Rattle.reqtable_compare.specs.Summed.{SummaryRecord, SameRange, Alike, IsSummaryOf}
 
 abbrev Range : Type 0
 Range = Option (List (Point VersionRecord))

@@ -1,5 +1,5 @@
 -- The summaries of a table's cases are those of its lines.
-use Rattle.std.proofs.Common.{◌≡◌, ◌∙◌, ◌||◌, ◌≤◌, ℕ, Bool, true, false, cond, List, [], ◌∷◌, map, filter, Option, Some, None}
+use Rattle.std.proofs.Common.{◌≡◌, ◌∙◌, ◌||◌, ℕ, Bool, true, false, cond, List, [], ◌∷◌, map, filter}
 use Rattle.std.proofs.Common.{refl, sym, ap, subst, arith}
 use Rattle.std.specs.List.{list_any, AllZip, AllByRecursion}
 use Rattle.std.specs.List.Sorted.{IsStrictlySortedBy}
@@ -11,18 +11,18 @@ use Rattle.pep508_diagram.specs.Question.{Valuation}
 use Rattle.pep508_tree.specs.Tree.{Tree, always}
 use Rattle.pep508_tree.specs.Meaning.{NodeRecord}
 use Rattle.pep508_tree.proofs.Disjoint.{always_holds}
-use Rattle.pep508_cases.specs.Cases.{Marks, marks_cmp, sets_of, AreCases}
+use Rattle.pep508_cases.specs.Cases.{Marks, marks_cmp}
 use Rattle.reqtable_answer.specs.Asks.{has_extra, is_of}
 use Rattle.reqtable_requirements.specs.Asks.{lines_of}
 use Rattle.reqtable_requirements.specs.LineReading.{LineRecord}
 use Rattle.reqtable_requirements.specs.declared.requirements.Line.{Line}
-use Rattle.reqtable_cases.specs.Lines.{line_marks, marked, numbers_of, asked_by}
+use Rattle.reqtable_cases.specs.Lines.{marked, asked_by}
 use Rattle.reqtable_cases.specs.Usable.{IsRangeOf}
 use Rattle.reqtable_table.specs.Cases.{IsCaseOfLines, AreCasesOf}
 use Rattle.reqtable_table.specs.Kept.{KeptCase}
 use Rattle.reqtable_compare.specs.Numbered.{extras_at}
 use Rattle.reqtable_compare.specs.Summed.{SummaryRecord, some_asks, IsOfSet, AreSummaries}
-use Rattle.reqtable_compare.specs.Totals.{some_numbers, IsSummed, AreSummed, no_lines}
+use Rattle.reqtable_compare.specs.Totals.{some_numbers, IsSummed, no_lines}
 use Rattle.reqtable_compare.proofs.ByNumber.{HasExtras}
 use Rattle.reqtable_compare.proofs.Comparable.{AreComparable, case_usable}
 

@@ -20,9 +20,9 @@ use Rattle.reqtable_requirements.specs.Requirements.{StandsFor}
 use Rattle.reqtable_requirements.specs.declared.requirements.Line.{Line}
 use Rattle.reqtable_cases.specs.Lines.{is_named, line_marks}
 use Rattle.reqtable_cases.specs.Requires.{RequireAlike, RequireTheSame, IsFirstDifference, asked_of}
-use Rattle.reqtable_table.specs.Cases.{HasItsCases, AreCasesOf, cases_under, Builds}
+use Rattle.reqtable_table.specs.Cases.{AreCasesOf, cases_under, Builds}
 use Rattle.reqtable_table.specs.Given.{is_under}
-use Rattle.reqtable_table.specs.Kept.{KeptCase, KeptPackage, KeepsAll}
+use Rattle.reqtable_table.specs.Kept.{KeptCase, KeptPackage}
 use Rattle.reqtable_table.proofs.CasesOfLines.{cases_of_lines, none_of_lines}
 use Rattle.reqtable_compare.specs.declared.sides.Same.{Same}
 use Rattle.reqtable_compare.specs.declared.sides.Same.TheVariants.{Yes, No}
@@ -36,7 +36,7 @@ use Rattle.reqtable_compare.specs.Refusals.{line_refusal}
 use Rattle.reqtable_compare.specs.Summed.{SummaryRecord, AreSummaries}
 use Rattle.reqtable_compare.specs.Totals.{AreSummed}
 use Rattle.reqtable_compare.proofs.ByNumber.{Rise, HasExtras, extras_said}
-use Rattle.reqtable_compare.proofs.Comparable.{AreComparable, both_comparable}
+use Rattle.reqtable_compare.proofs.Comparable.{AreComparable}
 use Rattle.reqtable_compare.proofs.Summaries.{no_summaries, some_summaries}
 use Rattle.reqtable_compare.proofs.Paired.{all_pass, differs}
 

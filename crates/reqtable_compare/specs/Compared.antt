@@ -12,7 +12,7 @@ use Rattle.reqtable_compare.specs.declared.sides.SameError.{SameError}
 use Rattle.reqtable_compare.specs.declared.sides.SameError.TheVariants.{Line, TooManyCases, Memory}
 use Rattle.reqtable_compare.specs.declared.sides.Side.{Side}
 use Rattle.reqtable_compare.specs.declared.sides.Side.TheVariants.{Left, Right}
-use Rattle.reqtable_compare.specs.Refusals.{Refusal, line_refusal}
+use Rattle.reqtable_compare.specs.Refusals.{line_refusal}
 
 -- no package has too many cases
 abbrev pub NoneTooMany : ℕ → List LineRecord → Type 0

@@ -1,5 +1,5 @@
 -- Read lines that can't be compared.
-use Rattle.std.specs.Prelude.{ℕ, Bool, List, [], ◌∷◌, Option, Some, None, is_none}
+use Rattle.std.specs.Prelude.{Bool, List, [], ◌∷◌, Option, Some, None, is_none}
 use Rattle.pep440_specifier.specs.Matching.{SpecifierRecord}
 use Rattle.pep440_range.specs.Ranges.{range_of}
 use Rattle.pep508_url.specs.UrlTexts.{Verbatim}

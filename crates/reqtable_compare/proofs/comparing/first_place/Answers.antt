@@ -1,5 +1,4 @@
-use Rattle.std.proofs.Common.{map, take, refl, sym, ap, subst}
-use Rattle.pep508_tree.specs.Meaning.{IsTree}
+use Rattle.std.proofs.Common.{map, take, sym, ap, subst}
 use Rattle.reqtable_compare.specs.Seen.{summary_record}
 use Rattle.reqtable_compare.specs.Pairs.{AreOfTrees, AreApart, FindsTrees, IsFirstPair}
 use Rattle.reqtable_compare.proofs.Apart.{apart_under}

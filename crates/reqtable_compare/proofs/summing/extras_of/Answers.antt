@@ -1,4 +1,4 @@
-use Rattle.std.proofs.Common.{◌≡◌, ◌∙◌, Equal, get_or, sym, ap, rules}
+use Rattle.std.proofs.Common.{◌≡◌, ◌∙◌, Equal, sym, ap, rules}
 use Rattle.std.proofs.lemmas.Fn.{always_returns_same}
 use Rattle.std.specs.Ordering.{nat_cmp}
 use Rattle.reqtable_compare.proofs.ByNumber.{searchable, found_extras, no_extras}
