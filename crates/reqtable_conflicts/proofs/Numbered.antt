@@ -15,10 +15,10 @@ use Rattle.reqtable_requirements.specs.Requirements.{StandsFor}
 use Rattle.reqtable_requirements.specs.declared.requirements.Line.{Line}
 use Rattle.reqtable_cases.specs.Lines.{line_marks, marked}
 
-abbrev number_of : LineRecord → ℕ
+abbrev pub number_of : LineRecord → ℕ
 number_of line = line.number
 
-abbrev Rise : List LineRecord → Type 0
+abbrev pub Rise : List LineRecord → Type 0
 Rise lines = IsStrictlySortedBy nat_cmp (map number_of lines)
 
 abbrev Above : ℕ → List LineRecord → Type 0
