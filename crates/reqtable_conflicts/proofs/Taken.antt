@@ -1,7 +1,7 @@
 -- Where just the lines of a conflict apply, no plain version is taken.
 use Rattle.std.proofs.Common.{◌≡◌, ◌∙◌, ◌&&◌, ◌+◌, ℕ, Bool, true, false, cond, not, List, [], ◌∷◌, map, filter}
-use Rattle.std.proofs.Common.{All, None, Some, option_map, Ok, refl, sym, ap, subst, true≢false}
-use Rattle.std.specs.List.{list_any, list_all, enumerate_from, AllByRecursion, AllZip}
+use Rattle.std.proofs.Common.{All, None, Some, option_map, refl, sym, ap, subst, true≢false}
+use Rattle.std.specs.List.{list_any, list_all, enumerate_from, AllByRecursion}
 use Rattle.std.specs.List.Sorted.{IsStrictlySortedBy}
 use Rattle.std.specs.Ordering.{nat_cmp}
 use Rattle.std.specs.Str.{bytes_eq}
@@ -9,11 +9,9 @@ use Rattle.std.proofs.lemmas.List.Elements.{All-nil, All-append, All-filter, All
 use Rattle.std.proofs.lemmas.List.Elements.{All-from_recursion, recursion_from_All}
 use Rattle.std.proofs.lemmas.Slice.Eq.{bytes_eq-Decides}
 use Rattle.pep440_version.specs.Record.{VersionRecord}
-use Rattle.pep440_specifier.specs.Building.{IsBuilt}
 use Rattle.pep440_specifier.specs.Matching.{SpecifierRecord}
 use Rattle.pep440_specifier.specs.SpecifierReading.{specifier_of}
 use Rattle.pep440_specifier_list.specs.ListReading.{IsReadFromText}
-use Rattle.pep440_range.specs.Agreement.{IsSaid}
 use Rattle.pep440_range.proofs.Lists.{both_true}
 use Rattle.pep508_diagram.specs.Question.{Valuation}
 use Rattle.pep508_requirement_text.specs.FrontReading.{Front}
@@ -28,10 +26,10 @@ use Rattle.reqtable_requirements.specs.Asks.{applies, lines_of, asks_of}
 use Rattle.reqtable_requirements.specs.LineReading.{LineRecord}
 use Rattle.reqtable_requirements.proofs.Specifiers.{BuiltLaw}
 use Rattle.reqtable_cases.specs.Lines.{line_marks, numbers_of, asked_by}
-use Rattle.reqtable_cases.specs.Usable.{members_asked, is_ranged, is_usable}
+use Rattle.reqtable_cases.specs.Usable.{members_asked, is_ranged}
 use Rattle.reqtable_cases.specs.Conflicts.{IsConflict, AreConflicts}
 use Rattle.reqtable_cases.proofs.Taken.{conflicts_take_none}
-use Rattle.reqtable_conflicts.specs.Contradictions.{ConflictRecord, numbers_under, FindsConflicts}
+use Rattle.reqtable_conflicts.specs.Contradictions.{ConflictRecord, numbers_under}
 use Rattle.reqtable_conflicts.specs.NothingTaken.{ApplySomewhere, TakesNoPlain, HasNothing, EachFound}
 use Rattle.reqtable_conflicts.proofs.Numbered.{number_of, Rise, rise_kept, same_marked, applying_marked}
 use Rattle.reqtable_conflicts.proofs.Numbered.{numbers_alike}
