@@ -1,0 +1,88 @@
+-- Versions between the same two boundaries are held alike.
+use Rattle.std.proofs.Common.{◌≡◌, ◌∙◌, ◌<◌, ◌≤◌, ◌-◌, ℕ, zero, suc, nat_lt, Bool, true, false, List, [], ◌∷◌, length, get_or, is_le, refl, sym, ap, subst, absurd, true≢false, arith}
+use Rattle.std.proofs.lemmas.Bool.Decides.{nat_tests}
+use Rattle.std.specs.List.{AllWithin}
+use Rattle.std.specs.List.Sorted.{IsPartitionedBy, IsPartitionPoint}
+use Rattle.version_ranges.specs.declared.boundary.Boundary.{Boundary}
+use Rattle.version_ranges.specs.Boundaries.{point_of, boundary_cmp, turns_of}
+use Rattle.version_ranges.specs.Held.{holds_at}
+use Rattle.version_ranges.specs.Point.{Point, At}
+use Rattle.version_ranges.specs.Turns.{Rising}
+use Rattle.version_ranges.proofs.Searching.{partitioned, held_by_count}
+use Rattle.version_ranges.proofs.Turning.{normal_turns}
+use Rattle.pep440_version.specs.Order.{version_cmp}
+use Rattle.pep440_version.specs.OrderLaws.{version_cmp_total}
+use Rattle.pep440_version.specs.Record.{VersionRecord}
+use Rattle.reqtable_text.specs.declared.ordered.Placed.{Placed}
+use Rattle.reqtable_run.specs.InRun.{version_of, Falls}
+use Rattle.reqtable_run.proofs.Falling.{reached_by, up, falls_at}
+
+pub boundaries_parted : (boundaries : List (Boundary VersionRecord)) (version : VersionRecord) →
+    Rising (boundary_cmp version_cmp) boundaries → IsPartitionedBy (λ b. reached_by (point_of b) version) boundaries
+boundaries_parted boundaries version rising =
+    partitioned version_cmp version_cmp_total false boundaries (turns_of false boundaries) (At version) refl
+    (normal_turns version_cmp false boundaries rising)
+
+-- just the first so many boundaries are reached
+abbrev pub Reaches : List (Boundary VersionRecord) → VersionRecord → ℕ → Type 0
+Reaches boundaries version count =
+    IsPartitionPoint (λ b. reached_by (point_of b) version ≡ true) (λ b. reached_by (point_of b) version ≡ false) boundaries count
+
+not_true : (b : Bool) → (b ≡ true → ⊥) → b ≡ false
+not_true true h = absurd (h refl)
+not_true false h = refl
+
+-- a lower version that reaches the last of these too
+reaches_as_many : (boundaries : List (Boundary VersionRecord)) (low high : VersionRecord) (count : ℕ) →
+    Rising (boundary_cmp version_cmp) boundaries → is_le (version_cmp low high) ≡ true → count ≤ length boundaries →
+    Reaches boundaries high count →
+    ((d : Boundary VersionRecord) → 0 < count → reached_by (point_of (get_or boundaries (count - 1) d)) low ≡ true) →
+    Reaches boundaries low count
+reaches_as_many boundaries low high count rising le within here last = (
+  (λ k d l m. boundaries_parted boundaries low rising k (count - 1) d (omega arith) (omega arith) (last d (omega arith))),
+  (λ k d l m. not_true (reached_by (point_of (get_or boundaries k d)) low)
+      (λ e. true≢false (sym (up (point_of (get_or boundaries k d)) low high le e) ∙ here.1 k d l m))),
+)
+
+held_alike : (starts : Bool) (boundaries : List (Boundary VersionRecord)) (low high : VersionRecord) (count : ℕ) →
+    count ≤ length boundaries → Reaches boundaries low count → Reaches boundaries high count →
+    holds_at version_cmp (turns_of starts boundaries) (At low) ≡ holds_at version_cmp (turns_of starts boundaries) (At high)
+held_alike starts boundaries low high count within a b =
+    sym (held_by_count version_cmp starts boundaries (turns_of starts boundaries) (At low) count refl within a)
+    ∙ held_by_count version_cmp starts boundaries (turns_of starts boundaries) (At high) count refl within b
+
+pub same_there : {A : Type 0} (xs : List A) (i : ℕ) (d e : A) → i < length xs → get_or xs i d ≡ get_or xs i e
+same_there [] i d e l = absurd (omega arith)
+same_there (x ∷ xs) zero d e l = refl
+same_there (x ∷ xs) (suc i) d e l = same_there xs i d e (omega arith)
+
+-- the candidates from one on that reach what it reaches
+pub gap_held : (placed : List Placed) (at end count : ℕ) (boundaries : List (Boundary VersionRecord)) (first : Placed) →
+    Falls placed → Rising (boundary_cmp version_cmp) boundaries → at < length placed → end ≤ length placed →
+    first ≡ get_or placed at first → count ≤ length boundaries → Reaches boundaries (version_of first) count →
+    ((d : Boundary VersionRecord) → 0 < count →
+    AllWithin (λ x. reached_by (point_of (get_or boundaries (count - 1) d)) (version_of x) ≡ true) placed at end) →
+    (starts : Bool) (here : Placed) → here ≡ get_or placed at here →
+    AllWithin (λ x. holds_at version_cmp (turns_of starts boundaries) (At (version_of x))
+    ≡ holds_at version_cmp (turns_of starts boundaries) (At (version_of here))) placed at end
+gap_held placed at end count boundaries first falls rising within over is few here last starts start is_start k d l m =
+    let version = version_of (get_or placed k d) in
+    let at_first : get_or placed at d ≡ first = same_there placed at d first within ∙ sym is in
+    let at_start : first ≡ start = is ∙ same_there placed at first start within ∙ sym is_start in
+    let le : is_le (version_cmp version (version_of first)) ≡ true =
+    ap (λ x. is_le (version_cmp version (version_of x))) (sym at_first) ∙ falls_at placed falls at k d l (omega arith) in
+    held_alike starts boundaries version (version_of first) count few
+    (reaches_as_many boundaries version (version_of first) count rising le few here (λ b some. last b some k d l m)) here
+    ∙ ap (λ x. holds_at version_cmp (turns_of starts boundaries) (At (version_of x))) at_start
+
+-- and that one is among them
+less_by : (n m : ℕ) (b : Bool) → nat_lt n m ≡ b → (m ≤ n → ⊥) → n < m
+less_by n m true e h = grind (arith, nat_tests)
+less_by n m false e h = absurd (h (grind (arith, nat_tests)))
+
+pub gap_behind : (placed : List Placed) (at end : ℕ) (turn : Point VersionRecord) (first : Placed) → at < length placed →
+    first ≡ get_or placed at first → reached_by turn (version_of first) ≡ true →
+    IsPartitionPoint (λ x. reached_by turn (version_of x) ≡ true) (λ x. reached_by turn (version_of x) ≡ false) placed end → at < end
+gap_behind placed at end turn first within is reached point =
+    less_by at end (nat_lt at end) refl (λ le.
+    true≢false (sym reached ∙ ap (λ x. reached_by turn (version_of x)) is ∙ point.1 at first le within))

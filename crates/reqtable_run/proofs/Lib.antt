@@ -1,0 +1,4 @@
+pub mod Places
+pub mod Falling
+pub mod Gaps
+pub mod Passing
