@@ -1,5 +1,5 @@
 -- Versions between the same two boundaries are held alike.
-use Rattle.std.proofs.Common.{◌≡◌, ◌∙◌, ◌<◌, ◌≤◌, ◌-◌, ℕ, zero, suc, nat_lt, Bool, true, false, List, [], ◌∷◌, length, get_or, is_le, refl, sym, ap, subst, absurd, true≢false, arith}
+use Rattle.std.proofs.Common.{◌≡◌, ◌∙◌, ◌<◌, ◌≤◌, ◌-◌, ℕ, zero, suc, nat_lt, Bool, true, false, List, [], ◌∷◌, length, get_or, is_le, refl, sym, ap, subst, true≢false, arith}
 use Rattle.std.proofs.lemmas.Bool.Decides.{nat_tests}
 use Rattle.std.specs.List.{AllWithin}
 use Rattle.std.specs.List.Sorted.{IsPartitionedBy, IsPartitionPoint}
@@ -16,6 +16,7 @@ use Rattle.pep440_version.specs.Record.{VersionRecord}
 use Rattle.reqtable_text.specs.declared.ordered.Placed.{Placed}
 use Rattle.reqtable_run.specs.InRun.{version_of, Falls}
 use Rattle.reqtable_run.proofs.Falling.{reached_by, up, falls_at}
+use Rattle.reqtable_run.proofs.Places.{same_there}
 
 pub boundaries_parted : (boundaries : List (Boundary VersionRecord)) (version : VersionRecord) →
     Rising (boundary_cmp version_cmp) boundaries → IsPartitionedBy (λ b. reached_by (point_of b) version) boundaries
@@ -51,38 +52,21 @@ held_alike starts boundaries low high count within a b =
     sym (held_by_count version_cmp starts boundaries (turns_of starts boundaries) (At low) count refl within a)
     ∙ held_by_count version_cmp starts boundaries (turns_of starts boundaries) (At high) count refl within b
 
-pub same_there : {A : Type 0} (xs : List A) (i : ℕ) (d e : A) → i < length xs → get_or xs i d ≡ get_or xs i e
-same_there [] i d e l = absurd (omega arith)
-same_there (x ∷ xs) zero d e l = refl
-same_there (x ∷ xs) (suc i) d e l = same_there xs i d e (omega arith)
-
 -- the candidates from one on that reach what it reaches
 pub gap_held : (placed : List Placed) (at end count : ℕ) (boundaries : List (Boundary VersionRecord)) (first : Placed) →
     Falls placed → Rising (boundary_cmp version_cmp) boundaries → at < length placed → end ≤ length placed →
     first ≡ get_or placed at first → count ≤ length boundaries → Reaches boundaries (version_of first) count →
     ((d : Boundary VersionRecord) → 0 < count →
     AllWithin (λ x. reached_by (point_of (get_or boundaries (count - 1) d)) (version_of x) ≡ true) placed at end) →
-    (starts : Bool) (here : Placed) → here ≡ get_or placed at here →
-    AllWithin (λ x. holds_at version_cmp (turns_of starts boundaries) (At (version_of x))
-    ≡ holds_at version_cmp (turns_of starts boundaries) (At (version_of here))) placed at end
-gap_held placed at end count boundaries first falls rising within over is few here last starts start is_start k d l m =
-    let version = version_of (get_or placed k d) in
+    (starts : Bool) → AllWithin (λ x. holds_at version_cmp (turns_of starts boundaries) (At (version_of x))
+    ≡ holds_at version_cmp (turns_of starts boundaries) (At (version_of (get_or placed at x)))) placed at end
+gap_held placed at end count boundaries first falls rising within over is few here last starts k d l m =
+    let x = get_or placed k d in
+    let version = version_of x in
     let at_first : get_or placed at d ≡ first = same_there placed at d first within ∙ sym is in
-    let at_start : first ≡ start = is ∙ same_there placed at first start within ∙ sym is_start in
+    let at_x : first ≡ get_or placed at x = is ∙ same_there placed at first x within in
     let le : is_le (version_cmp version (version_of first)) ≡ true =
-    ap (λ x. is_le (version_cmp version (version_of x))) (sym at_first) ∙ falls_at placed falls at k d l (omega arith) in
+    ap (λ y. is_le (version_cmp version (version_of y))) (sym at_first) ∙ falls_at placed falls at k d l (omega arith) in
     held_alike starts boundaries version (version_of first) count few
     (reaches_as_many boundaries version (version_of first) count rising le few here (λ b some. last b some k d l m)) here
-    ∙ ap (λ x. holds_at version_cmp (turns_of starts boundaries) (At (version_of x))) at_start
-
--- and that one is among them
-less_by : (n m : ℕ) (b : Bool) → nat_lt n m ≡ b → (m ≤ n → ⊥) → n < m
-less_by n m true e h = grind (arith, nat_tests)
-less_by n m false e h = absurd (h (grind (arith, nat_tests)))
-
-pub gap_behind : (placed : List Placed) (at end : ℕ) (turn : Point VersionRecord) (first : Placed) → at < length placed →
-    first ≡ get_or placed at first → reached_by turn (version_of first) ≡ true →
-    IsPartitionPoint (λ x. reached_by turn (version_of x) ≡ true) (λ x. reached_by turn (version_of x) ≡ false) placed end → at < end
-gap_behind placed at end turn first within is reached point =
-    less_by at end (nat_lt at end) refl (λ le.
-    true≢false (sym reached ∙ ap (λ x. reached_by turn (version_of x)) is ∙ point.1 at first le within))
+    ∙ ap (λ y. holds_at version_cmp (turns_of starts boundaries) (At (version_of y))) at_x

@@ -27,7 +27,8 @@ pub(crate) fn gap_end(placed: &[Placed<'_>], at: usize, boundaries: &[Boundary<V
         ≡ holds_at version_cmp (turns_of starts boundaries.now)
         (At (version_of (get_or placed.now at x)))) placed.now at result }
 {
-    let reached = reached(boundaries, &placed[at].candidate.version);
+    let candidate = placed[at].candidate;
+    let reached = reached(boundaries, &candidate.version);
     match reached.checked_sub(1) {
         None => placed.len(),
         Some(last) => reaching(placed, &boundaries[last]),

@@ -73,7 +73,8 @@ impl<'o, 'a> Run<'o, 'a> {
         requires { at < length self.now }
         ensures { result.now ≡ get_or self.now at result.now }
     {
-        &self.placed[at]
+        let placed = self.placed;
+        &placed[at]
     }
 
     /// The next place behind one, or the end: it passes over candidates of which the range tells, and which it
@@ -86,14 +87,16 @@ impl<'o, 'a> Run<'o, 'a> {
         ensures within { result ≤ length self.now }
         ensures passed { AllWithin (λ x. IsPassed bounded range.now (version_of x)) self.now (at + 1) result }
     {
+        let placed = self.placed;
         let Some(set) = range else {
             return at + 1;
         };
-        if set.contains(&self.placed[at].candidate.version) {
+        let candidate = placed[at].candidate;
+        if set.contains(&candidate.version) {
             return at + 1;
         }
         let (_, boundaries) = set.turns();
-        let end = gap_end(self.placed, at, boundaries);
+        let end = gap_end(placed, at, boundaries);
         next_place(self.untold_places(bounded), at, end)
     }
 

@@ -2,7 +2,7 @@
 
 ghost use Rattle.std.specs.Prelude.{◌≡◌, ◌≤◌, ◌<◌, length, IfOk};
 ghost use Rattle.std.specs.List.{list_any, AllByRecursion};
-ghost use Rattle.std.specs.List.Sorted.{IsNonDecreasing};
+ghost use Rattle.std.specs.List.Sorted.{IsNonDecreasing, IsPartitionPoint};
 ghost use Rattle.reqtable_run.specs.Told.{is_told, is_bound};
 ghost use Rattle.reqtable_run.specs.InRun.{untold_from};
 
@@ -69,9 +69,19 @@ pub(crate) fn next_place(places: &[usize], at: usize, end: usize) -> usize
     ensures within { result ≤ end }
     ensures next { AllByRecursion (λ place. at < place → result ≤ place) places.now }
 {
-    let past = places.partition_point(|place| *place <= at);
-    match places.get(past) {
-        Some(place) => end.min(*place),
-        None => end,
+    let past = places_upto(places, at);
+    if past == places.len() {
+        return end;
     }
+    let place = places[past];
+    if place < end { place } else { end }
+}
+
+/// How many of rising places lie at a place or before it.
+fn places_upto(places: &[usize], at: usize) -> usize
+    requires { IsNonDecreasing places.now }
+    ensures within { result ≤ length places.now }
+    ensures point { IsPartitionPoint (λ place. place ≤ at) (λ place. at < place) places.now result }
+{
+    places.partition_point(|place| *place <= at)
 }
