@@ -1,12 +1,11 @@
 -- Versions between the same two boundaries are held alike.
-use Rattle.std.proofs.Common.{◌≡◌, ◌∙◌, ◌<◌, ◌≤◌, ◌-◌, ℕ, zero, suc, nat_lt, Bool, true, false, List, [], ◌∷◌, length, get_or, is_le, refl, sym, ap, subst, true≢false, arith}
-use Rattle.std.proofs.lemmas.Bool.Decides.{nat_tests}
+use Rattle.std.proofs.Common.{◌≡◌, ◌∙◌, ◌<◌, ◌≤◌, ◌-◌, ℕ, Bool, true, false, List, length, get_or, is_le, refl, sym, ap, true≢false, arith}
 use Rattle.std.specs.List.{AllWithin}
 use Rattle.std.specs.List.Sorted.{IsPartitionedBy, IsPartitionPoint}
 use Rattle.version_ranges.specs.declared.boundary.Boundary.{Boundary}
 use Rattle.version_ranges.specs.Boundaries.{point_of, boundary_cmp, turns_of}
 use Rattle.version_ranges.specs.Held.{holds_at}
-use Rattle.version_ranges.specs.Point.{Point, At}
+use Rattle.version_ranges.specs.Point.{At}
 use Rattle.version_ranges.specs.Turns.{Rising}
 use Rattle.version_ranges.proofs.Searching.{partitioned, held_by_count}
 use Rattle.version_ranges.proofs.Turning.{normal_turns}

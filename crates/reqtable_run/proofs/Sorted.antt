@@ -1,5 +1,5 @@
 -- Candidates of one name in order stand from the greatest version down.
-use Rattle.std.proofs.Common.{◌≡◌, ◌∙◌, ℕ, Bool, true, false, List, [], ◌∷◌, map, filter, Ordering, Less, Equal, Greater, is_le, refl, sym, ap, subst}
+use Rattle.std.proofs.Common.{◌≡◌, ◌∙◌, ℕ, Bool, true, List, [], ◌∷◌, map, filter, Ordering, Less, Equal, Greater, is_le, refl, sym, ap, subst}
 use Rattle.std.proofs.lemmas.Cmp.{nat_list_cmp_total}
 use Rattle.std.proofs.lemmas.List.Elements.{filter_passes, recursion_from_All}
 use Rattle.std.proofs.lemmas.List.Kept.{IsStrictlySortedBy-filter}
@@ -42,7 +42,7 @@ module _ (name : List ℕ) where
   each_below x [] own all less = tt
   each_below x (y ∷ xs) own all less = (
     below_by (name_cmp x.candidate.now.name y.candidate.now.name) (version_cmp (version_of y) (version_of x))
-    (nat_cmp x.place y.place) (same_name name x.candidate.now.name y.candidate.now.name own all.0) less.0,
+        (nat_cmp x.place y.place) (same_name name x.candidate.now.name y.candidate.now.name own all.0) less.0,
     each_below x xs own all.1 less.1,
   )
 

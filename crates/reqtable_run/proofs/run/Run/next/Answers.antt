@@ -1,4 +1,4 @@
-use Rattle.std.proofs.Common.{◌≡◌, ◌∙◌, ◌<◌, ◌≤◌, ◌+◌, false, List, get_or, length, sym, ap, subst}
+use Rattle.std.proofs.Common.{◌≡◌, ◌∙◌, ◌<◌, ◌≤◌, ◌+◌, false, List, get_or, length, sym, subst}
 use Rattle.std.specs.List.{AllWithin, AllByRecursion}
 use Rattle.std.specs.List.Sorted.{IsNonDecreasing}
 use Rattle.version_ranges.specs.Boundaries.{turns_of}
@@ -6,7 +6,7 @@ use Rattle.version_ranges.specs.Held.{holds_at}
 use Rattle.version_ranges.specs.Point.{At}
 use Rattle.pep440_version.specs.Order.{version_cmp}
 use Rattle.reqtable_text.specs.declared.ordered.Placed.{Placed}
-use Rattle.reqtable_run.specs.InRun.{version_of, untold_from}
+use Rattle.reqtable_run.specs.InRun.{version_of}
 use Rattle.reqtable_run.specs.Told.{IsPassed}
 use Rattle.reqtable_run.proofs.Passing.{passed_over, held_alike_none}
 use Rattle.reqtable_run.proofs.Places.{places_rise, same_there}
