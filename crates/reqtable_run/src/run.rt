@@ -20,9 +20,9 @@ use version_ranges::Ranges;
 #[derive(Drop)]
 pub struct Run<'o, 'a> {
     placed: &'o [Placed<'a>],
-    /// The places of those of which no range tells, where no specifier is `<` or `>`.
+    /// The places of those of which the range of specifiers doesn't tell that have neither `<` nor `>`.
     untold: Vec<usize>,
-    /// The same where one is.
+    /// The same for specifiers that have.
     untold_by_bounds: Vec<usize>,
 }
 
@@ -40,8 +40,8 @@ impl<'o, 'a> Model for Run<'o, 'a> {
 
 impl<'o, 'a> Run<'o, 'a> {
     /// The candidates of a package. They are found in O(log n) comparisons of names for n candidates of all
-    /// packages, and each of them is looked at twice. Memory for the place of each candidate of which some
-    /// range doesn't tell.
+    /// packages, and each of them is looked at twice. Memory for the place of each that has a local part or is
+    /// a post-release.
     pub fn of(
         alloc: Global,
         ordered: &'o Ordered<'a>,
@@ -77,10 +77,12 @@ impl<'o, 'a> Run<'o, 'a> {
         &placed[at]
     }
 
-    /// The next place behind one, or the end: it passes over candidates of which the range tells, and which it
-    /// doesn't hold. Where the version at the place isn't held, and the next candidates that are told lie
-    /// beside it between two intervals, it passes over all of these, in as many steps as the logarithms of the
-    /// number of boundaries and of the number of candidates. Without a range it passes over none.
+    /// The next place behind one whose candidate may be taken, or the end.
+    ///
+    /// Where the range doesn't hold the version at the place, the candidates behind it that lie between the
+    /// same two intervals are passed over, up to the first of which the range doesn't tell: in as many steps
+    /// as the logarithms of the number of boundaries and of the number of candidates. Where it does, and
+    /// without a range, none is passed over.
     pub fn next(&self, at: usize, range: &Option<Ranges<Version>>, bounded: bool) -> usize
         requires { at < length self.now }
         ensures behind { at < result }

@@ -11,8 +11,7 @@ use pep440_version::Version;
 use reqtable_text::Placed;
 use std::alloc::{AllocError, Global};
 
-/// Whether the range of some specifiers tells of the version: of bounded ones, of which one is `<` or `>`, or of
-/// others.
+/// Whether the range of some specifiers tells of the version. They are bounded where one is `<` or `>`.
 pub fn is_told(bounded: bool, version: &Version) -> bool
     ensures { result ≡ is_told bounded version.now }
 {

@@ -29,9 +29,9 @@ use version_ranges::Ranges;
 ///
 /// Where the case has a range it tells, without asking a specifier, of each candidate without a local part
 /// that is no post-release, and of post-releases too where no marked line has `<` or `>`; those of these that
-/// lie between two of its intervals are passed over, in as many steps as the logarithms of their number and of
-/// the number of intervals. Any other candidate is asked of each specifier of the marked lines, up to the first
-/// that refuses.
+/// lie between two of its intervals are passed over together, in as many steps as the logarithms of the
+/// number of intervals and of the candidates. Any other candidate is asked of each specifier of the marked
+/// lines, up to the first that refuses.
 pub(crate) fn chosen<F: Fn(&Version, bool) -> bool>(
     alloc: Global,
     lines: &mut [TableLine],
