@@ -136,8 +136,8 @@ module _ {A B : Type 0} (f : A → B) (p : B → Bool) where
 
 refuses : (asks : List Front) (bounded : Bool) (range : Option (List (Point VersionRecord))) (version : VersionRecord) →
     Tells bounded range asks → IsSaid version → IsPassed bounded range version → list_all (ask_takes version) asks ≡ false
-refuses asks bounded None version tells said passed = absurd passed
-refuses asks bounded (Some set) version tells said passed =
+refuses asked bounded None version tells said passed = absurd passed
+refuses asked bounded (Some set) version tells said passed =
     sym (tells.exact version said passed.0 tells.range_is.0) ∙ sym (tells.range_is.1 (At version)) ∙ passed.1
 
 pub none_passed : (admits : Admits) (asks : List Front) (bounded : Bool) (range : Option (List (Point VersionRecord))) →

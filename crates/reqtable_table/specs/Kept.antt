@@ -18,6 +18,7 @@ use Rattle.pep508_requirement_text.specs.FrontReading.Source.{Specifiers, Url}
 use Rattle.reqtable_answer.specs.Asks.{specifiers_of, is_url}
 use Rattle.reqtable_requirements.specs.LineReading.{LineRecord}
 use Rattle.reqtable_requirements.specs.Asks.{lines_of}
+use Rattle.reqtable_run.specs.Told.{is_bound}
 use Rattle.reqtable_cases.specs.Lines.{is_named}
 
 -- a line of a package: its number, extras and marker, whether it asks for a URL, whether one of its

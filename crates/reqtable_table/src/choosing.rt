@@ -1,6 +1,6 @@
 //! Which of a package's candidates is taken, by the case of its lines that apply.
 
-ghost use Rattle.std.specs.Prelude.{◌≡◌, ◌≤◌, ◌<◌, ◌+◌, ℕ, length, map, find, IfOk, IfSome};
+ghost use Rattle.std.specs.Prelude.{◌≡◌, ◌≤◌, ◌<◌, ◌+◌, ℕ, Bool, length, map, find, IfOk, IfSome};
 ghost use Rattle.std.specs.List.{list_any, list_all, AllZip, AllByRecursion};
 ghost use Rattle.std.specs.Option.{option_map};
 ghost use Rattle.pep440_range.specs.Agreement.{IsSaid};
@@ -16,6 +16,7 @@ ghost use Rattle.reqtable_table.specs.Counts.{tests_of};
 ghost use Rattle.reqtable_table.specs.Kept.{kept_front};
 ghost use Rattle.reqtable_table.specs.KeptLines.{line_record};
 ghost use Rattle.reqtable_table.specs.Standing.{HasItsFlags, IsOfTexts};
+ghost use Rattle.reqtable_table.specs.declared.kept.TableLine.{TableLine};
 
 use crate::kept::TableLine;
 use pep440_version::Version;

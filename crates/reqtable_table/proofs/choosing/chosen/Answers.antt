@@ -1,4 +1,4 @@
-use Rattle.std.proofs.Common.{◌∙◌, ◌<◌, ◌+◌, refl, sym, ap, subst, option_map}
+use Rattle.std.proofs.Common.{◌∙◌, ◌<◌, ◌+◌, refl, sym, ap, subst, option_map, rules, arith}
 use Rattle.pep440_range.specs.Agreement.{IsSaid}
 use Rattle.reqtable_text.specs.Ordered.{placed_seen}
 use Rattle.reqtable_answer.specs.Asks.{may_be_taken}
@@ -21,12 +21,12 @@ takes-requires-clause-tells g c =
     let same = same_asks marks lines c.loop-at.lines c.loop-at.invariant.more.same in
     subst (λ asks. Tells bounded c.args.range.now asks) (sym same)
     (case_tells marks lines c.args.range.now bounded c.requires.flags c.requires.read c.requires.ranged
-    ?)
+    (c.any_marked-bounded.ensures (λ line. line.is_bounded) (λ line answer h. search rules)))
 
 pub takes-requires-clause-said : goal.takes-requires-clause-said
 takes-requires-clause-said g c =
     all_at (λ x. IsSaid x.1.version) placed_seen c.args.own.now c.loop-at.at c.at-placed.result.now
-    c.loop-at-test.true c.at-placed.ensures c.requires.said
+    (subst (λ n. c.loop-at.at < n) c.len.ensures c.loop-at-test.true) c.at-placed.ensures c.requires.said
 
 pub returns-then-admits-clause-chosen : goal.returns-then-admits-clause-chosen
 returns-then-admits-clause-chosen g c = λ admits by.
@@ -39,41 +39,41 @@ returns-then-admits-clause-chosen g c = λ admits by.
     c.loop-at.invariant.more.same c.in-Ok.ensures.answer in
     let named =
     case_names marks lines c.any_marked-prerelease.result c.requires.flags
-    ? in
+    (c.any_marked-prerelease.ensures (λ line. line.names_prerelease) (λ line answer h. search rules)) in
     let passes =
     as_admitted admits asks (placed_seen item) c.in-Ok.taken answer c.any_marked-prerelease.result
     c.admits.result named (c.admits.ensures admits by) c.if-taken.true ∙ c.if-admits.true in
     sym (ap (option_map (λ x. x.0))
     (find_here placed_seen (may_be_taken admits asks) c.args.own.now c.loop-at.at item
-    c.loop-at-test.true c.at-placed.ensures (c.loop-at.invariant.none admits by) passes))
+    (subst (λ n. c.loop-at.at < n) c.len.ensures c.loop-at-test.true) c.at-placed.ensures (c.loop-at.invariant.none admits by) passes))
 
 pub returns-then-admits-clause-below : goal.returns-then-admits-clause-below
 returns-then-admits-clause-below g c = λ count below.
     all_at (λ x. x.0 < count) placed_seen c.args.own.now c.loop-at.at c.at-placed.result.now
-    c.loop-at-test.true c.at-placed.ensures below
+    (subst (λ n. c.loop-at.at < n) c.len.ensures c.loop-at-test.true) c.at-placed.ensures below
 
 pub returns-then-admits-clause-kept : goal.returns-then-admits-clause-kept
 returns-then-admits-clause-kept g c =
     (most_end c.args.marks.now c.args.lines.now c.loop-at.lines c.takes.new.lines c.args.own.now
-    c.loop-at.at c.at-placed.result.now c.loop-at-test.true c.at-placed.ensures
+    c.loop-at.at c.at-placed.result.now (subst (λ n. c.loop-at.at < n) c.len.ensures c.loop-at-test.true) c.at-placed.ensures
     c.loop-at.invariant.more c.takes.ensures.more).same
 
 pub returns-then-admits-clause-tests : goal.returns-then-admits-clause-tests
 returns-then-admits-clause-tests g c =
     (most_end c.args.marks.now c.args.lines.now c.loop-at.lines c.takes.new.lines c.args.own.now
-    c.loop-at.at c.at-placed.result.now c.loop-at-test.true c.at-placed.ensures
+    c.loop-at.at c.at-placed.result.now (subst (λ n. c.loop-at.at < n) c.len.ensures c.loop-at-test.true) c.at-placed.ensures
     c.loop-at.invariant.more c.takes.ensures.more).tests
 
 pub returns-in-Err-clause-kept : goal.returns-in-Err-clause-kept
 returns-in-Err-clause-kept g c =
     (most_end c.args.marks.now c.args.lines.now c.loop-at.lines c.takes.new.lines c.args.own.now
-    c.loop-at.at c.at-placed.result.now c.loop-at-test.true c.at-placed.ensures
+    c.loop-at.at c.at-placed.result.now (subst (λ n. c.loop-at.at < n) c.len.ensures c.loop-at-test.true) c.at-placed.ensures
     c.loop-at.invariant.more c.takes.ensures.more).same
 
 pub returns-in-Err-clause-tests : goal.returns-in-Err-clause-tests
 returns-in-Err-clause-tests g c =
     (most_end c.args.marks.now c.args.lines.now c.loop-at.lines c.takes.new.lines c.args.own.now
-    c.loop-at.at c.at-placed.result.now c.loop-at-test.true c.at-placed.ensures
+    c.loop-at.at c.at-placed.result.now (subst (λ n. c.loop-at.at < n) c.len.ensures c.loop-at-test.true) c.at-placed.ensures
     c.loop-at.invariant.more c.takes.ensures.more).tests
 
 pub loop-at-preserved : goal.loop-at-preserved
@@ -90,25 +90,27 @@ loop-at-preserved g c =
     same_answer item.candidate.now.version marks lines c.loop-at.lines c.in-Ok.taken so_far.more.same
     c.in-Ok.ensures.answer in
     let tells =
-    case_tells marks lines c.args.range.now bounded c.requires.flags c.requires.read c.requires.ranged ? in
+    case_tells marks lines c.args.range.now bounded c.requires.flags c.requires.read c.requires.ranged
+    (c.any_marked-bounded.ensures (λ line. line.is_bounded) (λ line answer h. search rules)) in
     record {
       more =
-          passed_more marks lines c.takes.new.lines own (at + 1) c.next.result ?
+          passed_more marks lines c.takes.new.lines own (at + 1) c.next-at.result (omega (arith, c.next-at.ensures.behind))
           (most_more marks lines c.loop-at.lines c.takes.new.lines own at item
-          c.loop-at-test.true c.at-placed.ensures so_far.more c.takes.ensures.more);
+          (subst (λ n. c.loop-at.at < n) c.len.ensures c.loop-at-test.true) c.at-placed.ensures so_far.more c.takes.ensures.more);
       none = λ admits by.
-          find_on placed_seen (may_be_taken admits asks) own (at + 1) c.next.result
-          (find_none placed_seen (may_be_taken admits asks) own at item c.loop-at-test.true
+          find_on placed_seen (may_be_taken admits asks) own (at + 1) c.next-at.result
+          (find_none placed_seen (may_be_taken admits asks) own at item (subst (λ n. c.loop-at.at < n) c.len.ensures c.loop-at-test.true)
           c.at-placed.ensures (so_far.none admits by)
           (elim c.else-taken.branch [
             | else-taken-via-then-taken+else-admits w ↦
                 let named =
-                case_names marks lines c.any_marked-prerelease.result c.requires.flags ? in
+                case_names marks lines c.any_marked-prerelease.result c.requires.flags
+                (c.any_marked-prerelease.ensures (λ line. line.names_prerelease) (λ line answer h. search rules)) in
                 as_admitted admits asks (placed_seen item) c.in-Ok.taken answer c.any_marked-prerelease.result
                 w.admits.result named (w.admits.ensures admits by) w.if-taken.true ∙ w.if-admits.false
             | else-taken-via-else-taken w ↦
                 is_refused admits asks (placed_seen item) c.in-Ok.taken answer w.if-taken.false
           ]))
-          (none_passed admits asks bounded c.args.range.now tells own (at + 1) c.next.result c.next.ensures.within
-          c.requires.said c.next.ensures.passed);
+          (none_passed admits asks bounded c.args.range.now tells own (at + 1) c.next-at.result c.next-at.ensures.within
+          c.requires.said c.next-at.ensures.passed);
     }

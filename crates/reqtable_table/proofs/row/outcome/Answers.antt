@@ -1,4 +1,4 @@
-use Rattle.std.proofs.Common.{◌∙◌, ◌<◌, Some, None, map, sym, subst}
+use Rattle.std.proofs.Common.{◌∙◌, ◌<◌, Some, None, map, sym, subst, rules}
 use Rattle.std.specs.Option.{IfSome}
 use Rattle.reqtable_text.specs.Ordered.{placed_seen}
 use Rattle.reqtable_table.specs.Choosing.{case_asks}
