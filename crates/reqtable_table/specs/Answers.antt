@@ -14,6 +14,7 @@ use Rattle.reqtable_answer.specs.Answer.{RowRecord, IsRowOf}
 use Rattle.reqtable_answer.specs.Asks.{is_candidate}
 use Rattle.reqtable_cases.specs.Lines.{marked}
 use Rattle.reqtable_cases.specs.Usable.{is_usable, members_asked}
+use Rattle.reqtable_run.specs.Told.{is_plain}
 use Rattle.reqtable_table.specs.Kept.{KeptLine, KeptPackage, kept_front}
 
 -- which of some kept lines apply, and what these ask for
@@ -44,10 +45,6 @@ AreRowsFor admits nodes v candidates table rows =
     AllZip (IsRowFor admits nodes v candidates) (filter (is_asked nodes v) table) rows
 
 -- ---- how many specifiers are asked
-
--- neither a local part nor a post-release
-abbrev pub is_plain : VersionRecord → Bool
-is_plain version = length version.local == 0 && is_none version.post
 
 -- for one candidate: none where it is plain and what is asked is usable, and else at most all specifiers
 abbrev pub tests_for : List Front → ℕ × Candidate → ℕ
