@@ -1,6 +1,6 @@
 -- Choosing by a case: what its lines ask for, of which versions its range tells, what asking them changes.
-use Rattle.std.specs.Prelude.{◌≡◌, ◌≤◌, ◌+◌, ◌==◌, ◌&&◌, ◌||◌, ℕ, Bool, true, false, not, List, map, length}
-use Rattle.std.specs.Prelude.{find, Option, Some, None, is_none, option_map, if◌then◌else◌}
+use Rattle.std.specs.Prelude.{◌≡◌, ◌≤◌, ◌+◌, ◌&&◌, ℕ, Bool, true, false, List, map, length}
+use Rattle.std.specs.Prelude.{find, Option, Some, None, option_map, if◌then◌else◌}
 use Rattle.std.specs.Borrow.{Bor}
 use Rattle.std.specs.List.{list_any, list_all, AllZip}
 use Rattle.std.specs.List.Sorted.{IsStrictlySortedBy}

@@ -10,8 +10,7 @@ ghost use Rattle.reqtable_answer.specs.Asks.{specifiers_of, ask_takes, may_be_ta
 ghost use Rattle.reqtable_cases.specs.Lines.{marked};
 ghost use Rattle.reqtable_cases.specs.Usable.{IsRangeOf, members_asked};
 ghost use Rattle.reqtable_table.specs.Answers.{most_tests, SameLine};
-ghost use Rattle.reqtable_table.specs.Choosing.{case_asks, tests_at, AskedMore, TestsBy};
-ghost use Rattle.reqtable_table.specs.Choosing.{Tells};
+ghost use Rattle.reqtable_table.specs.Choosing.{case_asks, tests_at, AskedMore, Tells, TestsBy};
 ghost use Rattle.reqtable_table.specs.Counts.{tests_of};
 ghost use Rattle.reqtable_table.specs.Kept.{kept_front};
 ghost use Rattle.reqtable_table.specs.KeptLines.{line_record};

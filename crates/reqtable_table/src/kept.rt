@@ -3,7 +3,6 @@
 ghost use Rattle.std.specs.Prelude.{◌≡◌, map, IfOk};
 ghost use Rattle.std.specs.List.{list_any};
 ghost use Rattle.pep440_version.specs.Changes.{is_prerelease};
-ghost use Rattle.reqtable_run.specs.Told.{is_bound};
 ghost use Rattle.reqtable_table.specs.KeptLines.{kept_by, line_record};
 
 use crate::given::Given;
