@@ -12,6 +12,9 @@ use pep508_tree::{Interner, MarkerTree};
 use std::alloc::{AllocError, Global};
 use std::collections::HashMap;
 
+/// Of so many cases all are looked at sooner than one is looked up.
+const FEW: usize = 4;
+
 /// Where the cases of a side stand, by their trees.
 type Places = HashMap<MarkerTree, usize>;
 
@@ -53,9 +56,12 @@ pub(crate) fn first_trees(
     Ok(None)
 }
 
-/// Where each of the cases stands, by its tree.
+/// Where each of the cases stands, by its tree, where there are more than a few.
 fn places_of(alloc: Global, right: &[Summary<'_>]) -> Result<Places, AllocError> {
     let mut places = HashMap::new(alloc);
+    if right.len() <= FEW {
+        return Ok(places);
+    }
     for (place, other) in right.iter().enumerate() {
         places.insert(other.tree, place)?;
     }
