@@ -189,5 +189,6 @@ fn printed(
 ) -> Result<String, AllocError>
     requires { IsTree interner.now.nodes read.now.marker }
 {
-    RequirementRef::new(alloc, interner, read).to_string(alloc)
+    let shown = RequirementRef::new(alloc, interner, read);
+    format!(in alloc; "{shown}")
 }

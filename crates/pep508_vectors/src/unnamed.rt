@@ -125,18 +125,14 @@ fn printed(
 {
     let shown = UnnamedRequirementRef::new(alloc, interner, read);
     let value = shown.to_value(alloc)?;
-    printed_beside(alloc, &shown, &value)
+    let is_same = is_text(&value, &format!(in alloc; "{shown}")?);
+    let other = if is_same { "" } else { " as another value" };
+    format!(in alloc; "{shown}{other}")
 }
 
-fn printed_beside(
-    alloc: Global,
-    shown: &UnnamedRequirementRef<VerbatimUrl>,
-    value: &Value,
-) -> Result<String, AllocError> {
-    let text = shown.to_string(alloc)?;
-    if value.as_str().unwrap_or("") == text.as_str() {
-        Ok(text)
-    } else {
-        String::from_str(alloc, "another value")
+fn is_text(value: &Value, text: &str) -> bool {
+    match value.as_str() {
+        Some(held) => held == text,
+        None => false,
     }
 }
