@@ -1,5 +1,5 @@
 -- The trees of chains, and how they are joined.
-use Rattle.std.proofs.Common.{◌≡◌, Bool, true, false, not, ◌&&◌, ◌||◌, List, [], ◌∷◌, ◌++◌, map, Some, None, refl, ap, sym, subst, ◌∙◌}
+use Rattle.std.proofs.Common.{◌≡◌, ◌==◌, length, true≢false, Bool, true, false, not, ◌&&◌, ◌||◌, List, [], ◌∷◌, ◌++◌, map, Some, None, refl, ap, sym, subst, ◌∙◌}
 use Rattle.std.specs.Prelude.{Option, option_map, IfSome}
 use Rattle.std.specs.List.{AllByRecursion}
 use Rattle.pep508_marker.specs.Expression.{ExpressionRecord}
@@ -106,15 +106,15 @@ negations f [] = refl
 negations f (t ∷ trees) = ap (λ bs. not (f t) ∷ bs) (negations f trees)
 
 -- all hold
-pub all_and : (nodes : List NodeRecord) (trees : List Tree) (v : Valuation) → (trees ≡ [] → ⊥)
+pub all_and : (nodes : List NodeRecord) (trees : List Tree) (v : Valuation) → (length trees == 0) ≡ false
     → Some (all_hold nodes false trees v) ≡ chain_truth And (map (λ t. holds nodes t v) trees)
-all_and nodes [] v some = absurd (some refl)
+all_and nodes [] v some = absurd (true≢false some)
 all_and nodes (t ∷ trees) v some = and_chain (holds nodes t v) (map (λ t. holds nodes t v) trees)
 
 -- one of all holds, if not all negations do
-pub one_or : (nodes : List NodeRecord) (trees : List Tree) (v : Valuation) → (trees ≡ [] → ⊥)
+pub one_or : (nodes : List NodeRecord) (trees : List Tree) (v : Valuation) → (length trees == 0) ≡ false
     → Some (not (all_hold nodes true trees v)) ≡ chain_truth Or (map (λ t. holds nodes t v) trees)
-one_or nodes [] v some = absurd (some refl)
+one_or nodes [] v some = absurd (true≢false some)
 one_or nodes (t ∷ trees) v some =
     ap (λ bs. Some (not (all_true bs))) (negations (λ t. holds nodes t v) (t ∷ trees))
     ∙ or_chain (holds nodes t v) (map (λ t. holds nodes t v) trees)
