@@ -306,8 +306,11 @@ pub leftmost_replaced : (vars : Variables) (front name value back : List ℕ) �
 unfolding expanded
 leftmost_replaced vars front name value back lacks known =
     let tail = 123 ∷ (name ++ 125 ∷ back) in
-    ap (λ xs. expanded_parts vars (parts_of (front ++ 36 ∷ 123 ∷ xs))) (append_assoc name (125 ∷ []) back)
+    ap (λ xs. expanded_parts vars (parts_of xs))
+    (append_assoc front (reference_text name) back
+    ∙ ap (λ xs. front ++ 36 ∷ 123 ∷ xs) (append_assoc name (125 ∷ []) back))
     ∙ front_stays vars front tail lacks
     ∙ ap (λ xs. front ++ xs)
     (ap (flat_map (behind_dollar vars)) (reference_parts name back (name_bytes name known.0))
     ∙ replaced_first vars name value (parts_of back) (split_some back) known)
+    ∙ sym (append_assoc front value (expanded_parts vars (parts_of back)))
