@@ -12,7 +12,7 @@ use Rattle.pep508_error.specs.Spans.{IsSpan}
 -- ---- behind white space
 
 -- the place at which the end of a text begins
-end_begins : (n : ℕ) (text : List ℕ) → drop (length text - length (drop n text)) text ≡ drop n text
+pub end_begins : (n : ℕ) (text : List ℕ) → drop (length text - length (drop n text)) text ≡ drop n text
 end_begins n text =
     ⊎_elim
     (λ (over : length text < n).

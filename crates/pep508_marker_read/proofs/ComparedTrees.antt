@@ -25,12 +25,15 @@ use Rattle.pep508_expression.specs.Trees as trees
 use Rattle.pep508_error.specs.declared.cursor.Cursor.{Cursor}
 use Rattle.pep508_error.specs.declared.refusal.RefusalKind.TheVariants.{NumberAtEnd}
 use Rattle.pep508_marker_comparison.specs.Compared.{Compared, compared, left_out, says, of_specifier, specifier_behind, specifier_before, versions_of, runs_of, of_list, version_before, text_compared, of_extra, extra_of, warned_of_name, extra_compared}
-use Rattle.pep508_marker_comparison.specs.SideReading.{AtEnd, Reading, ◌>>=◌, side_at, operator_at, behind_operator, behind_side, compared_at}
-use Rattle.pep508_marker_comparison.specs.Outcome.{Tells, IsCompared, behind}
+use Rattle.pep508_marker_comparison.specs.SideReading.{AtEnd, Reading, side_at, operator_at, behind_operator, behind_side, compared_at}
+use Rattle.pep508_error.specs.Steps.{◌>>=◌}
+use Rattle.pep508_marker_comparison.specs.Outcome.{Tells, IsCompared}
+use Rattle.pep508_error.specs.Cursors.{behind}
 use Rattle.pep508_marker_read.specs.Formula.{Says, LeftOut}
 use Rattle.pep508_marker_read.specs.MarkerReading.{Marker, of_said, of_compared, comparison_at}
 use Rattle.pep508_marker_read.specs.TreeReading.{ReadsPart}
-use Rattle.pep508_marker_read.proofs.Cuts.{some_same, ok_same, in_steps}
+use Rattle.std.proofs.lemmas.Option.{same_Some}
+use Rattle.pep508_error.proofs.Steps.{ok_same, in_steps}
 
 -- ---- what is said is a comparison
 
@@ -41,7 +44,7 @@ fine_left_out : (kind : MarkerWarningKind) → IsFine (left_out kind)
 fine_left_out kind e h = absurd (cc)
 
 fine_says : (made : ExpressionRecord) → IsComparison made → IsFine (says made)
-fine_says made fine e h = subst IsComparison (some_same made e h) fine
+fine_says made fine e h = subst IsComparison (same_Some made e h) fine
 
 fine_specifier : (key : MarkerValueVersion) (specifier : Option SpecifierRecord) → IsFine (of_specifier key specifier)
 fine_specifier key (Some specifier) = fine_says (Version key specifier) tt

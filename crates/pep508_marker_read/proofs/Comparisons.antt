@@ -13,11 +13,14 @@ use Rattle.pep508_marker.specs.Expression.{ExpressionRecord}
 use Rattle.pep508_expression.specs.Expressions.{has_points}
 use Rattle.pep508_marker_comparison.specs.Compared.{Compared, compared}
 use Rattle.pep508_marker_read.specs.Formula.{Says, LeftOut}
-use Rattle.pep508_marker_comparison.specs.SideReading.{Reading, AtEnd, begins_by, ◌>>=◌, side_at, operator_at}
+use Rattle.pep508_marker_comparison.specs.SideReading.{Reading, AtEnd, side_at, operator_at}
+use Rattle.pep508_error.specs.Cuts.{begins_by}
+use Rattle.pep508_error.specs.Steps.{◌>>=◌}
 use Rattle.pep508_marker_comparison.specs.SideReading.{behind_operator, behind_side, compared_at}
 use Rattle.pep508_marker_read.specs.MarkerReading.{Marker, of_said, of_compared, comparison_at, closed, part_of, part_at}
 use Rattle.pep508_marker_read.specs.MarkerText.{IsSpaced, IsSideText, IsComparisonText}
-use Rattle.pep508_marker_read.proofs.Cuts.{Unspaced, spaces_found, spaces_again, ok_same, in_steps}
+use Rattle.pep508_error.proofs.Spaces.{Unspaced, spaces_found, spaces_again}
+use Rattle.pep508_error.proofs.Steps.{ok_same, in_steps}
 use Rattle.pep508_marker_read.proofs.Sides.{side_found, side_again, side_begins}
 use Rattle.pep508_marker_read.proofs.Operators.{operator_found, operator_again, operator_unspaced, operator_length}
 

@@ -7,15 +7,17 @@ use Rattle.std.proofs.Common.{lit<}
 use Rattle.std.specs.Char.{is_whitespace}
 use Rattle.std.specs.Str.{bytes_eq, skip_leading_whitespace}
 use Rattle.pep440_specifier.specs.SpecifierText.{AreSpaces}
-use Rattle.pep508_marker_comparison.specs.SideReading.{Reading, Malformed, TooDeep, ◌>>=◌}
+use Rattle.pep508_marker_comparison.specs.SideReading.{Reading, Malformed, TooDeep}
+use Rattle.pep508_error.specs.Steps.{◌>>=◌}
 use Rattle.pep508_marker_read.specs.MarkerReading.{Marker, comparison_at}
 use Rattle.pep508_marker_read.specs.MarkerReading.{Connective, And, Or, word_of, is_next, joined_at}
 use Rattle.pep508_marker_read.specs.MarkerReading.{closed, part_of, part_at, either_at, formula_at}
 use Rattle.pep508_marker_read.specs.MarkerText.{IsSpaced, IsComparisonText, IsEnclosed, IsJoined, IsEither}
 use Rattle.pep508_marker_read.specs.MarkerText.{IsFormulaText}
-use Rattle.pep508_marker_read.proofs.Tests.{the_same}
-use Rattle.pep508_marker_read.proofs.Cuts.{cut_again, cut_found, spaces_found, unspaced_same, only_spaces}
-use Rattle.pep508_marker_read.proofs.Cuts.{ok_same, in_steps}
+use Rattle.pep508_error.proofs.Tests.{the_same}
+use Rattle.pep508_error.proofs.Cuts.{cut_again, cut_found}
+use Rattle.pep508_error.proofs.Spaces.{spaces_found, unspaced_same, only_spaces}
+use Rattle.pep508_error.proofs.Steps.{ok_same, in_steps}
 use Rattle.pep508_marker_read.proofs.Comparisons.{spaced_found, spaced_again, spaced_none, spaced_length}
 use Rattle.pep508_marker_read.proofs.Comparisons.{comparison_found, comparison_again, comparison_shrinks}
 use Rattle.pep508_marker_read.proofs.Joined.{Found, ReadSo, next_in, before_or, joined_found, joined_shrinks, joined_again}

@@ -6,12 +6,15 @@ use Rattle.std.proofs.lemmas.Slice.Eq.{bytes_eq-Decides}
 use Rattle.std.proofs.lemmas.Str.{encodes_same}
 use Rattle.std.specs.Char.{is_whitespace}
 use Rattle.std.specs.Str.{bytes_eq, skip_leading_whitespace}
-use Rattle.pep508_marker_comparison.specs.SideReading.{Reading, ◌>>=◌}
+use Rattle.pep508_marker_comparison.specs.SideReading.{Reading}
+use Rattle.pep508_error.specs.Steps.{◌>>=◌}
 use Rattle.pep508_marker_read.specs.MarkerReading.{Marker, Connective, And, Or, word_of, join_with, run_at}
 use Rattle.pep508_marker_read.specs.MarkerReading.{is_next, behind_run, more_at, joined_at}
 use Rattle.pep508_marker_read.specs.MarkerText.{IsSpaced, IsJoint, AreJoined, join_all, IsJoined}
-use Rattle.pep508_marker_read.proofs.Cuts.{Unspaced, NonePasses, cut_again, cut_found, cut_is, ends_before, before_ends}
-use Rattle.pep508_marker_read.proofs.Cuts.{answer, ok_same, in_steps}
+use Rattle.pep508_error.proofs.Spaces.{Unspaced}
+use Rattle.pep508_error.proofs.Cuts.{NonePasses, cut_again, cut_found, cut_is}
+use Rattle.pep508_marker_read.proofs.Ends.{ends_before, before_ends}
+use Rattle.pep508_error.proofs.Steps.{answer, ok_same, in_steps}
 use Rattle.pep508_marker_read.proofs.Operators.{ascii_same}
 use Rattle.pep508_marker_read.proofs.Comparisons.{spaced_found, spaced_again, spaced_on, spaced_length}
 

@@ -7,7 +7,8 @@ use Rattle.pep508_tree.specs.Tree.{Tree, always}
 use Rattle.pep508_tree.specs.Meaning.{NodeRecord}
 use Rattle.pep508_tree.proofs.Disjoint.{always_holds}
 use Rattle.pep508_error.specs.declared.refusal.RefusalKind.{RefusalKind}
-use Rattle.pep508_marker_comparison.specs.SideReading.{Malformed, ◌>>=◌, if_end}
+use Rattle.pep508_marker_comparison.specs.SideReading.{Malformed, if_end}
+use Rattle.pep508_error.specs.Steps.{◌>>=◌}
 use Rattle.pep508_marker_comparison.specs.Outcome.{Tells}
 use Rattle.pep508_marker_read.specs.Formula.{Formula}
 use Rattle.pep508_marker_read.specs.MarkerReading.{Marker, Or, marker_at}

@@ -5,11 +5,13 @@ use Rattle.std.proofs.lemmas.List.{append-nil}
 use Rattle.std.specs.Prelude.{Result}
 use Rattle.std.specs.Str.{skip_leading_whitespace}
 use Rattle.pep440_specifier.specs.SpecifierText.{AreSpaces}
-use Rattle.pep508_marker_comparison.specs.SideReading.{Refused, Malformed, ◌>>=◌, if_end}
+use Rattle.pep508_marker_comparison.specs.SideReading.{Refused, Malformed, if_end}
+use Rattle.pep508_error.specs.Steps.{◌>>=◌}
 use Rattle.pep508_marker_read.specs.MarkerReading.{Marker, formula_at, marker_at}
 use Rattle.pep508_marker_read.specs.MarkerText.{IsSpaced, IsFormulaText, IsMarkerText}
-use Rattle.pep508_marker_read.proofs.Tests.{the_same}
-use Rattle.pep508_marker_read.proofs.Cuts.{only_spaces, ok_same, in_steps}
+use Rattle.pep508_error.proofs.Tests.{the_same}
+use Rattle.pep508_error.proofs.Spaces.{only_spaces}
+use Rattle.pep508_error.proofs.Steps.{ok_same, in_steps}
 use Rattle.pep508_marker_read.proofs.Comparisons.{spaced_found, spaced_on}
 use Rattle.pep508_marker_read.proofs.Formulas.{formula_found, formula_again, before_end}
 

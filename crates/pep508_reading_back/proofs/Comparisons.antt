@@ -38,12 +38,13 @@ use Rattle.pep508_marker.specs.Values.{ValueRecord, VersionKey, TextKey, ExtraKe
 use Rattle.pep508_name.specs.Name.{name_of, is_name, is_name_byte, is_alphanumeric_at, normal_name}
 use Rattle.pep508_expression.specs.Expressions.{has_points}
 use Rattle.pep508_marker_comparison.specs.Compared.{Compared, compared, specifier_behind, of_specifier, extra_of, of_extra, warned_of_name, extra_compared}
-use Rattle.pep508_marker_comparison.specs.SideReading.{ends_key, ends_word, ends_signs, begins_by, AtEnd}
+use Rattle.pep508_marker_comparison.specs.SideReading.{ends_key, ends_word, ends_signs, AtEnd}
+use Rattle.pep508_error.specs.Cuts.{begins_by}
 use Rattle.pep508_marker_read.specs.Formula.{Says}
 use Rattle.pep508_marker_read.specs.MarkerReading.{Marker, of_compared}
 use Rattle.pep508_marker_read.specs.MarkerText.{IsBefore, IsSpaced, IsSideText, IsOperatorText, IsComparisonText}
-use Rattle.pep508_marker_read.proofs.Cuts.{at_places}
-use Rattle.pep508_marker_read.proofs.Tests.{and_parts}
+use Rattle.pep508_error.proofs.Cuts.{at_places}
+use Rattle.pep508_error.proofs.Tests.{and_parts}
 use Rattle.pep508_reading_back.specs.Readable.{IsQuotable, IsReadableExtra, IsReadable, warned_extra, marker_of}
 use Rattle.pep508_reading_back.proofs.Plain.{is_plain, Plain, all_from, none_from, plain_ascii, ascii_by, plain_unquoted, ascii_encoded, ascii_chars, front_chars}
 use Rattle.pep508_reading_back.proofs.Patterns.{plain_append, plain_version, version_pattern, star_pattern}

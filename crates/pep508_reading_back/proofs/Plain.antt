@@ -8,7 +8,7 @@ use Rattle.std.specs.List.{AllByRecursion, list_all}
 use Rattle.std.specs.Prelude.{encode_utf8_all}
 use Rattle.std.specs.Str.{chars, IsAscii}
 use Rattle.version_ranges.proofs.Membership.{all_weaker}
-use Rattle.pep508_marker_read.proofs.Tests.{and_parts}
+use Rattle.pep508_error.proofs.Tests.{and_parts}
 
 -- letters, digits, and `!`, `*`, `+`, `-`, `.`, `_`
 abbrev pub is_plain : ℕ → Bool

@@ -8,8 +8,8 @@ use Rattle.pep440_specifier.specs.SpecifierText.{AreSpaces}
 use Rattle.pep508_marker_read.specs.SideReading.{Refused, Malformed}
 use Rattle.pep508_marker_read.specs.MarkerReading.{Marker, marker_at}
 use Rattle.pep508_marker_read.specs.MarkerText.{IsMarkerText}
-use Rattle.pep508_requirement_text.proofs.Tests.{the_same}
-use Rattle.pep508_requirement_text.proofs.CharacterCuts.{spaces_found, spaces_again, only_spaces}
+use Rattle.pep508_error.proofs.Tests.{the_same}
+use Rattle.pep508_error.proofs.Spaces.{spaces_found, spaces_again, only_spaces}
 use Rattle.pep508_requirement.specs.MarkerBehind.{no_marker, marker_behind}
 use Rattle.pep508_requirement.specs.RequirementText.{IsBehindText}
 

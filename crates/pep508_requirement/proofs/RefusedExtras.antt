@@ -8,7 +8,9 @@ use Rattle.pep508_error.specs.declared.error.Pep508Error.{Pep508Error}
 use Rattle.pep508_error.specs.declared.error.Pep508ErrorSource.{Pep508ErrorSource}
 use Rattle.pep508_error.specs.declared.error.Pep508ErrorSource.TheVariants as sources
 use Rattle.pep508_error.specs.Errors.{told_error, told_refusal}
-use Rattle.pep508_requirement_text.specs.FrontReading.{Refused, Reading, ◌>>=◌, if_there, cut_around, extras_of, bracketed, extras_at}
+use Rattle.pep508_requirement_text.specs.FrontReading.{Refused, Reading, if_there, extras_of, bracketed, extras_at}
+use Rattle.pep508_error.specs.Steps.{◌>>=◌}
+use Rattle.pep508_error.specs.Cuts.{cut_around}
 use Rattle.pep508_requirement_text.specs.FrontReading.Refused.{Malformed}
 use Rattle.pep508_requirement_text.specs.FrontOutcome.{Fits, Tells}
 use Rattle.pep508_requirement.specs.ExtrasReading.{ExtrasRefusedBy}

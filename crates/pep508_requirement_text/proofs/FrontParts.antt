@@ -8,7 +8,8 @@ use Rattle.pep508_url.specs.Vars.{Variables}
 use Rattle.pep508_name.specs.Name.{normal_name}
 use Rattle.pep508_error.specs.declared.refusal.RefusalKind.{RefusalKind}
 use Rattle.pep508_requirement_text.specs.UrlEnds.{url_split}
-use Rattle.pep508_requirement_text.specs.FrontReading.{Refused, Source, ◌>>=◌, if_url, name_at, extras_at, source_at, behind_name, behind_extras, with_source, front_reading}
+use Rattle.pep508_requirement_text.specs.FrontReading.{Refused, Source, if_url, name_at, extras_at, source_at, behind_name, behind_extras, with_source, front_reading}
+use Rattle.pep508_error.specs.Steps.{◌>>=◌}
 use Rattle.pep508_requirement_text.specs.FrontReading.Refused.{Malformed}
 use Rattle.pep508_requirement_text.specs.FrontReading.Source.{Url}
 use Rattle.pep508_requirement_text.specs.FrontOutcome.{Tells}

@@ -18,11 +18,13 @@ use Rattle.std.specs.Str.Pattern.{HasCharAt}
 use Rattle.pep508_url.specs.Vars.{Variables}
 use Rattle.pep508_error.specs.declared.cursor.Cursor.{Cursor}
 use Rattle.pep508_error.specs.declared.refusal.RefusalKind.{RefusalKind}
-use Rattle.pep508_error.specs.Cursors.{rest_of}
-use Rattle.pep508_requirement_text.specs.FrontReading.{Refused, ◌>>=◌, if_list, specifiers_of_text, listed, enclosed, if_there, cut_around}
+use Rattle.pep508_error.specs.Cursors.{rest_of, IsAt}
+use Rattle.pep508_requirement_text.specs.FrontReading.{Refused, if_list, specifiers_of_text, listed, enclosed, if_there}
+use Rattle.pep508_error.specs.Steps.{◌>>=◌}
+use Rattle.pep508_error.specs.Cuts.{cut_around}
 use Rattle.pep508_requirement_text.specs.FrontReading.Refused.{Malformed}
 use Rattle.pep508_requirement_text.specs.FrontReading.Source.{Specifiers}
-use Rattle.pep508_requirement_text.specs.FrontOutcome.{IsAt, Tells}
+use Rattle.pep508_requirement_text.specs.FrontOutcome.{Tells}
 use Rattle.pep508_requirement_text.specs.FrontFound.{enclosed_at}
 use Rattle.pep508_requirement_text.proofs.Outcomes.{stops}
 use Rattle.pep508_requirement_text.specs.UrlTurns.{AreBlanks}

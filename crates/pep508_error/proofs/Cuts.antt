@@ -1,86 +1,21 @@
--- White space that is skipped, and characters that are cut off at the front.
-use Rattle.std.proofs.Common.{◌≡◌, ℕ, suc, ◌+◌, ◌<◌, ◌==◌, Bool, true, false, not, cond, if◌then◌else◌, List}
-use Rattle.std.proofs.Common.{[], ◌∷◌, ◌++◌, length, take, drop, Some, None, refl, ap, sym}
-use Rattle.std.proofs.Common.{◌∙◌, arith, length-append}
-use Rattle.std.specs.Prelude.{nat_lt}
+-- Characters that are cut off at the front, before the first that passes a test.
+use Rattle.std.proofs.Common.{◌≡◌, ℕ, zero, suc, ◌+◌, ◌<◌, ◌==◌, Bool, true, false, not, cond, List}
+use Rattle.std.proofs.Common.{if◌then◌else◌, [], ◌∷◌, ◌++◌, length, take, drop, get_or, All, Some, None, refl, ap}
+use Rattle.std.proofs.Common.{sym, ◌∙◌, arith, length-append}
+use Rattle.std.specs.Prelude.{nat_lt, encode_utf8_all}
 use Rattle.std.proofs.Math.Seq.{take-append_seam}
 use Rattle.std.proofs.lemmas.Bool.Decides.{nat_tests}
 use Rattle.std.proofs.lemmas.List.{append-nil}
 use Rattle.std.proofs.lemmas.List.Prefix.{front_rest}
-use Rattle.std.specs.Char.{is_whitespace}
+use Rattle.std.proofs.lemmas.Option.{same_Some}
 use Rattle.std.specs.List.{AllByRecursion, position_or_len}
-use Rattle.std.specs.Str.{encode_utf8_all, skip_leading_whitespace}
-use Rattle.pep440_specifier.specs.SpecifierText.{AreSpaces}
-use Rattle.pep508_requirement_text.specs.UrlEnds.{begins_with}
-use Rattle.pep508_requirement_text.specs.FrontReading.{cut_before, cut_around}
-use Rattle.pep508_requirement_text.proofs.Tests.{itself, the_same}
-
--- ---- lists
+use Rattle.pep508_error.specs.Cuts.{cut_before, encoded_cut, cut_around}
+use Rattle.pep508_error.proofs.Tests.{itself, the_same}
 
 pub behind_front : (P : ℕ → Type 0) (front rest : List ℕ) → AllByRecursion P (front ++ rest)
     → AllByRecursion P rest
 behind_front P [] rest h = h
 behind_front P (c ∷ cs) rest h = behind_front P cs rest h.1
-
-pub some_same : {A : Type 0} (x y : A) → Some x ≡ Some y → x ≡ y
-some_same x y h = cc
-
--- ---- white space
-
--- no white space stands first
-abbrev pub Unspaced : List ℕ → Type 0
-Unspaced cs = begins_with is_whitespace cs ≡ false
-
-pub record Skipped (cs : List ℕ) : Type 0 where
-  pub spaces : List ℕ
-  pub are_spaces : AreSpaces spaces
-  pub split : cs ≡ spaces ++ skip_leading_whitespace cs
-  pub unspaced : Unspaced (skip_leading_whitespace cs)
-
-skipped_by : (c : ℕ) (cs : List ℕ) (t : Bool) → is_whitespace c ≡ t → Skipped cs → Skipped (c ∷ cs)
-skipped_by c cs true e s =
-    let skips : skip_leading_whitespace (c ∷ cs) ≡ skip_leading_whitespace cs =
-    ap (λ t. cond t (skip_leading_whitespace cs) (c ∷ cs)) e in
-    record {
-      spaces = c ∷ s.spaces;
-      are_spaces = (e, s.are_spaces);
-      split = ap (λ ds. c ∷ ds) s.split ∙ ap (λ ds. c ∷ (s.spaces ++ ds)) (sym skips);
-      unspaced = ap (begins_with is_whitespace) skips ∙ s.unspaced;
-    }
-skipped_by c cs false e s =
-    let keeps : skip_leading_whitespace (c ∷ cs) ≡ c ∷ cs =
-    ap (λ t. cond t (skip_leading_whitespace cs) (c ∷ cs)) e in
-    record {
-      spaces = [];
-      are_spaces = tt;
-      split = sym keeps;
-      unspaced = ap (begins_with is_whitespace) keeps ∙ e;
-    }
-
-pub spaces_found : (cs : List ℕ) → Skipped cs
-spaces_found [] = record { spaces = []; are_spaces = tt; split = refl; unspaced = refl }
-spaces_found (c ∷ cs) = skipped_by c cs (is_whitespace c) refl (spaces_found cs)
-
-pub unspaced_same : (cs : List ℕ) → Unspaced cs → skip_leading_whitespace cs ≡ cs
-unspaced_same [] h = refl
-unspaced_same (c ∷ cs) h = ap (λ t. cond t (skip_leading_whitespace cs) (c ∷ cs)) h
-
-pub spaces_again : (spaces rest : List ℕ) → AreSpaces spaces → Unspaced rest
-    → skip_leading_whitespace (spaces ++ rest) ≡ rest
-spaces_again [] rest h k = unspaced_same rest k
-spaces_again (c ∷ cs) rest h k =
-    ap (λ t. cond t (skip_leading_whitespace (cs ++ rest)) (c ∷ (cs ++ rest))) h.0 ∙ spaces_again cs rest h.1 k
-
-pub skipped_front : (spaces rest : List ℕ) → AreSpaces spaces
-    → skip_leading_whitespace (spaces ++ rest) ≡ skip_leading_whitespace rest
-skipped_front [] rest h = refl
-skipped_front (c ∷ cs) rest h =
-    ap (λ t. cond t (skip_leading_whitespace (cs ++ rest)) (c ∷ (cs ++ rest))) h.0 ∙ skipped_front cs rest h.1
-
-pub only_spaces : (spaces : List ℕ) → AreSpaces spaces → skip_leading_whitespace spaces ≡ []
-only_spaces spaces h = ap skip_leading_whitespace (sym (append-nil spaces)) ∙ spaces_again spaces [] h refl
-
--- ---- cuts
 
 -- no character passes
 abbrev pub NonePasses : (ℕ → Bool) → List ℕ → Type 0
@@ -100,7 +35,7 @@ ends_here : (test : ℕ → Bool) (rest : List ℕ) → Ends test rest → posit
 ends_here test [] h = refl
 ends_here test (c ∷ cs) h = ap (λ t. cond (not t) (1 + position_or_len test cs) 0) h
 
-place_again : (test : ℕ → Bool) (front rest : List ℕ) → NonePasses test front → Ends test rest
+pub place_again : (test : ℕ → Bool) (front rest : List ℕ) → NonePasses test front → Ends test rest
     → position_or_len test (front ++ rest) ≡ length front
 place_again test [] rest h k = ends_here test rest k
 place_again test (c ∷ cs) rest h k =
@@ -109,11 +44,11 @@ place_again test (c ∷ cs) rest h k =
     ∙ (let s : 1 + position_or_len test (cs ++ rest) ≡ length (c ∷ cs) = omega (arith, e) in s)
 
 pub cut_again : (test : ℕ → Bool) (front rest : List ℕ) → NonePasses test front → Ends test rest
-    → cut_before test (front ++ rest) ≡ (encode_utf8_all front, rest)
+    → cut_before test (front ++ rest) ≡ (front, rest)
 cut_again test front rest h k =
-    ap (λ i. (encode_utf8_all (take i (front ++ rest)), drop i (front ++ rest))) (place_again test front rest h k)
-    ∙ ap (λ cs. (encode_utf8_all cs, drop (length front) (front ++ rest))) (take-append_seam front rest)
-    ∙ ap (λ cs. (encode_utf8_all front, cs)) (front_rest (front ++ rest) front rest refl)
+    ap (λ i. (take i (front ++ rest), drop i (front ++ rest))) (place_again test front rest h k)
+    ∙ ap (λ cs. (cs, drop (length front) (front ++ rest))) (take-append_seam front rest)
+    ∙ ap (λ cs. (front, cs)) (front_rest (front ++ rest) front rest refl)
 
 pub record Cut (test : ℕ → Bool) (cs : List ℕ) : Type 0 where
   pub front : List ℕ
@@ -137,8 +72,19 @@ cut_found test [] = record { front = []; rest = []; split = refl; passes = tt; e
 cut_found test (c ∷ cs) = cut_by test c cs (test c) refl (cut_found test cs)
 
 pub cut_is : (test : ℕ → Bool) (cs : List ℕ) (k : Cut test cs)
-    → cut_before test cs ≡ (encode_utf8_all k.front, k.rest)
+    → cut_before test cs ≡ (k.front, k.rest)
 cut_is test cs k = ap (cut_before test) k.split ∙ cut_again test k.front k.rest k.passes k.ends
+
+abbrev encoded : List ℕ × List ℕ → List ℕ × List ℕ
+encoded parts = (encode_utf8_all parts.0, parts.1)
+
+pub encoded_again : (test : ℕ → Bool) (front rest : List ℕ) → NonePasses test front → Ends test rest
+    → encoded_cut test (front ++ rest) ≡ (encode_utf8_all front, rest)
+encoded_again test front rest h k = ap encoded (cut_again test front rest h k)
+
+pub encoded_is : (test : ℕ → Bool) (cs : List ℕ) (k : Cut test cs)
+    → encoded_cut test cs ≡ (encode_utf8_all k.front, k.rest)
+encoded_is test cs k = ap encoded (cut_is test cs k)
 
 -- ---- cuts around a character
 
@@ -189,7 +135,7 @@ around_by c cs front [] parts e n k h =
 around_by c cs front (d ∷ rest) parts e n k h =
     let split : cs ≡ front ++ c ∷ rest = e ∙ ap (λ x. front ++ x ∷ rest) (the_same d c k) in
     let made : List ℕ × List ℕ = (encode_utf8_all front, rest) in
-    let same : made ≡ parts = some_same made parts (sym (ap (cut_around c) split ∙ around_again c front rest n) ∙ h) in
+    let same : made ≡ parts = same_Some made parts (sym (ap (cut_around c) split ∙ around_again c front rest n) ∙ h) in
     record {
       front = front;
       split = split ∙ ap (λ (p : List ℕ × List ℕ). front ++ c ∷ p.1) same;
@@ -201,3 +147,22 @@ pub around_found : (c : ℕ) (cs : List ℕ) (parts : List ℕ × List ℕ) → 
     → CutAround c cs parts
 around_found c cs parts h =
     let k = cut_found (λ d. d == c) cs in around_by c cs k.front k.rest parts k.split k.passes k.ends h
+
+-- ---- place by place
+
+pub by_places : (xs : List ℕ) (test : ℕ → Bool) → ((k : ℕ) → k < length xs → test (get_or xs k 0) ≡ false)
+    → NonePasses test xs
+by_places [] test h = tt
+by_places (x ∷ xs) test h = (h zero (omega arith), by_places xs test (λ k l. h (suc k) (omega arith)))
+
+at_place : (test : ℕ → Bool) (xs : List ℕ) → NonePasses test xs → (k d : ℕ) → k < length xs
+    → test (get_or xs k d) ≡ false
+at_place test [] h k d within = absurd (omega arith)
+at_place test (x ∷ xs) h zero d within = h.0
+at_place test (x ∷ xs) h (suc k) d within = at_place test xs h.1 k d (omega arith)
+
+pub at_places : (test : ℕ → Bool) (xs : List ℕ) → NonePasses test xs → All (λ c. test c ≡ false) xs
+at_places test xs h = λ k d within. at_place test xs h k d within
+
+pub from_places : (test : ℕ → Bool) (xs : List ℕ) → All (λ c. test c ≡ false) xs → NonePasses test xs
+from_places test xs h = by_places xs test (λ k within. h k 0 within)
