@@ -6,6 +6,7 @@ use Rattle.std.specs.Option.{option_map}
 use Rattle.std.specs.Str.{encode_utf8_all}
 use Rattle.pep508_name.specs.Name.{is_name, is_name_byte, is_alphanumeric_at, name_of, normal_name}
 use Rattle.pep508_error.specs.Cuts.{begins_by, encoded_cut, cut_around}
+use Rattle.pep508_error.specs.Steps.{◌>>=◌}
 use Rattle.pep508_requirement_text.specs.FrontReading.{Refused, Malformed, Nameless}
 use Rattle.pep508_requirement_text.specs.FrontReading.{run_of, if_name, name_at, extras_of}
 use Rattle.pep508_requirement_text.specs.FrontReading.{if_there}
@@ -90,7 +91,7 @@ bracketed_found rest (Some names) found h =
     let same : made ≡ found = cc in
     (ap (λ (p : List (List ℕ) × List ℕ). Some p.0) same, ap (λ (p : List (List ℕ) × List ℕ). p.1) same)
 
-no_brackets : (cs : List ℕ) (found : List (List ℕ) × List ℕ) → answer ([], cs) ≡ Ok found
+no_brackets : (cs : List ℕ) (found : List (List ℕ) × List ℕ) → answer {F = Refused} ([], cs) ≡ Ok found
     → ExtrasFound cs found.0 found.1
 no_brackets cs found h =
     let made : List (List ℕ) × List ℕ = ([], cs) in
