@@ -8,8 +8,7 @@ pub mod Conjunctions
 pub mod Disjoint
 pub mod Places
 pub mod NodeLaws
-pub mod Asked
-pub mod AskedLaws
+pub mod PairOrder
 pub mod Known
 pub mod Interning
 pub mod Joining
