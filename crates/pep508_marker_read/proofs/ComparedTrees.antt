@@ -21,7 +21,7 @@ use Rattle.pep508_tree.specs.Tree.{Tree}
 use Rattle.pep508_tree.specs.Meaning.{NodeRecord}
 use Rattle.pep508_expression.specs.Expressions.{has_points, expression_holds}
 use Rattle.pep508_expression.specs.Trees.{IsComparison}
-use Rattle.pep508_expression.specs.Trees as trees
+use Rattle.pep508_tree.specs.Truths as trees
 use Rattle.pep508_error.specs.declared.cursor.Cursor.{Cursor}
 use Rattle.pep508_error.specs.declared.refusal.RefusalKind.TheVariants.{NumberAtEnd}
 use Rattle.pep508_marker_comparison.specs.Compared.{Compared, compared, left_out, says, of_specifier, specifier_behind, specifier_before, versions_of, runs_of, of_list, version_before, text_compared, of_extra, extra_of, warned_of_name, extra_compared}
@@ -178,7 +178,7 @@ module _ {R : Type 0} (takes : R → Warning → R → Type 0) (old new : R) (cs
     record { formula = Says (expression_of expression); warned = c.warned },
     at_comparison (Some (expression_of expression)) c later e is.said_is
         ∙ ap (λ t. said_by t (expression_of expression) c later) h.0,
-    record { made = h.1.0; truth = λ v. ap Some (h.1.1 v) },
+    record { made = h.1.made; truth = λ v. ap Some (h.1.truth v) },
     is.warned,
   )
 

@@ -37,9 +37,7 @@ pub(crate) fn read_compared<'a, R: Reporter>(
     };
     match MarkerTree::expression(alloc, interner, expression) {
         Ok(tree) => Ok((Some(tree), later)),
-        Err(RangeError::NumberAtEnd) => {
-            Err(start.refuse_to(later, RefusalKind::NumberAtEnd))
-        }
+        Err(RangeError::NumberAtEnd) => Err(start.refuse_to(later, RefusalKind::NumberAtEnd)),
         Err(RangeError::Memory) => Err(Refusal::memory()),
     }
 }

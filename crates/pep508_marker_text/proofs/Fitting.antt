@@ -26,6 +26,7 @@ use Rattle.pep508_diagram.specs.declared.variable.Flag.TheVariants as flag
 use Rattle.pep508_diagram.specs.Branches.{AllBranches}
 use Rattle.pep508_diagram.specs.Diagram.{Diagram, Leaf, Test}
 use Rattle.pep508_diagram.specs.Question.{Question, VersionBelow, TextBelow, IsSet, version_rank}
+use Rattle.pep508_diagram.specs.Questions.{AllQuestions}
 use Rattle.pep508_diagram.proofs.Places.{text_keys_same}
 use Rattle.pep508_expression.specs.Expressions.{has_points}
 use Rattle.pep508_marker_text.specs.Clauses.{Part, Edges, NoEdges, Versions, Texts, Flagged, Walk, versions_from, texts_from, followed_by, same_part, group_clauses, grouped_clauses, walk_of, clauses_of}
@@ -237,10 +238,6 @@ GoodQuestion versions texts flags (VersionBelow key b) = GoodBoundary versions b
 GoodQuestion versions texts flags (TextBelow key b) = GoodBoundary (texts key) b
 GoodQuestion versions texts flags (IsSet flag) = flags flag
 
-abbrev pub AllGood : (Question → Type 0) → Diagram Question → Type 0
-AllGood good (Leaf b) = Unit {0}
-AllGood good (Test q low high) = good q × AllGood good low × AllGood good high
-
 -- the terms that are made of good values meet a condition
 pub record AllSayingsFit (versions : VersionRecord → Type 0) (texts : MarkerValueString → List ℕ → Type 0)
     (flags : Flag → Type 0) (P : ExpressionRecord → Type 0) : Type 0 where
@@ -294,7 +291,7 @@ module _ {versions : VersionRecord → Type 0} {texts : MarkerValueString → Li
   texts_edges key b low walk (Flagged flag set unset) fits h k e = ((fits, tt), (h, k))
 
   -- all terms in a walk meet the condition
-  pub walk_meets : (d : Diagram Question) → AllGood (GoodQuestion versions texts flags) d →
+  pub walk_meets : (d : Diagram Question) → AllQuestions (GoodQuestion versions texts flags) d →
       Fit (walk_of d).part × AllEdgesFit (walk_of d).edges
   walk_meets (Leaf true) r = ((tt, tt), tt)
   walk_meets (Leaf false) r = (tt, tt)
@@ -418,7 +415,7 @@ asks_well (TextBelow key (boundary.At text)) h = tt
 asks_well (TextBelow key (boundary.JustAbove text)) h = tt
 asks_well (IsSet flag) h = tt
 
-all_well : (d : Diagram Question) → HasReleasesAlone d → AllGood AsksWell d
+all_well : (d : Diagram Question) → HasReleasesAlone d → AllQuestions AsksWell d
 all_well (Leaf b) r = tt
 all_well (Test q low high) r = (asks_well q r.0, all_well low r.1, all_well high r.2)
 

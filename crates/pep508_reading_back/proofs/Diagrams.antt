@@ -29,7 +29,8 @@ use Rattle.pep508_marker_text.specs.Simplified.{has_some}
 use Rattle.pep508_marker_text.specs.Terms.{two_numbers, is_minor_of, kept_where, minor_between, version_term, version_saying, text_saying, set_term, unset_term}
 use Rattle.pep508_marker_text.specs.Truth.{one_holds}
 use Rattle.pep508_marker_text.proofs.Disjunctions.{is_empty, empty_holds, always_leaf, disjunction_means}
-use Rattle.pep508_marker_text.proofs.Fitting.{Fits, AllFit, simplified_fit, GoodQuestion, AllGood, AllSayingsFit, walk_meets, points_fit}
+use Rattle.pep508_marker_text.proofs.Fitting.{Fits, AllFit, simplified_fit, GoodQuestion, AllSayingsFit, walk_meets, points_fit}
+use Rattle.pep508_diagram.specs.Questions.{AllQuestions}
 use Rattle.pep508_marker_text.proofs.Where.{filter_all}
 use Rattle.pep508_reading_back.specs.Readable.{IsReadable, IsReadableSpecifier}
 use Rattle.pep508_reading_back.specs.Clauses.{IsReadableClause, AreReadable}
@@ -176,7 +177,7 @@ asks_well (TextBelow key (boundary.At text)) h = h
 asks_well (TextBelow key (boundary.JustAbove text)) h = h
 asks_well (IsSet asked) h = h
 
-all_well : (d : Diagram Question) → IsReadableDiagram d → AllGood AsksWell d
+all_well : (d : Diagram Question) → IsReadableDiagram d → AllQuestions AsksWell d
 all_well (Leaf b) h = tt
 all_well (Test q low high) h = (asks_well q h.0, all_well low h.1, all_well high h.2)
 

@@ -12,7 +12,7 @@ use Rattle.pep508_diagram.proofs.Canonical.{one_diagram, front_canonical}
 use Rattle.pep508_diagram.proofs.Moved.{DiffersAt, skip, below_differs, at_differs, at_answer, at_below, front_where_yes, at_low, at_high}
 use Rattle.pep508_diagram.proofs.Questions.{asks, lowest}
 use Rattle.pep508_reading_back.specs.Asked.{AnswerAlike, IsAmong}
-use Rattle.pep508_reading_back.specs.Questions.{AllQuestions}
+use Rattle.pep508_diagram.specs.Questions.{AllQuestions}
 
 is_less : (o : Ordering) → is_lt o ≡ true → o ≡ Less
 is_less Less e = refl

@@ -20,7 +20,7 @@ use Rattle.pep508_tree.specs.Meaning.{NodeRecord, Extends}
 use Rattle.pep508_tree.specs.Tree.{Tree}
 use Rattle.pep508_tree_ref.specs.TreeIn.{TreeIn, diagram_in}
 use Rattle.pep508_reading_back.specs.Lines.{IsPieceOf}
-use Rattle.pep508_reading_back.specs.Questions.{AllQuestions}
+use Rattle.pep508_diagram.specs.Questions.{AllQuestions}
 use Rattle.pep508_reading_back.specs.Told.{questions_of, AsksOf, IsTold}
 use Rattle.pep508_reading_back.proofs.Matters.{asks_these_alone, all_hold}
 use Rattle.pep508_reading_back.proofs.ToldAnswers.{formula_alike}

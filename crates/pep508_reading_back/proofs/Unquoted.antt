@@ -11,7 +11,7 @@ use Rattle.pep508_diagram.specs.Shortened.{HasShortVersions}
 use Rattle.pep508_marker_text.specs.ReleaseBounds.{AsksOfReleases, HasReleasesAlone}
 use Rattle.pep508_requirement_ref.specs.declared.requirement_ref.RequirementRef.{RequirementRef}
 use Rattle.pep508_reading_back.specs.Diagrams.{AsksReadably, IsReadableDiagram}
-use Rattle.pep508_reading_back.specs.Questions.{AllQuestions}
+use Rattle.pep508_diagram.specs.Questions.{AllQuestions}
 use Rattle.pep508_reading_back.specs.ReadViews.{AsksNoUrl, ShowsRead}
 use Rattle.pep508_reading_back.proofs.ReadViews.{IsOfMarker}
 use Rattle.pep508_reading_back.proofs.WritableDiagrams.{written_marker}

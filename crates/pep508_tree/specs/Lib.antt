@@ -1,5 +1,6 @@
 pub mod Tree
 pub mod Meaning
+pub mod Truths
 pub mod Forms
 pub mod Roots
 pub mod Leaves

@@ -7,8 +7,8 @@ ghost use Rattle.pep508_url.specs.UrlTexts.{text_reading, file_text, with_fragme
 ghost use Rattle.pep508_url.specs.UrlTexts.{path_reading, url_reading, path_of, local_path, is_local_file};
 ghost use Rattle.pep508_url.specs.UrlTexts.{path_byte, is_path_byte};
 
-use crate::cuts::cut;
 use crate::VerbatimUrlError;
+use crate::cuts::cut;
 use crate::path::{absolute_path, normalize_absolute_path, utf8_decoded};
 use crate::place::{Place, place_of};
 use percent_encoding::percent_encode_byte;
