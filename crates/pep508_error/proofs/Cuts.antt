@@ -1,6 +1,7 @@
 -- Characters that are cut off at the front, before the first that passes a test.
 use Rattle.std.proofs.Common.{◌≡◌, ℕ, zero, suc, ◌+◌, ◌<◌, ◌==◌, Bool, true, false, not, cond, List}
-use Rattle.std.proofs.Common.{if◌then◌else◌, [], ◌∷◌, ◌++◌, length, take, drop, get_or, All, Some, None, refl, ap}
+use Rattle.std.proofs.Common.{if◌then◌else◌, [], ◌∷◌, ◌++◌, length, take, drop, get_or, All, Some, None, refl}
+use Rattle.std.proofs.Common.{ap}
 use Rattle.std.proofs.Common.{sym, ◌∙◌, arith, length-append}
 use Rattle.std.specs.Prelude.{nat_lt, encode_utf8_all}
 use Rattle.std.proofs.Math.Seq.{take-append_seam}

@@ -1,5 +1,5 @@
 -- Tests, and what their answers tell.
-use Rattle.std.proofs.Common.{◌≡◌, ◌⊎◌, ℕ, ◌==◌, ◌&&◌, ◌||◌, Bool, true, false, inl, inr, refl, ap, ◌∙◌}
+use Rattle.std.proofs.Common.{◌≡◌, ◌⊎◌, ℕ, ◌==◌, ◌&&◌, ◌||◌, not, Bool, true, false, inl, inr, refl, ap, ◌∙◌}
 use Rattle.std.proofs.Common.{arith}
 use Rattle.std.proofs.lemmas.Bool.Decides.{nat_tests}
 
@@ -8,6 +8,10 @@ itself c = grind (arith, nat_tests)
 
 pub the_same : (d c : ℕ) → (d == c) ≡ true → d ≡ c
 the_same d c h = grind (arith, nat_tests)
+
+pub not_false : (t : Bool) → not t ≡ false → t ≡ true
+not_false true h = refl
+not_false false h = absurd (cc)
 
 pub or_left : (a b : Bool) → a ≡ true → (a || b) ≡ true
 or_left a b h = ap (λ t. t || b) h

@@ -1,6 +1,8 @@
 -- When some valuation with just some extras makes a tree hold: a constant that holds, and a tree of which some
 -- child can hold, unless the tree asks first for an extra.
-use Rattle.std.proofs.Common.{◌≡◌, ◌↔◌, inl, inr, ℕ, zero, suc, ◌<◌, ◌≤◌, Bool, true, false, cond, List, [], ◌∷◌, map, length, refl, sym, ap, subst, ◌∙◌, true≢false, arith, IsTrue, Option, Some, None}
+use Rattle.std.proofs.Common.{◌≡◌, ◌↔◌, inl, inr, ℕ, zero, suc, ◌<◌, ◌≤◌, Bool, true, false, cond, List, []}
+use Rattle.std.proofs.Common.{◌∷◌, map, length, refl, sym, ap, subst, ◌∙◌, true≢false, arith, IsTrue, Option}
+use Rattle.std.proofs.Common.{Some, None}
 use Rattle.std.specs.Prelude.{IfSome, MatchOption, not, if◌then◌else◌, ◌-◌, ◌==◌}
 use Rattle.std.specs.Cmp.{unsigned_Decides}
 use Rattle.std.proofs.lemmas.Bool.{cases_Bool}
@@ -15,7 +17,8 @@ use Rattle.pep508_diagram.specs.declared.variable.Flag.TheVariants.{In, Contains
 use Rattle.pep508_diagram.specs.Text.{text_cmp}
 use Rattle.pep508_diagram.specs.Branches.{branch_at}
 use Rattle.pep508_diagram.specs.Chains.{IsChild}
-use Rattle.pep508_diagram.specs.Question.{VersionBelow, TextBelow, IsSet, Valuation, with_version, with_text, with_flag, flag_rank, flag_text}
+use Rattle.pep508_diagram.specs.Question.{VersionBelow, TextBelow, IsSet, Valuation, with_version, with_text}
+use Rattle.pep508_diagram.specs.Question.{with_flag, flag_rank, flag_text}
 use Rattle.pep508_diagram.proofs.Chains.{child_point}
 use Rattle.pep508_diagram.proofs.Places.{rank_below}
 use Rattle.pep508_diagram.proofs.Questions.{before_differs}

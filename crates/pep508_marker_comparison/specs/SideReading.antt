@@ -1,6 +1,7 @@
 -- What there is to read of the sides of a comparison and of the operator between them (PEP 508, "Environment
 -- Markers").
-use Rattle.std.specs.Prelude.{ℕ, ◌==◌, ◌||◌, not, Bool, if◌then◌else◌, List, [], ◌∷◌, length, drop, codes, eqb}
+use Rattle.std.specs.Prelude.{ℕ, ◌==◌, ◌||◌, not, Bool, if◌then◌else◌, List, [], ◌∷◌, length, drop, codes}
+use Rattle.std.specs.Prelude.{eqb}
 use Rattle.std.specs.Prelude.{Option, Some, None, Result, Ok, Err, encode_utf8_all}
 use Rattle.std.specs.Char.{is_whitespace, is_ascii_alphabetic}
 use Rattle.std.specs.List.{starts_with}

@@ -16,9 +16,12 @@ use Rattle.pep508_error.specs.Steps.{◌>>=◌}
 use Rattle.pep508_error.specs.Cuts.{begins_by}
 use Rattle.pep508_marker_comparison.specs.Outcome.{Fits, Tells, IsWarned}
 use Rattle.pep508_marker_comparison.proofs.Warned.{warned_both}
-use Rattle.pep508_marker_read.specs.MarkerReading.{Marker, Connective, And, Or, join_with, is_next, behind_run}
-use Rattle.pep508_marker_read.specs.MarkerReading.{more_at, joined_at, comparison_at, closed, part_of, formula_at}
-use Rattle.pep508_marker_read.specs.TreeReading.{chain_truth, listed, inner_at, enclosed_at, chain_at, AreChainTrees, ReadsPart, ReadsPiece}
+use Rattle.pep508_marker_read.specs.MarkerReading.{Marker, Connective, And, Or, join_with, is_next}
+use Rattle.pep508_marker_read.specs.MarkerReading.{behind_run}
+use Rattle.pep508_marker_read.specs.MarkerReading.{more_at, joined_at, comparison_at, closed, part_of}
+use Rattle.pep508_marker_read.specs.MarkerReading.{formula_at}
+use Rattle.pep508_marker_read.specs.TreeReading.{chain_truth, listed, inner_at, enclosed_at, chain_at}
+use Rattle.pep508_marker_read.specs.TreeReading.{AreChainTrees, ReadsPart, ReadsPiece}
 use Rattle.pep508_marker_read.proofs.Kept.{Keeps, run_length}
 use Rattle.pep508_marker_read.proofs.ChainTrees.{first_tree, next_tree, chain_tree}
 

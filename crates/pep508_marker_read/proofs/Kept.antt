@@ -5,11 +5,13 @@ use Rattle.std.specs.Str.{skip_leading_whitespace}
 use Rattle.pep508_marker_comparison.specs.SideReading.{Refused, Reading, Malformed, TooDeep}
 use Rattle.pep508_error.specs.Steps.{◌>>=◌}
 use Rattle.pep508_marker_read.specs.MarkerReading.{Marker, comparison_at, Connective, And, Or, join_with}
-use Rattle.pep508_marker_read.specs.MarkerReading.{is_next, behind_run, more_at, joined_at, closed, part_of, part_at}
+use Rattle.pep508_marker_read.specs.MarkerReading.{is_next, behind_run, more_at, joined_at, closed, part_of}
+use Rattle.pep508_marker_read.specs.MarkerReading.{part_at}
 use Rattle.pep508_marker_read.specs.MarkerReading.{either_at, formula_at}
 use Rattle.pep508_marker_read.specs.TreeReading.{inner_at, piece_at}
 use Rattle.pep508_error.proofs.Steps.{answer, ok_same, in_steps}
-use Rattle.pep508_marker_read.proofs.Comparisons.{spaced_found, spaced_none, spaced_length, comparison_found, comparison_shrinks}
+use Rattle.pep508_marker_read.proofs.Comparisons.{spaced_found, spaced_none, spaced_length, comparison_found}
+use Rattle.pep508_marker_read.proofs.Comparisons.{comparison_shrinks}
 use Rattle.pep508_marker_read.proofs.Joined.{joint_found, joint_length}
 
 abbrev pub Keeps : (List ℕ → Reading Marker) → Type 0

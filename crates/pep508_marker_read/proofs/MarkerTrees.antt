@@ -1,5 +1,6 @@
 -- The tree of a marker.
-use Rattle.std.proofs.Common.{◌≡◌, ℕ, ◌==◌, zero-le, true, if◌then◌else◌, List, [], length, Some, None, Ok, Err, ap, sym, subst, ◌∙◌}
+use Rattle.std.proofs.Common.{◌≡◌, ℕ, ◌==◌, zero-le, true, if◌then◌else◌, List, [], length, Some, None, Ok}
+use Rattle.std.proofs.Common.{Err, ap, sym, subst, ◌∙◌}
 use Rattle.std.specs.Prelude.{Option, unwrap_or}
 use Rattle.std.specs.Str.{skip_leading_whitespace}
 use Rattle.pep508_marker.specs.Expression.{ExpressionRecord}

@@ -1,5 +1,6 @@
 -- A side of a comparison is read as the grammar has it.
-use Rattle.std.proofs.Common.{◌≡◌, ◌⊎◌, ℕ, ◌<◌, ◌==◌, ◌||◌, arith, lit<, length-append, Bool, true, false, if◌then◌else◌, List, [], ◌∷◌, ◌++◌}
+use Rattle.std.proofs.Common.{◌≡◌, ◌⊎◌, ℕ, ◌<◌, ◌==◌, ◌||◌, arith, lit<, length-append, Bool, true, false}
+use Rattle.std.proofs.Common.{if◌then◌else◌, List, [], ◌∷◌, ◌++◌}
 use Rattle.std.proofs.Common.{Some, None, Ok, Err, inl, inr, refl, ap, sym, subst, ◌∙◌}
 use Rattle.std.specs.Prelude.{Option, encode_utf8_all}
 use Rattle.std.proofs.lemmas.List.{append-nil}
@@ -12,7 +13,8 @@ use Rattle.pep508_error.specs.Cuts.{cut_before, cut_around}
 use Rattle.pep508_marker_comparison.specs.SideReading.{quoted_at, key_at, side_at}
 use Rattle.pep508_marker_read.specs.MarkerText.{IsQuotedText, IsKeyText, IsSideText}
 use Rattle.pep508_error.proofs.Tests.{the_same, or_cases, neither}
-use Rattle.pep508_error.proofs.Cuts.{NonePasses, Ends, cut_again, cut_found, cut_is, around_again, around_found}
+use Rattle.pep508_error.proofs.Cuts.{NonePasses, Ends, cut_again, cut_found, cut_is, around_again}
+use Rattle.pep508_error.proofs.Cuts.{around_found}
 use Rattle.pep508_error.proofs.Cuts.{at_places, from_places}
 use Rattle.pep508_marker_read.proofs.Ends.{ends_before, before_ends}
 use Rattle.pep508_error.proofs.Steps.{ok_same}

@@ -1,5 +1,6 @@
 -- A condition that all terms of a diagram's clauses meet: that their numbers can be raised.
-use Rattle.std.proofs.Common.{◌≡◌, ◌&&◌, ◌||◌, ℕ, ◌==◌, Bool, true, false, if◌then◌else◌, cond, List, [], ◌∷◌, ◌++◌, map, Option, Some, None, refl, sym, ap, subst, ◌∙◌}
+use Rattle.std.proofs.Common.{◌≡◌, ◌&&◌, ◌||◌, ℕ, ◌==◌, Bool, true, false, if◌then◌else◌, cond, List, [], ◌∷◌}
+use Rattle.std.proofs.Common.{◌++◌, map, Option, Some, None, refl, sym, ap, subst, ◌∙◌}
 use Rattle.std.specs.List.{AllByRecursion, flat_map, list_all, list_any}
 use Rattle.std.specs.Option.{option_or, option_map, is_some}
 use Rattle.std.specs.Cmp.{unsigned_Decides}
@@ -20,7 +21,8 @@ use Rattle.pep508_marker.specs.Expression.{ExpressionRecord}
 use Rattle.pep508_marker.specs.Keys.{text_key_rank}
 use Rattle.pep508_diagram.specs.declared.branch.Branch.{Branch}
 use Rattle.pep508_diagram.specs.declared.variable.VersionVariable.{VersionVariable}
-use Rattle.pep508_diagram.specs.declared.variable.VersionVariable.TheVariants.{ImplementationVersion, PythonFullVersion}
+use Rattle.pep508_diagram.specs.declared.variable.VersionVariable.TheVariants.{ImplementationVersion}
+use Rattle.pep508_diagram.specs.declared.variable.VersionVariable.TheVariants.{PythonFullVersion}
 use Rattle.pep508_diagram.specs.declared.variable.Flag.{Flag}
 use Rattle.pep508_diagram.specs.declared.variable.Flag.TheVariants as flag
 use Rattle.pep508_diagram.specs.Branches.{AllBranches}
@@ -29,12 +31,17 @@ use Rattle.pep508_diagram.specs.Question.{Question, VersionBelow, TextBelow, IsS
 use Rattle.pep508_diagram.specs.Questions.{AllQuestions}
 use Rattle.pep508_diagram.proofs.Places.{text_keys_same}
 use Rattle.pep508_expression.specs.Expressions.{has_points}
-use Rattle.pep508_marker_text.specs.Clauses.{Part, Edges, NoEdges, Versions, Texts, Flagged, Walk, versions_from, texts_from, followed_by, same_part, group_clauses, grouped_clauses, walk_of, clauses_of}
+use Rattle.pep508_marker_text.specs.Clauses.{Part, Edges, NoEdges, Versions, Texts, Flagged, Walk}
+use Rattle.pep508_marker_text.specs.Clauses.{versions_from, texts_from, followed_by, same_part, group_clauses}
+use Rattle.pep508_marker_text.specs.Clauses.{grouped_clauses, walk_of, clauses_of}
 use Rattle.pep508_marker_text.specs.Groups.{firsts, standing, points_where}
 use Rattle.pep508_marker_text.specs.ReleaseBounds.{IsPlainRelease, AsksOfReleases, HasReleasesAlone}
-use Rattle.pep508_marker_text.specs.Saying.{Clause, Saying, left_out, star_out, exclusion, lower_terms, upper_terms, single_or_bounds, interval_clause, one_or_intervals, set_clauses}
+use Rattle.pep508_marker_text.specs.Saying.{Clause, Saying, left_out, star_out, exclusion, lower_terms}
+use Rattle.pep508_marker_text.specs.Saying.{upper_terms, single_or_bounds, interval_clause, one_or_intervals}
+use Rattle.pep508_marker_text.specs.Saying.{set_clauses}
 use Rattle.pep508_marker_text.specs.Simplified.{sifted, is_needless, shortened_behind, is_covered, simplified}
-use Rattle.pep508_marker_text.specs.Terms.{minor_between, version_term, version_saying, text_saying, set_term, unset_term}
+use Rattle.pep508_marker_text.specs.Terms.{minor_between, version_term, version_saying, text_saying, set_term}
+use Rattle.pep508_marker_text.specs.Terms.{unset_term}
 use Rattle.pep508_marker_text.proofs.Said.{GoodPoint, GoodBound, GoodInterval, left_good, intervals_good}
 use Rattle.pep508_marker_text.proofs.Speaking.{star_found}
 use Rattle.pep508_marker_text.proofs.Where.{GoodBoundary, GoodBranches, where_good, standing_all, firsts_all}

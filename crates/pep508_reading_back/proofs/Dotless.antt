@@ -1,5 +1,7 @@
 -- A name in normal form has no dot, so that it is no archive's.
-use Rattle.std.proofs.Common.{◌≡◌, ℕ, ◌==◌, ◌&&◌, ◌||◌, ◌-◌, Bool, true, false, nat_lt, eqb, length, drop, List, [], ◌∷◌, Option, Some, None, option_map, inl, inr, zero, suc, refl, ap, sym, subst, ◌∙◌, arith}
+use Rattle.std.proofs.Common.{◌≡◌, ℕ, ◌==◌, ◌&&◌, ◌||◌, ◌-◌, Bool, true, false, nat_lt, eqb, length, drop}
+use Rattle.std.proofs.Common.{List, [], ◌∷◌, Option, Some, None, option_map, inl, inr, zero, suc, refl, ap}
+use Rattle.std.proofs.Common.{sym, subst, ◌∙◌, arith}
 use Rattle.std.proofs.lemmas.Bool.{cases_Bool}
 use Rattle.std.proofs.lemmas.Bool.Decides.{nat_tests}
 use Rattle.std.specs.Char.{to_ascii_lowercase}

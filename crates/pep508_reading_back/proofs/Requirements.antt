@@ -1,5 +1,6 @@
 -- A printed requirement is the text of a requirement that says the same.
-use Rattle.std.proofs.Common.{◌≡◌, ◌≢◌, ℕ, suc, ◌<◌, ◌==◌, Bool, true, false, length, List, [], ◌∷◌, ◌++◌, Some, None, inl, inr, refl, ap, sym, subst, ◌∙◌, arith, append_assoc}
+use Rattle.std.proofs.Common.{◌≡◌, ◌≢◌, ℕ, suc, ◌<◌, ◌==◌, Bool, true, false, length, List, [], ◌∷◌, ◌++◌}
+use Rattle.std.proofs.Common.{Some, None, inl, inr, refl, ap, sym, subst, ◌∙◌, arith, append_assoc}
 use Rattle.std.proofs.lemmas.List.{append-nil}
 use Rattle.std.proofs.lemmas.Str.{chars-nil, IsAscii-append}
 use Rattle.std.proofs.lemmas.Str.Ascii.{IsAscii-nil}
@@ -7,7 +8,10 @@ use Rattle.std.specs.List.{AllByRecursion, AllZip, join_with_byte}
 use Rattle.std.specs.Prelude.{codes}
 use Rattle.std.specs.Str.{chars, IsAscii}
 use Rattle.pep440_operator.specs.declared.operator.Operator.{Operator}
-use Rattle.pep440_operator.specs.declared.operator.Operator.TheVariants.{Equal, EqualStar, ExactEqual, NotEqual, NotEqualStar, TildeEqual, LessThan, LessThanEqual, GreaterThan, GreaterThanEqual}
+use Rattle.pep440_operator.specs.declared.operator.Operator.TheVariants.{Equal, EqualStar, ExactEqual}
+use Rattle.pep440_operator.specs.declared.operator.Operator.TheVariants.{NotEqual, NotEqualStar, TildeEqual}
+use Rattle.pep440_operator.specs.declared.operator.Operator.TheVariants.{LessThan, LessThanEqual, GreaterThan}
+use Rattle.pep440_operator.specs.declared.operator.Operator.TheVariants.{GreaterThanEqual}
 use Rattle.pep440_operator.specs.OperatorPrint.{operator_text, star_text}
 use Rattle.pep440_specifier.specs.Matching.{SpecifierRecord}
 use Rattle.pep440_specifier.specs.SpecifierPrint.{specifier_text}
@@ -23,7 +27,8 @@ use Rattle.pep508_marker_text.specs.MarkerText.{clauses_text, disjunction, marke
 use Rattle.pep508_requirement_text.specs.FrontReading.{Front, begins_operator}
 use Rattle.pep508_requirement_text.specs.FrontReading as front
 use Rattle.pep508_requirement_text.specs.FrontReading.Source.{Any, Specifiers, Url}
-use Rattle.pep508_requirement_text.specs.FrontText.{IsSpacedName, IsExtrasText, IsBeforeMarker, IsOpenList, IsFrontText}
+use Rattle.pep508_requirement_text.specs.FrontText.{IsSpacedName, IsExtrasText, IsBeforeMarker, IsOpenList}
+use Rattle.pep508_requirement_text.specs.FrontText.{IsFrontText}
 use Rattle.pep508_error.specs.Cuts.{begins_by}
 use Rattle.pep508_requirement.specs.MarkerBehind.{no_marker}
 use Rattle.pep508_requirement.specs.RequirementText.{IsMarkedText}
@@ -37,7 +42,8 @@ use Rattle.pep508_reading_back.proofs.Dotless.{no_archive}
 use Rattle.pep508_reading_back.proofs.Joining.{Leads, joined_leads}
 use Rattle.pep508_reading_back.proofs.JoinedClauses.{Part, either_leads}
 use Rattle.pep508_reading_back.proofs.Diagrams.{text_read}
-use Rattle.pep508_reading_back.proofs.Specifiers.{Listed, plain_are_listed, listed_ascii, listed_no_end, listed_append, AreBlanks, list_is, list_listed}
+use Rattle.pep508_reading_back.proofs.Specifiers.{Listed, plain_are_listed, listed_ascii, listed_no_end}
+use Rattle.pep508_reading_back.proofs.Specifiers.{listed_append, AreBlanks, list_is, list_listed}
 
 -- ---- extras
 

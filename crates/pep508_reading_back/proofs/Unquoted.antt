@@ -18,7 +18,8 @@ use Rattle.pep508_reading_back.proofs.WritableDiagrams.{written_marker}
 use Rattle.pep508_marker_text.specs.MarkerText.{marker_text}
 use Rattle.pep508_reading_back.specs.Lines.{IsPieceOf}
 use Rattle.pep508_reading_back.specs.Told.{AsksOf, IsTold}
-use Rattle.pep508_reading_back.specs.Unquoted.{AsksUnquoted, AsksOfModernKey, IsPlainDiagram, IsUnquotedDiagram}
+use Rattle.pep508_reading_back.specs.Unquoted.{AsksUnquoted, AsksOfModernKey, IsPlainDiagram}
+use Rattle.pep508_reading_back.specs.Unquoted.{IsUnquotedDiagram}
 use Rattle.pep508_reading_back.specs.Views.{IsReadableView}
 use Rattle.pep508_reading_back.specs.Writable.{AsksWritably, IsSayable, IsWritableDiagram}
 use Rattle.pep508_reading_back.proofs.Comparisons.{plain_name, plain_quotable}

@@ -1,5 +1,7 @@
 -- Extras, one piece after another.
-use Rattle.std.proofs.Common.{◌≡◌, ℕ, ◌+◌, ◌<◌, Bool, false, if◌then◌else◌, eqb, List, [], ◌∷◌, ◌++◌, length, take, drop, get_or, Option, Some, None, Result, Ok, Err, refl, sym, ap, ◌∙◌, arith}
+use Rattle.std.proofs.Common.{◌≡◌, ℕ, ◌+◌, ◌<◌, Bool, false, if◌then◌else◌, eqb, List, [], ◌∷◌, ◌++◌, length}
+use Rattle.std.proofs.Common.{take, drop, get_or, Option, Some, None, Result, Ok, Err, refl, sym, ap, ◌∙◌}
+use Rattle.std.proofs.Common.{arith}
 use Rattle.std.specs.Prelude.{option_map, option_and_then}
 use Rattle.std.specs.Option.{ok_or}
 use Rattle.std.specs.List.{slice_split}
@@ -7,7 +9,8 @@ use Rattle.std.specs.Str.{trim}
 use Rattle.std.proofs.lemmas.List.{take-append-drop, take_more, take_all, drop_more}
 use Rattle.pep508_name.specs.Name.{name_of, name_reading}
 use Rattle.pep508_error.specs.Cuts.{begins_by, cut_around}
-use Rattle.pep508_requirement_text.specs.FrontReading.{Refused, names_of, with_name, extras_at, extras_of, bracketed, if_there}
+use Rattle.pep508_requirement_text.specs.FrontReading.{Refused, names_of, with_name, extras_at, extras_of}
+use Rattle.pep508_requirement_text.specs.FrontReading.{bracketed, if_there}
 use Rattle.pep508_error.specs.Steps.{◌>>=◌}
 use Rattle.pep508_requirement_text.specs.FrontReading.Refused.{Malformed}
 

@@ -12,7 +12,7 @@ use Rattle.pep508_requirement_text.specs.FrontReading.{run_of, if_name, name_at,
 use Rattle.pep508_requirement_text.specs.FrontReading.{if_there}
 use Rattle.pep508_requirement_text.specs.FrontReading.{bracketed, extras_at}
 use Rattle.pep508_requirement_text.specs.FrontText.{IsInside, IsExtrasText}
-use Rattle.pep508_error.proofs.Tests.{the_same}
+use Rattle.pep508_error.proofs.Tests.{the_same, not_false}
 use Rattle.pep508_error.proofs.Steps.{answer, ok_same, in_steps}
 use Rattle.pep508_error.proofs.Cuts.{Ends, encoded_again, cut_found, encoded_is, around_again, around_found}
 use Rattle.pep508_requirement_text.proofs.Names.{AreNameBytes, named, mapped, name_encoded}
@@ -25,10 +25,6 @@ there (Some y) x h = cc
 there None x h = absurd (cc)
 
 -- ---- the name
-
-not_false : (t : Bool) → not t ≡ false → t ≡ true
-not_false true h = refl
-not_false false h = absurd (cc)
 
 pub record NameFound (cs : List ℕ) (parts : List ℕ × List ℕ) : Type 0 where
   pub split : cs ≡ parts.0 ++ parts.1

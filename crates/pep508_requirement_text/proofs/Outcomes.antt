@@ -4,7 +4,8 @@ use Rattle.pep508_url.specs.Vars.{Variables}
 use Rattle.pep508_error.specs.declared.cursor.Cursor.{Cursor}
 use Rattle.pep508_error.specs.declared.refusal.Refusal.{Refusal}
 use Rattle.pep508_error.specs.declared.refusal.RefusalKind.{RefusalKind}
-use Rattle.pep508_error.specs.declared.refusal.RefusalKind.TheVariants.{Memory, String, UnsupportedRequirement, NumberAtEnd}
+use Rattle.pep508_error.specs.declared.refusal.RefusalKind.TheVariants.{Memory, String}
+use Rattle.pep508_error.specs.declared.refusal.RefusalKind.TheVariants.{UnsupportedRequirement, NumberAtEnd}
 use Rattle.pep508_error.specs.Cursors.{IsBehind}
 use Rattle.pep508_requirement_text.specs.FrontReading.{Refused}
 use Rattle.pep508_error.specs.Steps.{◌>>=◌}

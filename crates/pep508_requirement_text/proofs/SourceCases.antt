@@ -1,9 +1,11 @@
 -- What follows a name, by its first character.
-use Rattle.std.proofs.Common.{◌≡◌, ◌≢◌, ℕ, Bool, true, false, if◌then◌else◌, eqb, List, ◌∷◌, Err, refl, sym, ap, ◌∙◌, arith}
+use Rattle.std.proofs.Common.{◌≡◌, ◌≢◌, ℕ, Bool, true, false, if◌then◌else◌, eqb, List, ◌∷◌, Err, refl, sym}
+use Rattle.std.proofs.Common.{ap, ◌∙◌, arith}
 use Rattle.std.proofs.lemmas.Bool.Decides.{nat_tests}
 use Rattle.std.specs.Str.{skip_leading_whitespace}
 use Rattle.pep508_requirement_text.specs.UrlEnds.{url_split}
-use Rattle.pep508_requirement_text.specs.FrontReading.{Source, Reading, source_at, if_url, listed, alone, begins_operator, run_of}
+use Rattle.pep508_requirement_text.specs.FrontReading.{Source, Reading, source_at, if_url, listed, alone}
+use Rattle.pep508_requirement_text.specs.FrontReading.{begins_operator, run_of}
 use Rattle.pep508_error.specs.Cuts.{encoded_cut}
 use Rattle.pep508_requirement_text.specs.FrontReading.Refused.{Nameless}
 use Rattle.pep508_requirement_text.specs.FrontFound.{enclosed_at}

@@ -30,7 +30,8 @@ use Rattle.pep508_requirement_text.proofs.Pieces.{trimmed_start}
 use Rattle.pep508_requirement_text.proofs.Names.{none_in_spaces}
 use Rattle.pep508_requirement_text.proofs.ExtrasTexts.{there}
 use Rattle.pep508_error.proofs.Steps.{answer, ok_same, in_steps}
-use Rattle.pep508_requirement_text.proofs.Lists.{TextLaw, list_by_pieces, pieces_by_list, skipped_list, given_found}
+use Rattle.pep508_requirement_text.proofs.Lists.{TextLaw, list_by_pieces, pieces_by_list, skipped_list}
+use Rattle.pep508_requirement_text.proofs.Lists.{given_found}
 use Rattle.pep508_requirement_text.proofs.Lists.{TextLaw, given_again}
 use Rattle.pep508_requirement_text.proofs.UrlLaws.{url_found, url_joined, url_again, unspaced_whole}
 

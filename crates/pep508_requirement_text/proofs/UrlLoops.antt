@@ -1,15 +1,22 @@
 -- How the reading of a URL goes on, ends, and has begun.
-use Rattle.std.proofs.Common.{◌≡◌, ℕ, ◌+◌, ◌-◌, ◌<◌, ◌≤◌, ◌&&◌, ◌||◌, Bool, true, false, cond, if◌then◌else◌, eqb, List, [], ◌∷◌, ◌++◌, length, take, drop, refl, sym, ap, subst, ◌∙◌, arith, append_assoc, length-append, ⊎_elim, None}
+use Rattle.std.proofs.Common.{◌≡◌, ℕ, ◌+◌, ◌-◌, ◌<◌, ◌≤◌, ◌&&◌, ◌||◌, Bool, true, false, cond, if◌then◌else◌}
+use Rattle.std.proofs.Common.{eqb, List, [], ◌∷◌, ◌++◌, length, take, drop, refl, sym, ap, subst, ◌∙◌, arith}
+use Rattle.std.proofs.Common.{append_assoc, length-append, ⊎_elim, None}
 use Rattle.std.proofs.Math.Seq.{drop-append_seam, take-append_seam, drop-length}
 use Rattle.std.proofs.Math.ListN.{drop_of_length-le}
 use Rattle.std.proofs.lemmas.Bool.{cases_lt}
 use Rattle.std.proofs.lemmas.Bool.Decides.{nat_tests}
-use Rattle.std.proofs.lemmas.List.{take-append-drop, append-nil, append_cancel_right, length-take-le, length-drop}
-use Rattle.std.proofs.lemmas.Str.{IsUtf8-nil, IsUtf8-append, IsUtf8-take, IsUtf8-drop, IsUtf8-past_char, IsCharBoundary-from_drop, chars-append, chars-nil, chars_past_char, chars_from_encodes, length-encode, len_utf8_bounds, IsCharBoundary-at_seam}
+use Rattle.std.proofs.lemmas.List.{take-append-drop, append-nil, append_cancel_right, length-take-le}
+use Rattle.std.proofs.lemmas.List.{length-drop}
+use Rattle.std.proofs.lemmas.Str.{IsUtf8-nil, IsUtf8-append, IsUtf8-take, IsUtf8-drop, IsUtf8-past_char}
+use Rattle.std.proofs.lemmas.Str.{IsCharBoundary-from_drop, chars-append, chars-nil, chars_past_char}
+use Rattle.std.proofs.lemmas.Str.{chars_from_encodes, length-encode, len_utf8_bounds, IsCharBoundary-at_seam}
 use Rattle.std.specs.Char.{is_whitespace, is_not_whitespace, encode_utf8}
-use Rattle.std.specs.Str.{chars, skip_leading_whitespace, IsUtf8, NonePass, IsCharBoundary, IsTrimStart, trim_start}
+use Rattle.std.specs.Str.{chars, skip_leading_whitespace, IsUtf8, NonePass, IsCharBoundary, IsTrimStart}
+use Rattle.std.specs.Str.{trim_start}
 use Rattle.std.specs.Str.Pattern.{FindsBy, MatchBeginsAt}
-use Rattle.pep508_requirement_text.specs.UrlEnds.{url_split, depth_behind, with_char, is_over, is_line_break, is_mark, ends_before, ends_behind}
+use Rattle.pep508_requirement_text.specs.UrlEnds.{url_split, depth_behind, with_char, is_over, is_line_break}
+use Rattle.pep508_requirement_text.specs.UrlEnds.{is_mark, ends_before, ends_behind}
 use Rattle.pep508_error.specs.Cuts.{begins_by}
 use Rattle.pep508_error.proofs.Places.{end_begins}
 use Rattle.pep508_requirement_text.specs.UrlTurns.{IsCut, BeginsWith, AreBlanks, onto, EndsAt, GoesOnAt}

@@ -7,7 +7,8 @@ use Rattle.pep508_tree.proofs.Conjoining.{extends_on}
 use Rattle.pep508_error.specs.Cursors.{behind}
 use Rattle.pep508_marker_read.specs.TreeReading.{connective, inner_at, piece_at, chain_truth, ReadsPart}
 use Rattle.pep508_marker_read.proofs.Kept.{piece_keeps}
-use Rattle.pep508_marker_read.proofs.Chains.{chain_begins, chain_goes_on, chain_shorter, chain_refused, chain_ends}
+use Rattle.pep508_marker_read.proofs.Chains.{chain_begins, chain_goes_on, chain_shorter, chain_refused}
+use Rattle.pep508_marker_read.proofs.Chains.{chain_ends}
 use Rattle.pep508_marker_read.proofs.Chains.{behind_on, part_other, inner_refused, closed_is, closed_refused}
 use Rattle.pep508_marker_read.proofs.chain.+reading.Goals as goal
 
