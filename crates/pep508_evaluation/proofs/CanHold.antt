@@ -1,32 +1,25 @@
 -- When some valuation with just some extras makes a tree hold: a constant that holds, and a tree of which some
 -- child can hold, unless the tree asks first for an extra.
-use Rattle.std.proofs.Common.{◌≡◌, ◌↔◌, inl, inr, ℕ, zero, suc, ◌<◌, ◌≤◌, Bool, true, false, cond, List, []}
+use Rattle.std.proofs.Common.{◌≡◌, ◌↔◌, inl, inr, ℕ, zero, suc, ◌<◌, ◌≤◌, Bool, true, false, List, []}
 use Rattle.std.proofs.Common.{◌∷◌, map, length, refl, sym, ap, subst, ◌∙◌, true≢false, arith, IsTrue, Option}
 use Rattle.std.proofs.Common.{Some, None}
 use Rattle.std.specs.Prelude.{IfSome, MatchOption, not, if◌then◌else◌, ◌-◌, ◌==◌}
 use Rattle.std.specs.Cmp.{unsigned_Decides}
 use Rattle.std.proofs.lemmas.Bool.{cases_Bool}
 use Rattle.std.specs.List.{slice_get}
-use Rattle.std.specs.Cmp.Lexicographic.{nat_list_cmp_total}
 use Rattle.version_ranges.specs.Point.{BelowAll}
-use Rattle.pep440_version.specs.OrderLaws.{version_cmp_total}
-use Rattle.pep440_version.specs.Order.{version_cmp}
 use Rattle.pep508_diagram.specs.declared.branch.Branch.{Branch}
 use Rattle.pep508_diagram.specs.declared.variable.Flag.{Flag}
 use Rattle.pep508_diagram.specs.declared.variable.Flag.TheVariants.{In, Contains, Extra, Arbitrary}
-use Rattle.pep508_diagram.specs.Text.{text_cmp}
-use Rattle.pep508_diagram.specs.Branches.{branch_at}
 use Rattle.pep508_diagram.specs.Chains.{IsChild}
-use Rattle.pep508_diagram.specs.Question.{VersionBelow, TextBelow, IsSet, Valuation, with_version, with_text}
-use Rattle.pep508_diagram.specs.Question.{with_flag, flag_rank, flag_text}
-use Rattle.pep508_diagram.proofs.Chains.{child_point}
+use Rattle.pep508_diagram.specs.Question.{Valuation}
+use Rattle.pep508_diagram.specs.Question.{flag_rank}
 use Rattle.pep508_diagram.proofs.Places.{rank_below}
-use Rattle.pep508_diagram.proofs.Questions.{before_differs}
 use Rattle.pep508_tree.specs.Tree.{Tree, always}
 use Rattle.pep508_tree.specs.Meaning.{NodeRecord, Versions, Texts, Flagged, holds, IsTree}
-use Rattle.pep508_tree.specs.Nodes.{IsChildIn, IsRising, Above, AreSound, chosen, node_at, node_place, signed}
+use Rattle.pep508_tree.specs.Nodes.{IsChildIn, Above, AreSound, chosen, node_at, node_place, signed}
 use Rattle.pep508_tree.specs.Joining.{children}
-use Rattle.pep508_tree.proofs.Meanings.{chosen_all, chosen_child, each_child, unmoved}
+use Rattle.pep508_tree.proofs.Meanings.{chosen_all, chosen_child, each_child}
 use Rattle.pep508_tree.proofs.OneTree.{top_or_node, tree_is}
 use Rattle.pep508_tree.proofs.Roots.{root_is, constant_is}
 use Rattle.pep508_tree.proofs.Moving.{IsLaterFlag, StandsAt, moved_to}

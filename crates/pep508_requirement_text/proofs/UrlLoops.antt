@@ -1,13 +1,10 @@
 -- How the reading of a URL goes on, ends, and has begun.
 use Rattle.std.proofs.Common.{◌≡◌, ℕ, ◌+◌, ◌-◌, ◌<◌, ◌≤◌, ◌&&◌, ◌||◌, Bool, true, false, cond, if◌then◌else◌}
 use Rattle.std.proofs.Common.{eqb, List, [], ◌∷◌, ◌++◌, length, take, drop, refl, sym, ap, subst, ◌∙◌, arith}
-use Rattle.std.proofs.Common.{append_assoc, length-append, ⊎_elim, None}
-use Rattle.std.proofs.Math.Seq.{drop-append_seam, take-append_seam, drop-length}
-use Rattle.std.proofs.Math.ListN.{drop_of_length-le}
-use Rattle.std.proofs.lemmas.Bool.{cases_lt}
+use Rattle.std.proofs.Common.{append_assoc, length-append, None}
+use Rattle.std.proofs.Math.Seq.{drop-append_seam, take-append_seam}
 use Rattle.std.proofs.lemmas.Bool.Decides.{nat_tests}
 use Rattle.std.proofs.lemmas.List.{take-append-drop, append-nil, append_cancel_right, length-take-le}
-use Rattle.std.proofs.lemmas.List.{length-drop}
 use Rattle.std.proofs.lemmas.Str.{IsUtf8-nil, IsUtf8-append, IsUtf8-take, IsUtf8-drop, IsUtf8-past_char}
 use Rattle.std.proofs.lemmas.Str.{IsCharBoundary-from_drop, chars-append, chars-nil, chars_past_char}
 use Rattle.std.proofs.lemmas.Str.{chars_from_encodes, length-encode, len_utf8_bounds, IsCharBoundary-at_seam}
