@@ -30,6 +30,7 @@ pub use Rattle.pep508_diagram.specs.Shortened
 pub use Rattle.pep508_diagram.specs.Text
 pub use Rattle.pep508_tree.specs.Tree
 pub use Rattle.pep508_tree.specs.Meaning
+pub use Rattle.pep508_tree.specs.Truths
 pub use Rattle.pep508_tree.specs.Disjoint
 pub use Rattle.pep508_tree.specs.Interning
 pub use Rattle.pep508_evaluation.specs.Valuations
