@@ -5,4 +5,3 @@ pub mod PathParts
 pub mod UrlLaws
 pub mod NormalPaths
 pub mod Places
-pub mod References
