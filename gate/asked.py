@@ -5,7 +5,7 @@
 
 A public call is a function that a user of the libraries can call: one at module level, of a type or of a
 trait, where the faces pep440_rs, pep508_rs, reqtable and reqs pass that function, type or trait on, where
-crates/reqs or crates/reqs_ends imports it from a crate below, or where it is of the sets of version_ranges,
+crates/reqs, crates/reqs_lists or crates/reqs_ends imports it from a crate below, or where it is of the sets of version_ranges,
 which specifiers are turned into. None is
 
 - a call whose signature names a type of the crates that no face passes on: inner crates lend it each other;
@@ -13,7 +13,7 @@ which specifiers are turned into. None is
 - what operators and `format!` call: equality, order, hashes and prints.
 
 A call is asked where its name stands as a call, `.name(`, `Owner::name` or `name(`, in a program of questions,
-in a crate of tests, in a `#[test]` function, or in crates/reqs_ends, crates/reqs and crates/reqs_cli, which the
+in a crate of tests, in a `#[test]` function, or in crates/reqs_ends, crates/reqs_lists, crates/reqs and crates/reqs_cli, which the
 stored runs run. A call `.name(` counts for a type that its file names, and for the only type with such a
 function where the file imports something of that type's crate. The functions of a trait that such a text has an
 impl of are asked, since the library calls that. Comments, texts, items for proofs and clauses don't count.
@@ -35,7 +35,7 @@ FACES = ("pep440_rs", "pep508_rs", "reqtable", "reqs", "reqs_io")
 # Of version_ranges the sets are public; their boundaries are lent to the crates of ranges and trees.
 SETS = ("Ranges", "RangeValue", "Iter")
 # Run by tests/cli.sh on the stored runs.
-RUN = ("reqs_ends", "reqs", "reqs_cli")
+RUN = ("reqs_ends", "reqs_lists", "reqs", "reqs_cli")
 # Calls that need no question, and why.
 LENT = "lent to the crates of trees, and public only since its type is"
 UNASKED = {
@@ -219,7 +219,7 @@ class Surface:
             self.pass_on_all(name)
         for name in SETS:
             self.pass_on("version_ranges", name)
-        for text in [*libraries["reqs_ends"].files.values(), *libraries["reqs"].files.values()]:
+        for text in (text for it in ("reqs_ends", "reqs_lists", "reqs") for text in libraries[it].files.values()):
             for _, path in use_paths(text):
                 if path[0] in libraries:
                     self.pass_on(path[0], path[1])

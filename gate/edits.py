@@ -34,6 +34,8 @@ class Change:
     def __init__(self, folder, parts):
         self.folder, self.parts = folder, parts
         self.functions = functions_changed(folder, self.over({}))
+        # (None stands for what is in no function, as an import)
+        self.named = [it for it in self.functions if it]
 
     def over(self, texts):
         """The texts of files, these and those that the change is in, with the change in them."""
@@ -64,6 +66,8 @@ class Edit:
             self.control = control_of(crate.folder, pairs)
             if self.control and {*self.control.functions} != {*self.wrong.functions}:
                 raise Misfit("its control changes another function")
+            if self.control and not self.control.named:
+                raise Misfit("its control changes no function, so it can't be tried")
         except (Misfit, OSError) as error:
             self.why = str(error)
 
@@ -101,6 +105,8 @@ def pairs_of(text):
             pairs[-1] = pairs[-1]._replace(control=rest)
         if word in ("file:", "old:", "new:", "control:"):
             is_behind = word == "new:"
+        elif file and line.strip():
+            raise Misfit(f"a line says none of file:, old:, new: and control:, as its text is one line: {line[:60]}")
     if not pairs:
         raise Misfit("it has no 'old:' and 'new:'")
     return pairs

@@ -50,7 +50,7 @@ def counts(programs):
     for name in programs:
         yield f"questions {name}", len(list(refused.questions(name)))
     stored = json.loads(read("tests", "runs.json"))
-    yield "runs", sum(len(stored[it]) for it in ("runs", "worked", "matrix"))
+    yield "runs", sum(len(stored[it]) for it in ("runs", "worked", "matrix", "lists"))
     with tempfile.TemporaryDirectory(prefix="floors-") as room:
         yield "commands", len(list(refused.commands(room)))
 

@@ -26,7 +26,7 @@ CLOSING = re.compile(r"^(?:[a-z]+: )?(\d+) passed, (\d+) failed$", re.M)
 NOTHING = "--from-nothing"
 QUESTIONS = ("pep440_vectors", "pep508_vectors", "pep508_marker_vectors")
 # What of tests/ the parts read that run programs.
-OF_REQS = ("alike.py", "cli.sh", "help.txt", "install.sh", "lists", "pages", "refuse.c", "refused.py", "refused.sh",
+OF_REQS = ("alike.py", "cli.sh", "help.txt", "install.sh", "lists", "pages", "pairs.py", "refuse.c", "refused.py", "refused.sh",
            "runs.json", "runs.py", "try.sh")
 
 
@@ -61,6 +61,7 @@ def parts(more):
     ], [
         Part("command line", ["bash", "tests/cli.sh"], ["reqs_cli"], of_reqs),
         Part("answers compared", [*python, "tests/alike.py", "1000"], ["reqs_cli"], of_reqs),
+        Part("lists compared", [*python, "tests/pairs.py", "500"], ["reqs_cli"], of_reqs),
         Part("a first answer", ["bash", "tests/try.sh"], ["reqs_cli"], of_reqs),
         Part("installing", ["bash", "tests/install.sh"], ["reqs_cli"], of_reqs),
         Part("refused memory", ["bash", "tests/refused.sh"], ["reqs_cli", *QUESTIONS], [*of_reqs, *asked]),

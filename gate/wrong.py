@@ -165,7 +165,7 @@ class Trial:
                 self.verdicts.keep_verdict(self.key(edit), self.verdict(edit))
 
     def check(self, crate, texts, changes):
-        functions = sorted({at for it in changes for at in it.functions})
+        functions = sorted({at for it in changes for at in it.named})
         flags = ["--jobs", "1", *(f"--only={it}" for it in functions)]
         ran = self.prover.rt.checked(self.rt_crates[crate.name], texts, flags, None)
         return ran.returncode, ran.stdout
@@ -212,15 +212,15 @@ class Trial:
             for it in edits:
                 self.try_controls([it], it.control.over({}))
             return
-        well = {at for it in edits for at in it.control.functions if is_told_proved(at, told, crate.name)}
-        proved = [it for it in edits if well.issuperset(it.control.functions)]
+        well = {at for it in edits for at in it.control.named if is_told_proved(at, told, crate.name)}
+        proved = [it for it in edits if well.issuperset(it.control.named)]
         if status and len(proved) == len(edits):
             proved = []
         for it in edits:
             if it in proved:
                 self.record(it, True)
                 continue
-            names = [name_told(at, told, crate.name) for at in it.control.functions]
+            names = [name_told(at, told, crate.name) for at in it.control.named]
             errors = [error for name in names if name for error in errors_of(name, said)]
             why = (errors or [f"the last line is: {last_line(said)}"])[0][:300]
             self.record(it, False, f"its control isn't proved, so the edit shows nothing: {why}")

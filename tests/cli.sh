@@ -179,6 +179,41 @@ wants "matrix without environments" 0 "" ""
 run matrix some E foos
 wants "matrix on one environment that is no list" 2 "" "reqs: E: not a list$n"
 
+# Lists alone.
+printf 'foo-bar==1.19\nbaz ; os_name == "nt"\n' >pinned
+printf 'baz;os_name=="nt"\nFoo.Bar == 1.19.0 # pinned\n' >again
+printf 'foo-bar==1.19\nbaz\n' >wider
+run same pinned again
+wants "two lists that require the same" 0 "yes$n" ""
+run same pinned wider
+wants "two lists that don't" 1 "no${n}baz${n}os_name != 'nt'$n" ""
+run same wider lower --limit 1
+wants "two lists that differ everywhere" 1 "no${n}baz${n}all environments$n" ""
+run same --limit 1 pinned again
+wants "same with a limit of one case" 2 "" "reqs: pinned: more than 1 cases for baz$n"
+run same again url
+wants "a list with a URL" 2 "" "reqs: url: line 1: URL$n"
+run same thirteen thirteen
+wants "same on more cases than the limit" 2 "" "reqs: thirteen: more than 4096 cases for foo$n"
+run same twelve twelve
+wants "same on 4096 cases" 0 "yes$n" ""
+printf 'foo-bar>=2 ; os_name == "nt"\nbaz\nfoo-bar<2\n' >apart
+run conflicts apart
+wants "lines that contradict each other" 0 "foo-bar 1,3$n" ""
+run conflicts R
+wants "no conflict" 0 "" ""
+run conflicts --limit 1 apart
+wants "conflicts with a limit of one case" 2 "" "reqs: apart: more than 1 cases for foo-bar$n"
+run normal R
+wants "a normal text" 0 "foo-bar>=1.16${n}foo-bar==1.19$n" ""
+run normal again
+wants "a normal text with a marker" 0 "baz ; os_name == 'nt'${n}foo-bar==1.19.0$n" ""
+run normal url
+wants "no normal text of a URL" 2 "" "reqs: url: line 1: URL$n"
+printf "foo ; os.name == 'nt'\n" >old
+run normal old
+wants "no normal text of an old key" 2 "" "reqs: old: line 1: deprecated key$n"
+
 # Examples.
 for example in "$top"/examples/*/expected.txt; do
     example=${example%/*}
@@ -210,6 +245,30 @@ wants "examples/matrix: an answer with an extra" 0 SOMETHING ""
 status=$?
 : >out
 wants "examples/matrix: an extra in each environment" 0 "" ""
+
+run same "$top"/examples/lock/{before,after}.txt
+wants "examples/lock: a release that changed" 1 "$(cat "$top/examples/lock/expected_same.txt")$n" ""
+run same "$top"/examples/lock/{before,rewritten}.txt
+wants "examples/lock: the same by another tool" 0 "yes$n" ""
+run conflicts "$top/examples/apart/requirements.txt"
+wants "examples/apart: two lines that contradict each other" 0 \
+    "$(cat "$top/examples/apart/expected_conflicts.txt")$n" ""
+# Each list without its URLs, beside itself turned round and beside its normal text.
+for example in "$top"/examples/*/requirements.txt; do
+    name=${example%/*}
+    name=${name##*/}
+    grep -v ' @ ' "$example" >one
+    tac one >turned
+    run same one turned
+    wants "examples/$name: turned round" 0 "yes$n" ""
+    run normal one
+    cp out text
+    wants "examples/$name: a normal text" 0 SOMETHING ""
+    run same one text
+    wants "examples/$name: beside its normal text" 0 "yes$n" ""
+    run normal text
+    wants "examples/$name: the normal text of a normal text" 0 "$(cat text)$n" ""
+done
 
 # The scripts of examples/: what is installed for the machine's own python3, and what is asked of it.
 script() {
@@ -375,6 +434,10 @@ run check long E C
 wants "requirements that are too long" 2 "" "reqs: long: longer than 16777216 bytes$n"
 run check R long C
 wants "an environment that is too long" 2 "" "reqs: long: longer than 16777216 bytes$n"
+run same R long
+wants "a right list that is too long" 2 "" "reqs: long: longer than 16777216 bytes$n"
+run normal fits
+wants "the normal text of one comment" 0 "" ""
 run matrix R long C
 wants "environments that are too long" 2 "" "reqs: long: longer than 16777216 bytes$n"
 run check R E long
@@ -390,6 +453,16 @@ run check R E absent
 wants "candidates that don't open" 3 "" "reqs: absent: read fault$n"
 run matrix R absent C
 wants "environments that don't open" 3 "" "reqs: absent: read fault$n"
+run same R absent
+wants "a right list that doesn't open" 3 "" "reqs: absent: read fault$n"
+run same bytes absent
+wants "both lists are opened before any is read" 3 "" "reqs: absent: read fault$n"
+run same R bytes
+wants "a right list that isn't UTF-8" 2 "" "reqs: bytes: not UTF-8 at byte 3$n"
+run conflicts absent
+wants "a list that doesn't open, for conflicts" 3 "" "reqs: absent: read fault$n"
+run normal absent
+wants "a list that doesn't open, for normal" 3 "" "reqs: absent: read fault$n"
 run check bytes E absent
 wants "all files are opened before any is read" 3 "" "reqs: absent: read fault$n"
 mkdir folder
@@ -425,6 +498,20 @@ wants "a refused list beside standard input" 2 "" "reqs: unread: $no_name"
 "$program" check - E C >out 2>err <unread
 status=$?
 wants "a refused list from standard input" 2 "" "reqs: -: $no_name"
+"$program" same - again >out 2>err <pinned
+status=$?
+wants "the left list from standard input" 0 "yes$n" ""
+"$program" same pinned - >out 2>err <wider
+status=$?
+wants "the right list from standard input" 1 "no${n}baz${n}os_name != 'nt'$n" ""
+"$program" conflicts - >out 2>err <apart
+status=$?
+wants "conflicts from standard input" 0 "foo-bar 1,3$n" ""
+"$program" normal - >out 2>err <unread
+status=$?
+wants "a refused list from standard input, for normal" 2 "" "reqs: -: $no_name"
+run same - -
+wants "standard input twice, for same" 2 "" "reqs: standard input (-) can be one input alone$n"
 run check - E -
 wants "standard input twice" 2 "" "reqs: standard input (-) can be one input alone$n"
 run matrix R - - dev
@@ -446,6 +533,12 @@ wants "a full standard output, for matrix" 3 "" "reqs: write fault$n"
 "$program" matrix R none C >/dev/full 2>err </dev/null
 status=$?
 wants "no environments, and nothing to write" 0 "" ""
+"$program" same pinned wider >/dev/full 2>err </dev/null
+status=$?
+wants "a full standard output, for same" 3 "" "reqs: write fault$n"
+"$program" conflicts R >/dev/full 2>err </dev/null
+status=$?
+wants "no conflicts, and nothing to write" 0 "" ""
 "$program" check R E C >&- 2>err </dev/null
 status=$?
 wants "a closed standard output" 3 "" "reqs: write fault$n"
@@ -471,8 +564,10 @@ run --help
 wants "--help" 0 "$(cat "$top/tests/help.txt")$n" ""
 run check --help
 wants "check --help" 0 SOMETHING ""
-run matrix --help
-wants "matrix --help" 0 SOMETHING ""
+for name in matrix same conflicts normal; do
+    run $name --help
+    wants "$name --help" 0 SOMETHING ""
+done
 run help
 wants "help" 0 SOMETHING ""
 run --version
@@ -507,6 +602,20 @@ run matrix R M C --limit 5 --limit 6
 wants "two limits" 2 "" SOMETHING
 run check R E C --limit 1
 wants "a limit for check" 2 "" SOMETHING
+run normal R --limit 1
+wants "a limit for normal" 2 "" SOMETHING
+run same R
+wants "same with one list" 2 "" SOMETHING
+run same R R C
+wants "same with three files" 2 "" SOMETHING
+run conflicts R R
+wants "conflicts with two lists" 2 "" SOMETHING
+run normal
+wants "normal without a list" 2 "" SOMETHING
+run same R R --limit 1000001
+wants "a limit past the greatest, for same" 2 "" SOMETHING
+run conflicts R --limit 0
+wants "a limit of no cases, for conflicts" 2 "" "reqs: R: more than 0 cases for foo-bar$n"
 run check --frobnicate R E C
 wants "an unknown option" 2 "" SOMETHING
 

@@ -10,8 +10,8 @@ of memory, and write nothing else; or it gives its whole answer after all, since
 for itself. Where an input is refused and its text can't be made, the text of want of memory comes with the status of
 the refusal. The last run gives the answer with ample memory.
 
-The commands are `reqs check` on each example and on lists that are refused, `reqs matrix`, the program's help, and
-the questions of crates/pep440_vectors and crates/pep508_vectors and every eighth of crates/pep508_marker_vectors, one a
+The commands are `reqs check` on each example and on lists that are refused, `reqs matrix`, `reqs same`, `reqs conflicts`
+and `reqs normal`, the program's help, and the questions of crates/pep440_vectors and crates/pep508_vectors and every eighth of crates/pep508_marker_vectors, one a
 run; each stands with the answer that it has with ample memory. To questions of KEPT the program goes on: it makes a call
 that was refused memory again, and answers by it and by the trees that it made before. There some run has to give the
 whole answer after a refusal. tests/least.txt says how many commands and questions there are at least. The last line is
@@ -159,6 +159,7 @@ def commands(room):
     cases = b"reqs: requirements.txt: more than 0 cases for foo-bar\n"
     yield "too many cases:", ["matrix", *environments, "--limit", "0"], room, (2, b"", cases)
     yield "no list of environments:", ["matrix", *files], room, (2, b"", b"reqs: environment.json: not a list\n")
+    yield from commands_on_lists(room)
     yield "a line that is no requirement:", ["check", "unread", *files[1:]], room, (2, b"", UNREAD)
     yield "a candidate's name:", ["check", *files[:2], "name"], room, (2, b"", b"reqs: name: line 2: name\n")
     yield "a candidate's version:", ["check", *files[:2], "version"], room, (2, b"", b"reqs: version: line 2: version\n")
@@ -171,6 +172,35 @@ def commands(room):
     yield "help:", ["--help"], room, (0, read(os.path.join(TOP, "tests", "help.txt")), b"")
     yield "version:", ["--version"], room, (0, b"reqs 0.1.0\n", b"")
     yield "a wrong word:", ["judge"], room, (2, b"", WRONG_WORD)
+
+
+def commands_on_lists(room):
+    """The commands on lists alone, in the same form."""
+    texts = {
+        "LEFT": b"Foo_Bar[b,a]>=1,<2 ; python_version >= '3.8'\nx==1 ; os_name == 'nt' or extra == 'dev'\n",
+        "RIGHT": b"x==1.0 ; os_name == 'nt' or extra == 'dev'\nfoo-bar[a]<2 ; python_version >= '3.8'\n"
+                 b"foo-bar[b]>=1 ; python_version >= '3.8'\n",
+        "OTHER": b"foo-bar>=1,<2 ; python_version >= '3.8'\n",
+        "URL": b"foo-bar @ https://e.example/foo.whl\n",
+        "REQS": b"",
+        "APART": b"foo>=2\nbar>1,<1\nfoo<1 ; os_name == 'nt'\n",
+    }
+    for name, text in texts.items():
+        with open(os.path.join(room, name), "wb") as file:
+            file.write(text)
+    yield "same, yes:", ["same", "LEFT", "RIGHT"], room, (0, b"yes\n", b"")
+    yield "same, no:", ["same", "LEFT", "OTHER"], room, (1, b"no\nfoo-bar\npython_full_version >= '3.8'\n", b"")
+    yield "same, everywhere:", ["same", "APART", "RIGHT"], room, (1, b"no\nbar\nall environments\n", b"")
+    cases = b"reqs: RIGHT: more than 1 cases for foo-bar\n"
+    yield "same, too many cases:", ["same", "REQS", "RIGHT", "--limit", "1"], room, (2, b"", cases)
+    yield "same, a URL:", ["same", "LEFT", "URL"], room, (2, b"", b"reqs: RIGHT: line 1: URL\n")
+    yield "conflicts:", ["conflicts", "APART"], room, (0, b"bar 2\nfoo 1,3\n", b"")
+    yield "conflicts, too many cases:", ["conflicts", "APART", "--limit", "1"], room, (
+        2, b"", b"reqs: APART: more than 1 cases for foo\n")
+    normal = (b"foo-bar[b,a]>=1,<2 ; python_full_version >= '3.8'\n"
+              b"x==1 ; os_name == 'nt' or extra == 'dev'\n")
+    yield "normal:", ["normal", "LEFT"], room, (0, normal, b"")
+    yield "normal, a URL:", ["normal", "URL"], room, (2, b"", b"reqs: URL: line 1: URL\n")
 
 
 def tasks(library, room):

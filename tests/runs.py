@@ -3,9 +3,10 @@
 
     runs.py PROGRAM
 
-Each run has a folder of its own with the files R, E and C, and the program is started there. What `check`
-answers `matrix` is asked too, for its environment twice. A line is printed for each run that differs; the last
-line is `runs: N passed, M failed`. tests/least.txt says how many runs there are at least.
+Each run has a folder of its own with the files that it names, and the program is started there. What `check`
+answers `matrix` is asked too, for its environment twice; where `same` says yes it is asked with its lists exchanged
+too. A line is printed for each run that differs; the last line is `runs: N passed, M failed`. tests/least.txt says how
+many runs there are at least.
 """
 
 import json
@@ -29,9 +30,9 @@ def environments_of(run, environment):
 
 
 def ended(program, words, texts):
-    """How the program ended on three texts: its status and outputs."""
+    """How the program ended on files with these texts: its status and outputs."""
     with tempfile.TemporaryDirectory(prefix="reqs-run-") as folder:
-        for name, text in zip("REC", texts):
+        for name, text in texts.items():
             with open(os.path.join(folder, name), "wb") as file:
                 file.write(to_bytes(text))
         how = {"stdin": subprocess.DEVNULL, "capture_output": True, "timeout": 60}
@@ -49,23 +50,39 @@ def differences(program, words, texts, wanted):
 
 
 def runs_of(stored):
-    """Each run: its name, the words behind the command's inputs, their texts, and how it is to end."""
+    """Each run: its name, its words, the texts of its files, and how it is to end."""
     for run in stored["runs"] + stored["worked"]:
         name, extras = run["name"], run.get("extras", [])
         environment = run.get("environment", stored["environment"])
-        texts = run["requirements"], environment, run["candidates"]
-        wanted = run["status"], to_bytes(run["stdout"]), to_bytes(run["stderr"])
+        texts = {"R": run["requirements"], "E": environment, "C": run["candidates"]}
+        wanted = end_of(run)
         yield name, ["check", "R", "E", "C", *extras], texts, wanted
         if run["status"] == 0:
-            texts = texts[0], f"[{environment}, {environment}]", texts[2]
+            texts = {**texts, "E": f"[{environment}, {environment}]"}
             twice = b"env 1\n" + wanted[1] + b"env 2\n" + wanted[1]
             yield f"{name}, by matrix", ["matrix", "R", "E", "C", *extras], texts, (0, twice, b"")
     for run in stored["matrix"]:
-        words = ["--limit", str(run["limit"])] if "limit" in run else []
         environments = environments_of(run, stored["environment"])
-        texts = run["requirements"], environments, run["candidates"]
-        wanted = run["status"], to_bytes(run["stdout"]), to_bytes(run["stderr"])
-        yield run["name"], ["matrix", "R", "E", "C", *words, *run.get("extras", [])], texts, wanted
+        texts = {"R": run["requirements"], "E": environments, "C": run["candidates"]}
+        yield run["name"], ["matrix", "R", "E", "C", *limit_of(run), *run.get("extras", [])], texts, end_of(run)
+    for run in stored["lists"]:
+        command, wanted = run["command"], end_of(run)
+        name = f"{command}: {run['name']}"
+        if command != "same":
+            yield name, [command, "REQS", *limit_of(run)], {"REQS": run["requirements"]}, wanted
+            continue
+        texts = {"LEFT": run["left"], "RIGHT": run["right"]}
+        yield name, ["same", "LEFT", "RIGHT", *limit_of(run)], texts, wanted
+        if run["status"] == 0:
+            yield f"{name}, exchanged", ["same", "RIGHT", "LEFT", *limit_of(run)], texts, wanted
+
+
+def limit_of(run):
+    return ["--limit", str(run["limit"])] if "limit" in run else []
+
+
+def end_of(run):
+    return run["status"], to_bytes(run["stdout"]), to_bytes(run["stderr"])
 
 
 def main():

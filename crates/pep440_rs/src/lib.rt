@@ -1,3 +1,4 @@
+#![tactic(auto)]
 //! Versions and version specifiers of Python packages, as PEP 440 has them.
 //!
 //! A specifier list takes a version or not:
@@ -9,7 +10,6 @@
 //! ```
 //!
 //! The crates below hold the code; this one passes on what they offer.
-#![tactic(auto)]
 
 pub mod laws;
 

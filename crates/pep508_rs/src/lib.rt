@@ -1,3 +1,4 @@
+#![tactic(auto)]
 //! Requirements of Python packages, as PEP 508 has them: names, extras, specifiers, URLs and markers.
 //!
 //! Trees of markers stand in an interner, which reads them and is asked with them:
@@ -12,7 +13,8 @@
 //!
 //! The crates below hold the code; this one passes on what they offer, and versions and specifiers as
 //! `pep440_rs`.
-#![tactic(auto)]
+
+pub mod laws;
 
 pub use pep440_rs;
 pub use pep508_disjointness::MarkerTreeDisjointness;

@@ -5,11 +5,12 @@
 #![tactic(auto)]
 
 mod answers;
-mod calls;
 mod meant;
 mod names;
-mod prints;
-mod requirement;
+mod requirements;
+mod unnamed;
+mod urls;
+mod values;
 mod warnings;
 
 use answers::answer;

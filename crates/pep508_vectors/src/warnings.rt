@@ -1,6 +1,6 @@
 //! The answer on the warnings of a requirement's marker.
 
-use pep508_error::Pep508ErrorSource;
+use pep508_error::{Pep508Error, Pep508ErrorSource};
 use pep508_marker::{MarkerWarningKind, Reporter};
 use pep508_requirement::Requirement;
 use pep508_tree::Interner;
@@ -37,29 +37,31 @@ fn name_of(kind: MarkerWarningKind) -> &'static str {
     }
 }
 
+type Read = Result<Requirement<VerbatimUrl>, Pep508Error<VerbatimUrl>>;
+
 /// The warnings of a requirement's marker, and how many conjunctions reading it counts.
 pub fn warnings(alloc: Global, vars: &Vars, text: &str) -> Result<String, AllocError> {
     let mut interner = Interner::new(alloc);
     let mut kept = Kept {
         text: String::new(alloc),
     };
-    let read = Requirement::<VerbatimUrl>::parse_reporter(
-        alloc,
-        &mut interner,
-        vars,
-        text,
-        None,
-        &mut kept,
-    );
-    if let Err(error) = read {
-        if let Pep508ErrorSource::Memory = error.message() {
-            return Err(AllocError);
-        }
+    let read = Requirement::parse_reporter(alloc, &mut interner, vars, text, None, &mut kept);
+    told(alloc, &read, interner.conjunctions(), kept.text.as_str())
+}
+
+fn told(alloc: Global, read: &Read, count: u64, warnings: &str) -> Result<String, AllocError> {
+    if lacks_memory(read) {
+        Err(AllocError)
+    } else if warnings.is_empty() {
+        format!(in alloc; "{count} conjunctions, no warning")
+    } else {
+        format!(in alloc; "{count} conjunctions, {warnings}")
     }
-    let count = interner.conjunctions();
-    if kept.text.is_empty() {
-        return format!(in alloc; "{count} conjunctions, no warning");
+}
+
+fn lacks_memory(read: &Read) -> bool {
+    match read {
+        Ok(_) => false,
+        Err(error) => matches!(error.message(), Pep508ErrorSource::Memory),
     }
-    let told = kept.text.as_str();
-    format!(in alloc; "{count} conjunctions, {told}")
 }

@@ -1,7 +1,11 @@
 -- What is answered behind a list of requirements is what is answered to all texts.
-use Rattle.std.proofs.Common.{◌≡◌, ◌⊎◌, inl, inr, ℕ, List, Result, Ok, Err, String, sym, subst}
+use Rattle.std.proofs.Common.{◌≡◌, ◌⊎◌, inl, inr, ℕ, List, Option, Result, Ok, Err, String, sym, subst}
+use Rattle.std.specs.List.{AllZip}
 use Rattle.pep508_url.specs.Vars.{Variables}
+use Rattle.reqtable_text.specs.TextLines.{text_lines}
 use Rattle.reqtable_requirements.specs.LineReading.{LineRecord}
+use Rattle.reqtable_requirements.specs.Requirements.{IsErrorIn}
+use Rattle.reqs_io.specs.Front.{AreAsTold}
 use Rattle.pep508_environment.specs.Environment.{EnvironmentRecord}
 use Rattle.reqs_ends.specs.declared.fault.Input.{Input}
 use Rattle.reqs_ends.specs.declared.fault.Input.TheVariants.{First, Second}
@@ -9,7 +13,8 @@ use Rattle.reqs_ends.specs.declared.fault.RunFault.{RunFault}
 use Rattle.reqs_ends.specs.declared.fault.RunFault.TheVariants.{Memory}
 use Rattle.reqs_ends.specs.Faults.{IsPlain, IsOfTexts, Refuses}
 use Rattle.reqs_ends.specs.Inputs.{extras_of, lines_from, environment_from, environments_from}
-use Rattle.reqs_ends.proofs.Steps.{refuses_texts}
+use Rattle.reqs_ends.specs.Ends.{AreWithin, Answering, Refusing, Runs}
+use Rattle.reqs_ends.proofs.Steps.{refuses_texts, texts_refused}
 use Rattle.reqs.specs.Check.{AnswersText}
 use Rattle.reqs.specs.Matrix.{MatrixTexts, IsRead, IsOverLimit, AnswersAll}
 use Rattle.reqs.specs.Texts.{ReadTexts, behind_lines, texts_of}
@@ -48,3 +53,14 @@ pub unbuilt : (limit : ℕ) (read : ReadTexts (List EnvironmentRecord)) (texts :
 unbuilt limit read texts fault e (inl m) =
     let P : RunFault → Type 0 = λ f. Refuses IsPlain f texts in inl (subst P (sym m) (tt, tt))
 unbuilt limit read texts fault e (inr h) = inr (read, e, h)
+
+-- a command whose inputs are read, of which one is a list, and refused
+module _ {W : Type 0} (Answers : Answering) (Refused : Refusing) (contents : W → Option (List ℕ))
+    (old new : W) (told : List (Option (List ℕ))) (inputs : List (List ℕ))
+    (are_told : AllZip AreAsTold told inputs) (within : AreWithin inputs) where
+  pub list_refused : (vars : Variables) (list : Input) (bytes : List ℕ) (fault : RunFault)
+      → IsOfTexts vars list bytes fault → Refused inputs fault
+      → Runs Answers Refused told contents old new (Err fault)
+  list_refused vars list bytes fault h r =
+      texts_refused Answers Refused contents old new told inputs are_told within
+      (λ input error. (input ≡ list) × IsErrorIn vars (text_lines bytes) error) fault h r

@@ -20,9 +20,8 @@ use pep508_tree::Interner;
 use pep508_url::Vars;
 use reqs_ends::{
     Input, RunFault, Status, read_candidates, read_environment, read_extras, read_input,
-    read_requirements,
+    read_requirements, write_answer,
 };
-use reqs_io::write_whole;
 use reqtable_answer::Admission;
 use reqtable_requirements::Requirements;
 use reqtable_text::Candidates;
@@ -63,10 +62,7 @@ pub fn check<L: Read, E: Read, C: Read, W: Write>(
         extras,
         vars,
     )?;
-    match write_whole(output, text.as_bytes()) {
-        Ok(()) => Ok(Status::Answered),
-        Err(_) => Err(RunFault::Write),
-    }
+    write_answer(output, text.as_str(), Status::Answered)
 }
 
 /// The text of the answer. The bytes of each input are let go once they are read.

@@ -1,4 +1,5 @@
-//! The commands of `reqs`: each reads its inputs whole, and writes its answer once it is made whole.
+//! The commands of `reqs`: each reads its inputs whole, and writes its answer once it is made whole. Those on
+//! lists alone are of `reqs_lists`.
 #![tactic(auto)]
 
 mod checks;
@@ -8,4 +9,5 @@ mod matrices;
 pub use checks::check;
 pub use matrices::matrix;
 pub use pep508_url::Vars;
-pub use reqs_ends::{Input, JsonShape, RefusedWord, RunFault, Status};
+pub use reqs_ends::{Input, JsonShape, RefusedCause, RefusedWord, RunFault, Status};
+pub use reqs_lists::{conflicts, normal, same};

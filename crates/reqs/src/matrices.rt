@@ -28,9 +28,8 @@ use pep508_tree::Interner;
 use pep508_url::Vars;
 use reqs_ends::{
     Input, RunFault, Status, read_candidates, read_environments, read_extras, read_input,
-    read_requirements,
+    read_requirements, write_answer,
 };
-use reqs_io::write_whole;
 use reqtable_answer::{Admission, Answer};
 use reqtable_requirements::Requirements;
 use reqtable_table::{Runs, Table, TableError};
@@ -73,10 +72,7 @@ pub fn matrix<L: Read, E: Read, C: Read, W: Write>(
         vars,
         limit,
     )?;
-    match write_whole(output, text.as_bytes()) {
-        Ok(()) => Ok(Status::Answered),
-        Err(_) => Err(RunFault::Write),
-    }
+    write_answer(output, text.as_str(), Status::Answered)
 }
 
 /// The text of all answers. The bytes of each input are let go once they are read.

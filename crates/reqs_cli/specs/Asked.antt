@@ -1,26 +1,43 @@
 -- What the words of the command line ask for.
-use Rattle.std.specs.Prelude.{◌≡◌, ◌≢◌, ◌<◌, ◌^◌, ℕ, List, [], ◌∷◌, codes, Option, Some, None}
+use Rattle.std.specs.Prelude.{◌≡◌, ◌≢◌, ◌<◌, ◌^◌, ℕ, List, [], ◌∷◌, codes, map, Option, Some, None}
 use Rattle.std.specs.Str.Parse.{IsNumeral, digits_value, without_leading_plus}
 use Rattle.clap.specs.Words.{first_value, one_text}
 use Rattle.clap.specs.declared.parser.matches.Found.{Found}
 use Rattle.reqs_cli.specs.declared.asked.Asked.{Asked}
-use Rattle.reqs_cli.specs.declared.asked.Asked.TheVariants.{Check, Matrix}
+use Rattle.reqs_cli.specs.declared.asked.Asked.TheVariants.{Check, Matrix, Same, Conflicts, Normal}
 
--- the word that stands for the second input
-abbrev pub second_word : Asked → List ℕ
-second_word Check = codes "ENV"
-second_word (Matrix limit) = codes "ENVS"
+-- the word by which a command is asked for
+abbrev pub name_of : Asked → List ℕ
+name_of Check = codes "check"
+name_of (Matrix limit) = codes "matrix"
+name_of (Same limit) = codes "same"
+name_of (Conflicts limit) = codes "conflicts"
+name_of Normal = codes "normal"
+
+-- the words that stand for its inputs, in the order of the command line
+abbrev pub input_words : Asked → List (List ℕ)
+input_words Check = codes "REQS" ∷ codes "ENV" ∷ codes "CANDIDATES" ∷ []
+input_words (Matrix limit) = codes "REQS" ∷ codes "ENVS" ∷ codes "CANDIDATES" ∷ []
+input_words (Same limit) = codes "LEFT" ∷ codes "RIGHT" ∷ []
+input_words (Conflicts limit) = codes "REQS" ∷ []
+input_words Normal = codes "REQS" ∷ []
+
+-- the limit that it is told, if it is told one
+abbrev pub limit_in : Asked → Option ℕ
+limit_in Check = None
+limit_in (Matrix limit) = Some limit
+limit_in (Same limit) = Some limit
+limit_in (Conflicts limit) = Some limit
+limit_in Normal = None
 
 -- what stands for an argument, or an empty text where nothing does
 abbrev pub text_at : Option (List ℕ) → List ℕ
 text_at (Some text) = text
 text_at None = []
 
--- the paths of the requirements, of the environment or environments, and of the candidates, in this order
+-- the paths of its inputs
 abbrev pub paths_in : Asked → Found → List (List ℕ)
-paths_in asked found =
-    text_at (first_value found (codes "REQS")) ∷ text_at (first_value found (second_word asked))
-    ∷ text_at (first_value found (codes "CANDIDATES")) ∷ []
+paths_in asked found = map (λ word. text_at (first_value found word)) (input_words asked)
 
 -- a text is a limit, in decimal digits
 abbrev pub IsLimitText : List ℕ → ℕ → Type 0
@@ -34,10 +51,22 @@ LimitIs None result = result ≡ None
 LimitIs (Some text) (Some limit) = IsLimitText text limit
 LimitIs (Some text) None = (limit : ℕ) → IsLimitText text limit → ⊥
 
--- a command's name, and what it is told
+-- the limit is the one that the words tell; a command without one is told none
+abbrev pub IsToldLimit : Found → Option ℕ → Type 0
+IsToldLimit found None = Unit {0}
+IsToldLimit found (Some limit) = LimitIs (one_text found (codes "limit")) (Some limit)
+
+-- a command is asked for by its name and by what it is told
+abbrev pub IsAsked : List ℕ → Found → Asked → Type 0
+IsAsked name found asked = (name ≡ name_of asked) × IsToldLimit found (limit_in asked)
+
+-- the command that is asked for, or none
 abbrev pub AsksFor : List ℕ → Found → Option Asked → Type 0
-AsksFor name found (Some Check) = name ≡ codes "check"
-AsksFor name found (Some (Matrix limit)) =
-    (name ≡ codes "matrix") × LimitIs (one_text found (codes "limit")) (Some limit)
-AsksFor name found None =
-    (name ≢ codes "check") × (name ≡ codes "matrix" → LimitIs (one_text found (codes "limit")) None)
+AsksFor name found (Some asked) = IsAsked name found asked
+AsksFor name found None = (asked : Asked) → IsAsked name found asked → ⊥
+
+-- the command of a name that is told a limit
+abbrev pub NamesLimited : List ℕ → ℕ → Option Asked → Type 0
+NamesLimited name limit (Some asked) = (name ≡ name_of asked) × (limit_in asked ≡ Some limit)
+NamesLimited name limit None =
+    (name ≢ codes "matrix") × (name ≢ codes "same") × (name ≢ codes "conflicts")

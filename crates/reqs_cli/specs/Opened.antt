@@ -1,37 +1,93 @@
 -- What becomes of the inputs that are opened, whatever opens them.
-use Rattle.std.specs.Prelude.{◌≡◌, ◌⊎◌, ℕ, List, Option, Result, Ok, Err}
+use Rattle.std.specs.Prelude.{◌≡◌, ◌⊎◌, ℕ, List, [], ◌∷◌, map, Option, Result, Ok, Err}
+use Rattle.std.specs.List.{AllZip}
 use Rattle.pep508_url.specs.Vars.{Variables}
 use Rattle.reqs_ends.specs.declared.fault.Input.{Input}
 use Rattle.reqs_ends.specs.declared.fault.Input.TheVariants.{First, Second, Third}
 use Rattle.reqs_ends.specs.declared.fault.RunFault.{RunFault}
 use Rattle.reqs_ends.specs.declared.fault.RunFault.TheVariants.{Memory}
 use Rattle.reqs_ends.specs.declared.fault.Status.{Status}
-use Rattle.reqs.specs.Check.{RunsCheck}
-use Rattle.reqs.specs.Matrix.{RunsMatrix}
+use Rattle.reqs_ends.specs.Ends.{Answering, Refusing, Runs}
+use Rattle.reqs.specs.Check.{ChecksAs, CheckRefuses}
+use Rattle.reqs.specs.Matrix.{MatrixAnswersAs, MatrixRefuses}
+use Rattle.reqs_lists.specs.Comparison.{SameAnswersAs, SameRefuses}
+use Rattle.reqs_lists.specs.Contradictions.{ConflictsAnswerAs, ConflictsRefuse}
+use Rattle.reqs_lists.specs.Normal.{NormalAnswersAs, NormalRefuses}
 use Rattle.reqs_cli.specs.declared.asked.Asked.{Asked}
-use Rattle.reqs_cli.specs.declared.asked.Asked.TheVariants.{Check, Matrix}
+use Rattle.reqs_cli.specs.declared.asked.Asked.TheVariants.{Check, Matrix, Same, Conflicts, Normal}
+use Rattle.reqs_cli.specs.declared.opened.Opened.{Opened}
+use Rattle.reqs_cli.specs.declared.opened.Opened.TheVariants as opened
 
--- the command that is asked for ends so, with what its readers tell of its three inputs
-abbrev pub RunsAsked : {W : Type 0} → Asked → Variables → List (List ℕ) → Option (List ℕ) → Option (List ℕ)
-    → Option (List ℕ) → (W → Option (List ℕ)) → W → W → Result Status RunFault → Type 0
-RunsAsked Check vars extras first second third contents old new result =
-    RunsCheck vars extras first second third contents old new result
-RunsAsked (Matrix limit) vars extras first second third contents old new result =
-    RunsMatrix limit vars extras first second third contents old new result
+-- ---- a command by the bytes of its inputs
 
--- the three inputs as they were opened, and the command ends so with the first as the requirements, the
--- second as the environment or environments, and the third as the candidates
+-- what a command may answer
+abbrev pub answering : Asked → Variables → List (List ℕ) → Answering
+answering Check vars extras = ChecksAs vars extras
+answering (Matrix limit) vars extras = MatrixAnswersAs limit vars extras
+answering (Same limit) vars extras = SameAnswersAs limit vars
+answering (Conflicts limit) vars extras = ConflictsAnswerAs limit vars
+answering Normal vars extras = NormalAnswersAs vars
+
+-- for which faults it may refuse them
+abbrev pub refusing : Asked → Variables → List (List ℕ) → Refusing
+refusing Check vars extras = CheckRefuses vars extras
+refusing (Matrix limit) vars extras = MatrixRefuses limit vars extras
+refusing (Same limit) vars extras = SameRefuses limit vars
+refusing (Conflicts limit) vars extras = ConflictsRefuse limit vars
+refusing Normal vars extras = NormalRefuses vars
+
+-- the command that is asked for ends so, with what its readers tell of its inputs
+abbrev pub RunsAsked : {W : Type 0} → Asked → Variables → List (List ℕ) → List (Option (List ℕ))
+    → (W → Option (List ℕ)) → W → W → Result Status RunFault → Type 0
+RunsAsked asked vars extras told contents old new result =
+    Runs (answering asked vars extras) (refusing asked vars extras) told contents old new result
+
+-- ---- its inputs as they are opened
+
+-- the inputs of a command, in the order of the command line
+abbrev pub inputs_of : Asked → List Input
+inputs_of Check = First ∷ Second ∷ Third ∷ []
+inputs_of (Matrix limit) = First ∷ Second ∷ Third ∷ []
+inputs_of (Same limit) = First ∷ Second ∷ []
+inputs_of (Conflicts limit) = First ∷ []
+inputs_of Normal = First ∷ []
+
+-- a command that has its inputs, and these in the same order
+abbrev pub asked_of : {S : Type 0} → Opened S → Asked
+asked_of (opened.Check requirements environment candidates) = Check
+asked_of (opened.Matrix requirements environments candidates limit) = Matrix limit
+asked_of (opened.Same left right limit) = Same limit
+asked_of (opened.Conflicts requirements limit) = Conflicts limit
+asked_of (opened.Normal requirements) = Normal
+
+abbrev pub readers_of : {S : Type 0} → Opened S → List S
+readers_of (opened.Check requirements environment candidates) = requirements ∷ environment ∷ candidates ∷ []
+readers_of (opened.Matrix requirements environments candidates limit) =
+    requirements ∷ environments ∷ candidates ∷ []
+readers_of (opened.Same left right limit) = left ∷ right ∷ []
+readers_of (opened.Conflicts requirements limit) = requirements ∷ []
+readers_of (opened.Normal requirements) = requirements ∷ []
+
+-- readers are what was given for the inputs, each at its place
+abbrev pub AreGiven : {S : Type 0} → (Input → Result S RunFault → Type 0) → List Input → List S → Type 0
+AreGiven gives inputs readers = AllZip (λ input reader. gives input (Ok reader)) inputs readers
+
+-- all inputs of a command are opened, or one is not
+abbrev pub Opens : {S : Type 0} → Asked → (Input → Result S RunFault → Type 0)
+    → Result (Opened S) RunFault → Type 0
+Opens asked gives (Ok opened) =
+    (asked_of opened ≡ asked) × AreGiven gives (inputs_of asked) (readers_of opened)
+Opens asked gives (Err fault) = (input : Input) × gives input (Err fault)
+
+-- ---- and the command on them
+
+-- the inputs as they were opened, and the command ends so with them
 pub record RunsAll {S W : Type 0} (asked : Asked) (gives : Input → Result S RunFault → Type 0)
     (remaining : S → Option (List ℕ)) (vars : Variables) (extras : List (List ℕ))
     (contents : W → Option (List ℕ)) (old new : W) (result : Result Status RunFault) : Type 0 where
-  pub requirements : S
-  pub environments : S
-  pub candidates : S
-  pub first : gives First (Ok requirements)
-  pub second : gives Second (Ok environments)
-  pub third : gives Third (Ok candidates)
-  pub runs : RunsAsked asked vars extras (remaining requirements) (remaining environments)
-      (remaining candidates) contents old new result
+  pub readers : List S
+  pub opened : AreGiven gives (inputs_of asked) readers
+  pub runs : RunsAsked asked vars extras (map remaining readers) contents old new result
 
 -- an input wasn't opened, or there was no memory for the variables, and nothing was written
 abbrev pub IsRefusedBefore : {S W : Type 0} → (Input → Result S RunFault → Type 0) → W → W

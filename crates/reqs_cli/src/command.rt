@@ -2,18 +2,18 @@
 
 ghost use Rattle.std.specs.Prelude.{◌≡◌, map, string_bytes, Result, IfErr};
 ghost use Rattle.std.specs.Process.{exit_status};
-ghost use Rattle.reqs_ends.specs.Ends.{of_input};
 ghost use Rattle.reqs_cli.specs.Exits.{status_after};
-ghost use Rattle.reqs_cli.specs.Opened.{RunsAsked, RunsOpened};
+ghost use Rattle.reqs_cli.specs.Opened.{RunsOpened};
 ghost use Rattle.reqs_cli.specs.Variables.{variables_in};
 
 use crate::asked::{Asked, matches};
+use crate::opened::{open_all, run_read};
 use crate::source::Source;
 use crate::variables::{entries, variables};
 use crate::words::{WordsFault, words};
 use clap::error::ErrorKind;
 use clap::{ArgMatches, Error};
-use reqs::{Input, RunFault, Status, Vars, check, matrix};
+use reqs::{Input, RunFault, Status};
 use std::alloc::Global;
 use std::fs::File;
 use std::io::{self, Read, Write};
@@ -78,7 +78,9 @@ fn refuse_words<R: Runtime>(rt: &R, error: &Error) -> ExitCode {
 
 /// Runs a command on the files that were named.
 fn run_asked<R: Runtime + AllocGlobal>(rt: &R, asked: Asked, given: &ArgMatches<'_>) -> ExitCode {
-    let paths = asked.paths(given);
+    let Ok(paths) = asked.paths(rt.alloc(), given) else {
+        return end(rt, MEMORY_STATUS, "out of memory");
+    };
     if paths.iter().filter(|path| **path == STANDARD_INPUT).count() > 1 {
         return end(
             rt,
@@ -95,20 +97,9 @@ fn run_asked<R: Runtime + AllocGlobal>(rt: &R, asked: Asked, given: &ArgMatches<
         &paths,
         given.get_strs("EXTRA").unwrap_or(&[]),
         &entries,
-        |input| open(rt, input, path_of(&paths, input)),
+        |input| open(rt, input, input.path(&paths)),
         &mut io::writer(rt),
     )
-}
-
-/// The path of an input.
-fn path_of<'a>(paths: &[&'a str; 3], input: Input) -> &'a str
-    ensures { result.now ≡ of_input (map (λ p. p.now) paths.now) input }
-{
-    match input {
-        Input::First => paths[0],
-        Input::Second => paths[1],
-        Input::Third => paths[2],
-    }
 }
 
 /// Runs a command on the inputs that `opener` gives, and ends the program as that ended.
@@ -153,57 +144,9 @@ where
     ensures { RunsOpened asked (F.post opener) S.remaining (variables_in (map string_bytes entries.now))
         (map (λ e. e.now) extras.now) W.contents output.old output.new result }
 {
-    let mut requirements = opener(Input::First)?;
-    let mut environments = opener(Input::Second)?;
-    let mut candidates = opener(Input::Third)?;
+    let mut opened = open_all(asked, opener)?;
     let vars = variables(alloc, entries)?;
-    run_read(
-        alloc,
-        asked,
-        &mut requirements,
-        &mut environments,
-        &mut candidates,
-        extras,
-        &vars,
-        output,
-    )
-}
-
-/// Runs a command on its inputs.
-fn run_read<S: Read, W: Write>(
-    alloc: Global,
-    asked: Asked,
-    requirements: &mut S,
-    environments: &mut S,
-    candidates: &mut S,
-    extras: &[&str],
-    vars: &Vars,
-    output: &mut W,
-) -> Result<Status, RunFault>
-    ensures { RunsAsked asked vars.now (map (λ e. e.now) extras.now) (S.remaining requirements.old)
-        (S.remaining environments.old) (S.remaining candidates.old) W.contents output.old output.new result }
-{
-    match asked {
-        Asked::Check => check(
-            alloc,
-            requirements,
-            environments,
-            candidates,
-            extras,
-            vars,
-            output,
-        ),
-        Asked::Matrix { limit } => matrix(
-            alloc,
-            requirements,
-            environments,
-            candidates,
-            extras,
-            vars,
-            limit,
-            output,
-        ),
-    }
+    run_read(alloc, &mut opened, extras, &vars, output)
 }
 
 /// Ends the program as a command ended, and says why where it was refused.

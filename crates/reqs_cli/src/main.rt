@@ -1,8 +1,9 @@
-//! `reqs`: reads Python requirement lists and judges them.
+//! `reqs`: reads Python requirement lists, judges them and compares them.
 #![tactic(auto)]
 
 mod asked;
 mod command;
+mod opened;
 mod source;
 mod variables;
 mod words;

@@ -1,5 +1,5 @@
 -- How a command ends, whatever its inputs and its answers are.
-use Rattle.std.specs.Prelude.{◌<◌, ℕ, List, [], length, take, get_or, Option, Result, Ok, Err}
+use Rattle.std.specs.Prelude.{◌≡◌, ◌<◌, ℕ, List, [], length, take, get_or, Option, Result, Ok, Err}
 use Rattle.std.specs.List.{AllByRecursion, AllZip}
 use Rattle.reqs_io.specs.declared.TheConstants.{INPUT_LIMIT}
 use Rattle.reqs_io.specs.Front.{AreAsTold, WritesWhole, AppendsFront}
@@ -55,3 +55,10 @@ pub record Runs {W : Type 0} (Answers : Answering) (Refused : Refusing) (told : 
   pub inputs : List (List ℕ)
   pub are_told : AllZip AreAsTold told inputs
   pub ends : EndsAs Answers Refused inputs contents old new result
+
+-- the text of an answer was written, and the command ends with this status; or a front of it was
+abbrev pub WritesAnswer : {W : Type 0} → (W → Option (List ℕ)) → W → W → List ℕ → Status
+    → Result Status RunFault → Type 0
+WritesAnswer contents old new text status (Ok ended) = (ended ≡ status) × WritesWhole contents old new text
+WritesAnswer contents old new text status (Err fault) =
+    (fault ≡ Write) × AppendsFront (contents old) (contents new) text

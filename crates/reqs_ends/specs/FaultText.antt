@@ -13,10 +13,13 @@ use Rattle.reqs_ends.specs.declared.fault.Input.{Input}
 use Rattle.reqs_ends.specs.declared.fault.Input.TheVariants.{First, Second, Third}
 use Rattle.reqs_ends.specs.declared.fault.JsonShape.{JsonShape}
 use Rattle.reqs_ends.specs.declared.fault.JsonShape.TheVariants as shapes
+use Rattle.reqs_ends.specs.declared.fault.RefusedCause.{RefusedCause}
+use Rattle.reqs_ends.specs.declared.fault.RefusedCause.TheVariants as refused
 use Rattle.reqs_ends.specs.declared.fault.RunFault.{RunFault}
 use Rattle.reqs_ends.specs.declared.fault.RunFault.TheVariants.{Read, Write, Memory, TooLong, NotText, Extra}
 use Rattle.reqs_ends.specs.declared.fault.RunFault.TheVariants.{Requirement, NumberAtEnd, Json, Float, Shape}
 use Rattle.reqs_ends.specs.declared.fault.RunFault.TheVariants.{Member, Version, Candidate, TooManyCases}
+use Rattle.reqs_ends.specs.declared.fault.RunFault.TheVariants.{Refused}
 
 -- an input, by its place on the command line
 abbrev pub input_words : Input → List ℕ
@@ -28,6 +31,15 @@ input_words Third = codes "third input"
 abbrev pub shape_text : JsonShape → List ℕ
 shape_text shapes.Object = codes "not an object"
 shape_text shapes.List = codes "not a list"
+
+-- why a line is neither compared nor put in the normal form
+abbrev pub refused_text : RefusedCause → List ℕ
+refused_text refused.Url = codes "URL"
+refused_text refused.ExactEqual = codes "==="
+refused_text refused.PostAfterBound = codes "post-release after a bound"
+refused_text refused.SingleQuote = codes "single quote"
+refused_text refused.DeprecatedKey = codes "deprecated key"
+refused_text refused.Bound = codes "version bound"
 
 -- something about a file
 abbrev pub input_text : List ℕ → List ℕ → List ℕ
@@ -71,6 +83,8 @@ fault_text said (Extra word) = Some (codes "extra " ++ word ++ codes " is no nam
 fault_text said (Requirement input number error) = requirement_text (said input) number error
 fault_text said (NumberAtEnd input number) =
     Some (line_text (said input) number (codes "a version number can't be raised"))
+fault_text said (Refused input number cause) =
+    Some (line_text (said input) number (refused_text cause))
 fault_text said (Json input) = Some (input_text (said input) (codes "not JSON"))
 fault_text said (Float input) = Some (input_text (said input) (codes "a number is a float"))
 fault_text said (Shape input wanted) = Some (input_text (said input) (shape_text wanted))

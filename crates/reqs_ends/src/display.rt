@@ -50,6 +50,11 @@ impl fmt::Display for RunFault {
                     "{input}: line {number}: a version number can't be raised"
                 )
             }
+            RunFault::Refused {
+                input,
+                number,
+                cause,
+            } => write!(f, "{input}: line {number}: {cause}"),
             RunFault::Candidate {
                 input,
                 number,

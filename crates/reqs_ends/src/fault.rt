@@ -6,7 +6,8 @@ ghost use Rattle.pep508_environment.specs.Environment.{member_name};
 ghost use Rattle.reqs_ends.specs.Ends.{place_of, of_input};
 ghost use Rattle.reqs_ends.specs.Faults.{status_of, IsOfEnvironment};
 ghost use Rattle.reqs_ends.specs.Faults.{of_reading, of_requirements, of_environment, of_candidates};
-ghost use Rattle.reqs_ends.specs.FaultText.{shape_text, input_text, line_text, member_text, cases_text};
+ghost use Rattle.reqs_ends.specs.FaultText.{shape_text, refused_text, input_text, line_text, member_text};
+ghost use Rattle.reqs_ends.specs.FaultText.{cases_text};
 ghost use Rattle.reqs_ends.specs.FaultText.{requirement_front, requirement_text, fault_text, HasItsFront};
 
 use pep508_environment::{EnvironmentError, EnvironmentMember};
@@ -41,7 +42,7 @@ impl Input {
     }
 
     /// The path of this input among those of a command line, empty where there is none.
-    fn path<'a>(self, paths: &[&'a str]) -> &'a str
+    pub fn path<'a>(self, paths: &[&'a str]) -> &'a str
         ensures { result.now ≡ of_input (map (λ p. p.now) paths.now) self }
     {
         match paths.get(self.place()) {
@@ -114,6 +115,49 @@ pub enum JsonShape {
     List,
 }
 
+/// Why a list of requirements is neither compared nor put in the normal form.
+#[derive(Clone, Copy, Debug, PartialEq, Eq)]
+pub enum RefusedCause {
+    /// The line has a URL in place of versions.
+    Url,
+    /// A specifier asks for a version's very text, by `===`.
+    ExactEqual,
+    /// A specifier has a post-release behind `<` or `>`.
+    PostAfterBound,
+    /// A text of the marker holds a single quote.
+    SingleQuote,
+    /// The marker asks for a key by a name that is no longer written, as `os.name`.
+    DeprecatedKey,
+    /// A version of the marker is no release of epoch 0 alone.
+    Bound,
+}
+
+impl RefusedCause {
+    /// What is refused, in a few words.
+    pub fn as_str(self) -> &'static str
+        ensures { result.now ≡ refused_text self }
+    {
+        match self {
+            RefusedCause::Url => "URL",
+            RefusedCause::ExactEqual => "===",
+            RefusedCause::PostAfterBound => "post-release after a bound",
+            RefusedCause::SingleQuote => "single quote",
+            RefusedCause::DeprecatedKey => "deprecated key",
+            RefusedCause::Bound => "version bound",
+        }
+    }
+}
+
+impl fmt::Display for RefusedCause {
+    ghost use Rattle.std.specs.Prelude.{Some};
+
+    ghost output = { λ cause. Some (refused_text cause) };
+
+    fn fmt<W: fmt::Write>(&self, f: &mut fmt::Formatter<W>) -> fmt::Result {
+        write!(f, "{}", self.as_str())
+    }
+}
+
 /// Why a command gave no answer. Lines and environments are numbered from 1.
 #[derive(Debug, Drop)]
 pub enum RunFault {
@@ -143,10 +187,17 @@ pub enum RunFault {
         number: usize,
         error: Pep508Error<VerbatimUrl>,
     },
-    /// The first line that is not taken has a marker with a version number that can't be raised.
+    /// The first line that is not taken has a version number that can't be raised, in its marker, or, where
+    /// lists are compared, in a specifier.
     NumberAtEnd {
         input: Input,
         number: usize,
+    },
+    /// The first line with something that can't be compared, or put in the normal form.
+    Refused {
+        input: Input,
+        number: usize,
+        cause: RefusedCause,
     },
     Json {
         input: Input,
@@ -306,6 +357,11 @@ impl RunFault {
                 let fault = "a version number can't be raised";
                 at_line(alloc, input.path(paths), *number, fault)
             }
+            RunFault::Refused {
+                input,
+                number,
+                cause,
+            } => { at_line(alloc, input.path(paths), *number, cause.as_str()) }
             RunFault::Candidate {
                 input,
                 number,

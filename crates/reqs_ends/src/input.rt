@@ -6,6 +6,7 @@ ghost use Rattle.std.specs.Str.{is_utf8};
 ghost use Rattle.std.specs.Str.Lossy.{utf8_valid_len};
 ghost use Rattle.serde_json.specs.Read.{read};
 ghost use Rattle.serde_json.specs.View.{view};
+ghost use Rattle.pep508_tree.specs.Meaning.{Extends};
 ghost use Rattle.reqs_ends.specs.Faults.{AnswersRun};
 ghost use Rattle.reqs_ends.specs.Inputs.{ReadsInput, extra_of, extras_of, AnswersLines};
 ghost use Rattle.reqs_ends.specs.Inputs.{environment_in, environment_from, candidates_from};
@@ -64,7 +65,8 @@ pub fn read_requirements(
     interner: &mut Interner,
     vars: &Vars,
 ) -> Result<Requirements, RunFault>
-    ensures { AnswersLines vars.now interner.new.nodes input bytes.old.items result }
+    ensures lines { AnswersLines vars.now interner.new.nodes input bytes.old.items result }
+    ensures keeps { Extends interner.old.nodes interner.new.nodes }
 {
     let read = Requirements::parse(alloc, bytes, interner, vars);
     *bytes = Vec::new(alloc);

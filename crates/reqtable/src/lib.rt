@@ -1,5 +1,6 @@
-//! Requirement lists and candidate lists, and their judge: which packages an environment asks for, and the
-//! greatest candidate that each of them may have.
+#![tactic(auto)]
+//! Requirement lists and candidate lists: their judge, which says for an environment which packages are asked
+//! for, and the greatest candidate that each of them may have; and what lists say by themselves.
 //!
 //! Lists are read once, and judged for as many environments as are wanted:
 //!
@@ -10,6 +11,22 @@
 //! let admission = Admission::new(|_, _| true);
 //! let answer = requirements.judge(alloc, &interner, &environment, &extras, &candidates, &admission)?;
 //! let text = answer.text(alloc, &candidates)?;
+//! ```
+//!
+//! Without any environment a list has one normal text and the lines that contradict each other, and two lists
+//! of one interner require the same or not:
+//!
+//! ```text
+//! let text = normal(alloc, &requirements, &interner)?;
+//! for conflict in &conflicts(alloc, &requirements, &mut interner, 4096)? {
+//!     println!(rt; "{}: {:?}", conflict.package, conflict.lines)?;
+//! }
+//! match same(alloc, &requirements, &others, &mut interner, 4096)? {
+//!     Same::Yes => println!(rt; "the same")?,
+//!     Same::No { package, tree } => {
+//!         println!(rt; "{package} where {}", MarkerTreeRef::new(alloc, &interner, tree))?
+//!     }
+//! }
 //! ```
 //!
 //! For many environments a table is made of the requirements beforehand, which takes them. Its answers
@@ -25,10 +42,14 @@
 //! ```
 //!
 //! The crates below hold the code; this one passes on what they offer, and requirements as `pep508_rs`.
-#![tactic(auto)]
+
+pub mod laws;
 
 pub use pep508_rs;
 pub use reqtable_answer::{Admission, Answer, Ask, AskSource, Outcome, Row, answer_to, ask_of};
+pub use reqtable_compare::{LineCause, Same, SameError, Side, same};
+pub use reqtable_conflicts::{Conflict, conflicts};
+pub use reqtable_normal::{NormalCause, NormalError, normal};
 pub use reqtable_requirements::{Line, Requirements, RequirementsError};
 pub use reqtable_table::{Case, Runs, Table, TableError};
 pub use reqtable_text::{Candidate, CandidateFault, Candidates, CandidatesError, Ordered, Placed};

@@ -6,7 +6,6 @@ use Rattle.std.specs.List.Sorted.{IsStrictlySortedBy}
 use Rattle.std.specs.Ordering.{nat_cmp, is_eq, ordering_reverse}
 use Rattle.std.specs.Cmp.Lexicographic.{slice_cmp}
 use Rattle.std.specs.Str.{bytes_eq}
-use Rattle.std.specs.declared.cmp.Ordering.{Ordering}
 use Rattle.std.proofs.lemmas.Cmp.{nat_list_cmp_total}
 use Rattle.std.proofs.lemmas.List.{length-map, append-nil}
 use Rattle.std.proofs.lemmas.Map.Text.{is_eq-slice_cmp}
@@ -14,10 +13,9 @@ use Rattle.version_ranges.specs.Point.{Point}
 use Rattle.version_ranges.specs.Held.{holds_at}
 use Rattle.pep440_version.specs.Record.{VersionRecord}
 use Rattle.pep440_version.specs.Order.{version_cmp}
-use Rattle.pep508_diagram.specs.Question.{Valuation}
 use Rattle.pep508_tree.specs.Tree.{Tree}
 use Rattle.pep508_tree.specs.Meaning.{NodeRecord}
-use Rattle.pep508_cases.specs.Cases.{Marks, same_marks, marks_cmp, sets_of, IsRealised, IsCase, AreCases}
+use Rattle.pep508_cases.specs.Cases.{Marks, same_marks, marks_cmp, sets_of, IsRealised, IsCase}
 use Rattle.pep508_cases.proofs.Marks.{marks_is}
 use Rattle.pep508_url.specs.Vars.{Variables}
 use Rattle.reqtable_answer.specs.Asks.{is_of}
@@ -27,7 +25,7 @@ use Rattle.reqtable_requirements.specs.LineReading.{LineRecord}
 use Rattle.reqtable_requirements.specs.Requirements.{StandsFor}
 use Rattle.reqtable_requirements.specs.declared.requirements.Line.{Line}
 use Rattle.reqtable_cases.specs.Lines.{line_marks, marked, numbers_of, asked_by, is_named}
-use Rattle.reqtable_cases.specs.Usable.{IsRangeOf, is_usable, points_of}
+use Rattle.reqtable_cases.specs.Usable.{IsRangeOf}
 use Rattle.reqtable_cases.specs.Conflicts.{IsConflict, AreConflicts}
 use Rattle.reqtable_table.specs.Cases.{HasItsCases, IsCaseOfLines, AreCasesOf, cases_under}
 use Rattle.reqtable_table.specs.Given.{is_under}

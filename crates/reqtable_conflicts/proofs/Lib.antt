@@ -2,3 +2,6 @@ pub mod Copied
 pub mod Gathered
 pub mod Picked
 pub mod Conflicting
+pub mod Numbered
+pub mod ReadFrom
+pub mod Taken

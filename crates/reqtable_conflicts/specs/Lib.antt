@@ -1,2 +1,3 @@
 pub mod Contradictions
 pub mod Picking
+pub mod NothingTaken

@@ -3,6 +3,7 @@
 #![tactic(auto)]
 
 mod contradicting;
+pub mod laws;
 mod lent_table;
 mod names;
 

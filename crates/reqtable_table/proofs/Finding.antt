@@ -1,9 +1,12 @@
 -- The first candidate that may be taken, and how many specifiers are asked up to it.
-use Rattle.std.proofs.Common.{◌≡◌, ◌∙◌, ◌≤◌, ◌<◌, ◌+◌, ◌&&◌, ℕ, zero, suc, Bool, true, false, cond, List, [], ◌∷◌, ◌++◌, map, take, length, get_or, find, Some, None, sym, ap, subst, arith}
+use Rattle.std.proofs.Common.{◌≡◌, ◌∙◌, ◌≤◌, ◌<◌, ◌+◌, ◌&&◌, ℕ, zero, suc, Bool, true, false, cond, List, [], ◌∷◌, ◌++◌, map, take, length, get_or, find, Option, Some, None, refl, sym, ap, subst, arith}
 use Rattle.std.proofs.lemmas.List.{take_more, map-append}
 use Rattle.std.proofs.lemmas.List.Folds.{find-append}
-use Rattle.std.specs.List.{list_all, AllByRecursion}
+use Rattle.std.specs.List.{list_all, AllByRecursion, AllWithin}
 use Rattle.std.specs.Option.{option_or}
+use Rattle.version_ranges.specs.Point.{Point, At}
+use Rattle.pep440_version.specs.Record.{VersionRecord}
+use Rattle.pep440_range.specs.Agreement.{IsSaid}
 use Rattle.pep508_requirement_text.specs.FrontReading.{Front}
 use Rattle.reqtable_text.specs.declared.candidates.Candidate.{Candidate}
 use Rattle.reqtable_text.specs.declared.ordered.Placed.{Placed}
@@ -12,7 +15,10 @@ use Rattle.reqtable_table.specs.Answers.{tests_for, most_tests}
 use Rattle.reqtable_answer.specs.Admission.{Admits}
 use Rattle.reqtable_answer.specs.Asks.{ask_takes, names_prerelease, may_be_taken}
 use Rattle.reqtable_table.specs.declared.kept.TableLine.{TableLine}
-use Rattle.reqtable_table.specs.Choosing.{case_asks, tests_at, AskedMore}
+use Rattle.reqtable_run.specs.InRun.{version_of}
+use Rattle.reqtable_run.specs.Told.{IsPassed}
+use Rattle.reqtable_run.proofs.Places.{same_there}
+use Rattle.reqtable_table.specs.Choosing.{case_asks, tests_at, AskedMore, Tells}
 use Rattle.reqtable_table.proofs.AskedLines.{records, more_on, more_within}
 use Rattle.reqtable_table.proofs.MarkedAsks.{same_asks}
 
@@ -107,3 +113,55 @@ module _ (marks : List Bool) (lines now later : List TableLine) (own : List Plac
   most_end =
       more_within (most_tests asks (map placed_seen (take (i + 1) own))) (most_tests asks (map placed_seen own))
       (records lines) (records later) (most_within asks placed_seen own (i + 1)) most_more
+
+-- ---- candidates that are passed over
+
+-- none of them is found
+module _ {A B : Type 0} (f : A → B) (p : B → Bool) where
+  find_by : (b : Bool) (y : B) (front later : List B) → cond b (Some y) (find p front) ≡ None →
+      (find p front ≡ None → find p later ≡ None) → cond b (Some y) (find p later) ≡ None
+  find_by true y front later none rest = absurd (cc)
+  find_by false y front later none rest = rest none
+
+  pub find_on : (xs : List A) (i j : ℕ) → find p (map f (take i xs)) ≡ None → AllWithin (λ x. p (f x) ≡ false) xs i j →
+      find p (map f (take j xs)) ≡ None
+  find_on xs i zero none fails = refl
+  find_on [] i (suc j) none fails = refl
+  find_on (x ∷ xs) zero (suc j) none fails =
+      ap (λ b. cond b (Some (f x)) (find p (map f (take j xs)))) (fails 0 x (omega arith) (omega arith))
+      ∙ find_on xs 0 j refl (λ k d l m. fails (suc k) d (omega arith) (omega arith))
+  find_on (x ∷ xs) (suc i) (suc j) none fails =
+      find_by (p (f x)) (f x) (map f (take i xs)) (map f (take j xs)) none (λ rest.
+      find_on xs i j rest (λ k d l m. fails (suc k) d (omega arith) (omega arith)))
+
+refuses : (asks : List Front) (bounded : Bool) (range : Option (List (Point VersionRecord))) (version : VersionRecord) →
+    Tells bounded range asks → IsSaid version → IsPassed bounded range version → list_all (ask_takes version) asks ≡ false
+refuses asked bounded None version tells said passed = absurd passed
+refuses asked bounded (Some set) version tells said passed =
+    sym (tells.exact version said passed.0 tells.range_is.0) ∙ sym (tells.range_is.1 (At version)) ∙ passed.1
+
+pub none_passed : (admits : Admits) (asks : List Front) (bounded : Bool) (range : Option (List (Point VersionRecord))) →
+    Tells bounded range asks → (own : List Placed) (i j : ℕ) → j ≤ length own → AllByRecursion (λ c. IsSaid c.1.version) (map placed_seen own) →
+    AllWithin (λ x. IsPassed bounded range (version_of x)) own i j →
+    AllWithin (λ x. may_be_taken admits asks (placed_seen x) ≡ false) own i j
+none_passed admits asks bounded range tells own i j within said passed k d l m =
+    let x = get_or own k d in
+    let is_said = all_at (λ c. IsSaid c.1.version) placed_seen own k x (omega arith) (same_there own k d x (omega arith)) said in
+    ap (λ b. b && admits (version_of x) (names_prerelease asks))
+    (refuses asks bounded range (version_of x) tells is_said (passed k d l m))
+
+-- and none is asked
+most_between : (asks : List Front) (xs : List Placed) (i j : ℕ) → i ≤ j →
+    most_tests asks (map placed_seen (take i xs)) ≤ most_tests asks (map placed_seen (take j xs))
+most_between asks xs zero j le = omega arith
+most_between asks xs (suc i) zero le = absurd (omega arith)
+most_between asks [] (suc i) (suc j) le = omega arith
+most_between asks (x ∷ xs) (suc i) (suc j) le = let rest = most_between asks xs i j (omega arith) in omega arith
+
+pub passed_more : (marks : List Bool) (lines later : List TableLine) (own : List Placed) (i j : ℕ) → i ≤ j →
+    AskedMore (most_tests (case_asks marks (records lines)) (map placed_seen (take i own))) (records later) (records lines) →
+    AskedMore (most_tests (case_asks marks (records lines)) (map placed_seen (take j own))) (records later) (records lines)
+passed_more marks lines later own i j le more =
+    let asks = case_asks marks (records lines) in
+    more_within (most_tests asks (map placed_seen (take i own))) (most_tests asks (map placed_seen (take j own)))
+    (records lines) (records later) (most_between asks own i j le) more

@@ -22,7 +22,8 @@ use Rattle.reqtable_cases.specs.Lines.{marked}
 use Rattle.reqtable_cases.specs.Usable.{IsRangeOf}
 use Rattle.reqtable_table.specs.Answers.{SameLine, SamePackage, kept_marks}
 use Rattle.reqtable_table.specs.Cases.{IsCaseOf, HasItsCases}
-use Rattle.reqtable_table.specs.Kept.{KeptLine, KeptCase, KeptPackage, Keeps, KeepsAll, kept_front, kept_under, names_in, is_bound}
+use Rattle.reqtable_run.specs.Told.{is_bound}
+use Rattle.reqtable_table.specs.Kept.{KeptLine, KeptCase, KeptPackage, Keeps, KeepsAll, kept_front, kept_under, names_in}
 use Rattle.reqtable_table.specs.Runs.{RunsRecord, AreRunsOf}
 use Rattle.reqtable_table.specs.Standing.{HasItsFlags, IsOfTexts, HasItsLines, IsTable}
 use Rattle.reqtable_table.proofs.AskedLines.{same_all, same_fronts, same_on}

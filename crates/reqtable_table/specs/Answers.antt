@@ -1,9 +1,8 @@
 -- What a table answers: the rows of the packages of which a line applies, and how many specifiers are asked
 -- for that.
-use Rattle.std.specs.Prelude.{◌≡◌, ◌+◌, ◌==◌, ◌&&◌, ℕ, Bool, List, [], ◌∷◌, map, filter, length, is_none}
+use Rattle.std.specs.Prelude.{◌≡◌, ◌+◌, ◌&&◌, ℕ, Bool, List, [], ◌∷◌, map, filter, length}
 use Rattle.std.specs.Prelude.{if◌then◌else◌}
 use Rattle.std.specs.List.{list_any, enumerate_from, AllZip}
-use Rattle.pep440_version.specs.Record.{VersionRecord}
 use Rattle.pep508_diagram.specs.Question.{Valuation}
 use Rattle.pep508_tree.specs.Meaning.{NodeRecord, holds}
 use Rattle.pep508_requirement_text.specs.FrontReading.{Front}
@@ -14,6 +13,7 @@ use Rattle.reqtable_answer.specs.Answer.{RowRecord, IsRowOf}
 use Rattle.reqtable_answer.specs.Asks.{is_candidate}
 use Rattle.reqtable_cases.specs.Lines.{marked}
 use Rattle.reqtable_cases.specs.Usable.{is_usable, members_asked}
+use Rattle.reqtable_run.specs.Told.{is_plain}
 use Rattle.reqtable_table.specs.Kept.{KeptLine, KeptPackage, kept_front}
 
 -- which of some kept lines apply, and what these ask for
@@ -44,10 +44,6 @@ AreRowsFor admits nodes v candidates table rows =
     AllZip (IsRowFor admits nodes v candidates) (filter (is_asked nodes v) table) rows
 
 -- ---- how many specifiers are asked
-
--- neither a local part nor a post-release
-abbrev pub is_plain : VersionRecord → Bool
-is_plain version = length version.local == 0 && is_none version.post
 
 -- for one candidate: none where it is plain and what is asked is usable, and else at most all specifiers
 abbrev pub tests_for : List Front → ℕ × Candidate → ℕ

@@ -1,6 +1,7 @@
 -- Choosing by a case: what its lines ask for, of which versions its range tells, what asking them changes.
-use Rattle.std.specs.Prelude.{◌≡◌, ◌≤◌, ◌+◌, ◌==◌, ◌&&◌, ◌||◌, ℕ, Bool, true, false, not, List, map, length}
-use Rattle.std.specs.Prelude.{find, Option, Some, None, is_none, option_map, if◌then◌else◌}
+use Rattle.std.specs.Prelude.{◌≡◌, ◌≤◌, ◌+◌, ◌&&◌, ℕ, Bool, true, false, List, map, length}
+use Rattle.std.specs.Prelude.{find, Option, Some, None, option_map, if◌then◌else◌}
+use Rattle.std.specs.Borrow.{Bor}
 use Rattle.std.specs.List.{list_any, list_all, AllZip}
 use Rattle.std.specs.List.Sorted.{IsStrictlySortedBy}
 use Rattle.std.specs.Ordering.{nat_cmp}
@@ -21,10 +22,12 @@ use Rattle.reqtable_answer.specs.Answer.{RowRecord, chosen}
 use Rattle.reqtable_answer.specs.Asks.{has_url, has_extra, ask_takes, may_be_taken}
 use Rattle.reqtable_cases.specs.Lines.{marked}
 use Rattle.reqtable_cases.specs.Usable.{is_usable, members_asked, points_of, IsRangeOf}
+use Rattle.reqtable_run.specs.Told.{is_plain, is_told}
+use Rattle.reqtable_table.specs.declared.kept.TableLine.{TableLine}
 use Rattle.reqtable_table.specs.Kept.{KeptLine, KeptPackage, kept_front}
 use Rattle.reqtable_table.specs.Cases.{HasItsCases}
 use Rattle.reqtable_table.specs.Counts.{tests_of}
-use Rattle.reqtable_table.specs.Answers.{kept_marks, kept_asked, is_asked, is_plain, SameLine}
+use Rattle.reqtable_table.specs.Answers.{kept_marks, kept_asked, is_asked, SameLine}
 
 -- what the marked lines ask for
 abbrev pub case_asks : Marks → List KeptLine → List Front
@@ -37,9 +40,9 @@ pub record AreApplying (marks : Marks) (kept : KeptPackage) : Type 0 where
   pub has : HasItsCases nodes kept
   pub are : marks ≡ kept_marks nodes valuation kept.lines
 
--- neither a local part, nor a post-release where a specifier is `<` or `>`
-abbrev pub is_told : Bool → VersionRecord → Bool
-is_told bounded version = length version.local == 0 && (is_none version.post || not bounded)
+-- a test of lines with these results answers so
+abbrev pub TestsBy : (Bor TableLine → Bool → Type 0) → (TableLine → Bool) → Type 0
+TestsBy returns says = (line : Bor TableLine) (answer : Bool) → returns line answer → answer ≡ says line.now
 
 -- a case's range, whose points are just the versions that the asks take, as far as it tells of them
 pub record Tells (bounded : Bool) (range : Option (List (Point VersionRecord)))

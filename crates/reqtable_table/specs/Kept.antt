@@ -8,11 +8,6 @@ use Rattle.std.specs.Str.{bytes_eq}
 use Rattle.version_ranges.specs.Point.{Point}
 use Rattle.pep440_version.specs.Record.{VersionRecord}
 use Rattle.pep440_version.specs.Changes.{is_prerelease}
-use Rattle.pep440_operator.specs.declared.operator.Operator.{Operator}
-use Rattle.pep440_operator.specs.declared.operator.Operator.TheVariants.{ExactEqual, LessThan, GreaterThan}
-use Rattle.pep440_operator.specs.declared.operator.Operator.TheVariants.{Equal, EqualStar, NotEqual}
-use Rattle.pep440_operator.specs.declared.operator.Operator.TheVariants.{NotEqualStar, TildeEqual}
-use Rattle.pep440_operator.specs.declared.operator.Operator.TheVariants.{LessThanEqual, GreaterThanEqual}
 use Rattle.pep440_specifier.specs.Matching.{SpecifierRecord}
 use Rattle.pep440_specifier_list.specs.Lists.{CountedRecord, IsInOrder}
 use Rattle.pep508_tree.specs.Tree.{Tree}
@@ -23,6 +18,7 @@ use Rattle.pep508_requirement_text.specs.FrontReading.Source.{Specifiers, Url}
 use Rattle.reqtable_answer.specs.Asks.{specifiers_of, is_url}
 use Rattle.reqtable_requirements.specs.LineReading.{LineRecord}
 use Rattle.reqtable_requirements.specs.Asks.{lines_of}
+use Rattle.reqtable_run.specs.Told.{is_bound}
 use Rattle.reqtable_cases.specs.Lines.{is_named}
 
 -- a line of a package: its number, extras and marker, whether it asks for a URL, whether one of its
@@ -47,19 +43,6 @@ pub record KeptPackage : Type 0 where
   pub name : List ℕ
   pub cases : List KeptCase
   pub lines : List KeptLine
-
--- `<` or `>`
-abbrev pub is_bound : Operator → Bool
-is_bound ExactEqual = false
-is_bound LessThan = true
-is_bound GreaterThan = true
-is_bound Equal = false
-is_bound EqualStar = false
-is_bound NotEqual = false
-is_bound NotEqualStar = false
-is_bound TildeEqual = false
-is_bound LessThanEqual = false
-is_bound GreaterThanEqual = false
 
 -- the names of a table's packages
 abbrev pub names_in : List KeptPackage → List (List ℕ)

@@ -5,7 +5,8 @@ use Rattle.pep440_version.specs.Changes.{is_prerelease}
 use Rattle.reqtable_table.specs.declared.given.Given.{Given}
 use Rattle.reqtable_table.specs.declared.kept.TableLine.{TableLine}
 use Rattle.reqtable_table.specs.declared.table.Package.{Package}
-use Rattle.reqtable_table.specs.Kept.{KeptLine, KeptPackage, is_bound}
+use Rattle.reqtable_run.specs.Told.{is_bound}
+use Rattle.reqtable_table.specs.Kept.{KeptLine, KeptPackage}
 use Rattle.reqtable_table.specs.Casing.{case_record}
 
 abbrev pub line_record : TableLine → KeptLine

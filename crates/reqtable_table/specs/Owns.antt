@@ -1,6 +1,5 @@
 -- What is known of packages' candidates, as records.
 use Rattle.std.specs.Prelude.{List, map}
-use Rattle.std.specs.Borrow.{Bor}
 use Rattle.reqtable_text.specs.Ordered.{placed_seen, OrderedRecord}
 use Rattle.reqtable_text.specs.declared.ordered.Placed.{Placed}
 use Rattle.reqtable_table.specs.declared.runs.Told.{Told}
@@ -9,10 +8,10 @@ use Rattle.reqtable_table.specs.Runs.{OwnRecord, RunsRecord}
 abbrev pub own_record : List Placed → Told → OwnRecord
 own_record run told = record { run = map placed_seen run; told = told.outcomes.items }
 
-abbrev pub runs_of : OrderedRecord → List (Bor (List Placed)) → List Told → RunsRecord
+abbrev pub runs_of : OrderedRecord → List (List Placed) → List Told → RunsRecord
 runs_of ordered runs told = record {
   candidates = ordered.candidates;
   placed = ordered.placed;
-  runs = map (λ run. map placed_seen run.now) runs;
+  runs = map (map placed_seen) runs;
   told = map (λ t. t.outcomes.items) told;
 }

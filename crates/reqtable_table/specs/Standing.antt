@@ -7,7 +7,8 @@ use Rattle.std.specs.Cmp.Lexicographic.{slice_cmp}
 use Rattle.pep440_version.specs.Changes.{is_prerelease}
 use Rattle.pep440_specifier.specs.Building.{IsBuilt}
 use Rattle.pep440_range.specs.Agreement.{IsSaid}
-use Rattle.reqtable_table.specs.Kept.{KeptLine, KeptPackage, names_in, is_bound}
+use Rattle.reqtable_run.specs.Told.{is_bound}
+use Rattle.reqtable_table.specs.Kept.{KeptLine, KeptPackage, names_in}
 
 -- a line's flags are those of its specifiers, and one of a URL has none
 pub record HasItsFlags (line : KeptLine) : Type 0 where

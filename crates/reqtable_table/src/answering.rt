@@ -31,8 +31,7 @@ impl Table {
     /// `Requirements::judge` answers for them.
     ///
     /// The interner is the one that the table was built with. Brings the candidates in order, looks for those
-    /// of each package, and answers as
-    /// `answer_among` does.
+    /// of each package, and answers as `answer_among` does.
     pub fn answer<F: Fn(&Version, bool) -> bool>(
         &mut self,
         alloc: Global,
@@ -64,9 +63,11 @@ impl Table {
     /// environments.
     ///
     /// Evaluates each line's marker, and finds a package's case in as many steps as the logarithm of its
-    /// cases. What is taken in a case is decided once: the candidates are looked at from the greatest version
-    /// down, up to the one that is taken. The case's range tells of those without a local part that are no
-    /// post-releases, and of post-releases too where no line of the case has `<` or `>`; the specifiers are
+    /// cases. What is taken in a case is decided once, from the greatest version down, up to the candidate
+    /// that is taken. The case's range tells of candidates without a local part that are no post-releases, and
+    /// of post-releases too where no line of the case has `<` or `>`. Those of them that lie between two of
+    /// its intervals are passed over together, in as many steps as the logarithms of the number of intervals
+    /// and of the package's candidates; each that an interval holds is admitted or not. The specifiers are
     /// asked of all others, or of all candidates where the case has no range. So the admission is that by
     /// which `runs` knows what was taken.
     pub fn answer_among<F: Fn(&Version, bool) -> bool>(

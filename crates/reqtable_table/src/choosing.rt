@@ -1,6 +1,6 @@
 //! Which of a package's candidates is taken, by the case of its lines that apply.
 
-ghost use Rattle.std.specs.Prelude.{◌≡◌, ◌≤◌, ◌<◌, ◌+◌, ℕ, length, map, find, IfOk, IfSome};
+ghost use Rattle.std.specs.Prelude.{◌≡◌, ◌≤◌, ◌<◌, ◌+◌, ℕ, Bool, length, map, find, IfOk, IfSome};
 ghost use Rattle.std.specs.List.{list_any, list_all, AllZip, AllByRecursion};
 ghost use Rattle.std.specs.Option.{option_map};
 ghost use Rattle.pep440_range.specs.Agreement.{IsSaid};
@@ -10,31 +10,34 @@ ghost use Rattle.reqtable_answer.specs.Asks.{specifiers_of, ask_takes, may_be_ta
 ghost use Rattle.reqtable_cases.specs.Lines.{marked};
 ghost use Rattle.reqtable_cases.specs.Usable.{IsRangeOf, members_asked};
 ghost use Rattle.reqtable_table.specs.Answers.{most_tests, SameLine};
-ghost use Rattle.reqtable_table.specs.Choosing.{case_asks, is_told, tests_at, AskedMore};
-ghost use Rattle.reqtable_table.specs.Choosing.{Tells};
+ghost use Rattle.reqtable_table.specs.Choosing.{case_asks, tests_at, AskedMore, Tells, TestsBy};
 ghost use Rattle.reqtable_table.specs.Counts.{tests_of};
 ghost use Rattle.reqtable_table.specs.Kept.{kept_front};
 ghost use Rattle.reqtable_table.specs.KeptLines.{line_record};
 ghost use Rattle.reqtable_table.specs.Standing.{HasItsFlags, IsOfTexts};
+ghost use Rattle.reqtable_table.specs.declared.kept.TableLine.{TableLine};
 
 use crate::kept::TableLine;
 use pep440_version::Version;
 use reqtable_answer::Admission;
-use reqtable_text::Placed;
+use reqtable_run::Run;
+use reqtable_run::telling::is_told;
 use std::alloc::{AllocError, Global};
 use version_ranges::Ranges;
 
 /// The place of the first candidate that all marked lines take and that is admitted.
 ///
 /// Where the case has a range it tells, without asking a specifier, of each candidate without a local part
-/// that is no post-release, and of post-releases too where no marked line has `<` or `>`. Any other candidate
-/// is asked of each specifier of the marked lines, up to the first that refuses.
+/// that is no post-release, and of post-releases too where no marked line has `<` or `>`; those of these that
+/// lie between two of its intervals are passed over together, in as many steps as the logarithms of the
+/// number of intervals and of the candidates. Any other candidate is asked of each specifier of the marked
+/// lines, up to the first that refuses.
 pub(crate) fn chosen<F: Fn(&Version, bool) -> bool>(
     alloc: Global,
     lines: &mut [TableLine],
     marks: &[bool],
     range: &Option<Ranges<Version>>,
-    own: &[Placed<'_>],
+    own: &Run<'_, '_>,
     admission: &Admission<F>,
 ) -> Result<Option<usize>, AllocError>
     requires callable { F.IsAlwaysCallable admission.now }
@@ -52,15 +55,18 @@ pub(crate) fn chosen<F: Fn(&Version, bool) -> bool>(
     ensures tests { tests_of (map line_record lines.new) ≤ tests_of (map line_record lines.old)
         + most_tests (case_asks marks.now (map line_record lines.old)) (map placed_seen own.now) }
 {
-    let bounded = any_bounded(lines, marks);
-    let prerelease = any_prerelease(lines, marks);
-    for placed in own {
+    let bounded = any_marked(lines, marks, |line: &TableLine| line.is_bounded);
+    let prerelease = any_marked(lines, marks, |line: &TableLine| line.names_prerelease);
+    let mut at = 0;
+    while at < own.len() {
+        let placed = own.at(at);
         let version = &placed.candidate.version;
         match takes(alloc, lines, marks, range, bounded, version) {
             Ok(taken) => {
                 if taken && admission.admits(version, prerelease) {
                     return Ok(Some(placed.place));
                 }
+                at = own.next(at, range, bounded);
             }
             Err(error) => return Err(error),
         }
@@ -68,26 +74,19 @@ pub(crate) fn chosen<F: Fn(&Version, bool) -> bool>(
     Ok(None)
 }
 
-/// Whether a marked line has `<` or `>`.
-fn any_bounded(lines: &[TableLine], marks: &[bool]) -> bool
-    requires { length marks.now ≡ length lines.now }
-    ensures { result ≡ list_any (λ line. line.is_bounded) (marked marks.now lines.now) }
+/// Whether a marked line passes a test.
+pub(crate) fn any_marked<F: Fn(&TableLine) -> bool>(
+    lines: &[TableLine],
+    marks: &[bool],
+    test: F,
+) -> bool
+    requires callable { F.IsAlwaysCallable test }
+    requires marks { length marks.now ≡ length lines.now }
+    ensures { (says : TableLine → Bool) → TestsBy (F.post test) says →
+        result ≡ list_any says (marked marks.now lines.now) }
 {
     for (index, line) in lines.iter().enumerate() {
-        if marks[index] && line.is_bounded {
-            return true;
-        }
-    }
-    false
-}
-
-/// Whether a marked line has a pre-release or developmental release.
-fn any_prerelease(lines: &[TableLine], marks: &[bool]) -> bool
-    requires { length marks.now ≡ length lines.now }
-    ensures { result ≡ list_any (λ line. line.names_prerelease) (marked marks.now lines.now) }
-{
-    for (index, line) in lines.iter().enumerate() {
-        if marks[index] && line.names_prerelease {
+        if marks[index] && test(line) {
             return true;
         }
     }
@@ -117,13 +116,6 @@ fn takes(
         }
     }
     takes_all(alloc, lines, marks, version)
-}
-
-/// Whether a case's range tells of the version.
-fn is_told(bounded: bool, version: &Version) -> bool
-    ensures { result ≡ is_told bounded version.now }
-{
-    version.local().is_empty() && (version.post().is_none() || !bounded)
 }
 
 /// Whether all marked lines take the version: each is asked, up to the first that refuses.

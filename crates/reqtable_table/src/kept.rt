@@ -3,14 +3,14 @@
 ghost use Rattle.std.specs.Prelude.{◌≡◌, map, IfOk};
 ghost use Rattle.std.specs.List.{list_any};
 ghost use Rattle.pep440_version.specs.Changes.{is_prerelease};
-ghost use Rattle.reqtable_table.specs.Kept.{is_bound};
 ghost use Rattle.reqtable_table.specs.KeptLines.{kept_by, line_record};
 
 use crate::given::Given;
-use pep440_specifier::{Operator, VersionSpecifier};
+use pep440_specifier::VersionSpecifier;
 use pep440_specifier_list::CountedSpecifiers;
 use pep508_name::ExtraName;
 use pep508_tree::MarkerTree;
+use reqtable_run::telling::has_bound;
 use std::alloc::{AllocError, Global};
 
 /// A line of a package.
@@ -58,30 +58,6 @@ fn kept_line(line: Given) -> TableLine
         is_bounded,
         names_prerelease,
         specifiers: CountedSpecifiers::new(specifiers),
-    }
-}
-
-fn has_bound(specifiers: &[VersionSpecifier]) -> bool
-    ensures { result ≡ list_any (λ s. is_bound s.operator) specifiers.now }
-{
-    specifiers
-        .iter()
-        .any(|specifier| is_bound(specifier.operator()))
-}
-
-fn is_bound(operator: Operator) -> bool
-    ensures { result ≡ is_bound operator }
-{
-    match operator {
-        Operator::LessThan | Operator::GreaterThan => true,
-        Operator::Equal
-        | Operator::EqualStar
-        | Operator::ExactEqual
-        | Operator::NotEqual
-        | Operator::NotEqualStar
-        | Operator::TildeEqual
-        | Operator::LessThanEqual
-        | Operator::GreaterThanEqual => false,
     }
 }
 

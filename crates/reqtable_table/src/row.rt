@@ -1,10 +1,9 @@
 //! The row of a package, where a line of it applies.
 
 ghost use Rattle.std.specs.Prelude.{◌≡◌, ◌≤◌, ◌<◌, ◌+◌, ℕ, ◌++◌, ◌∷◌, []};
-ghost use Rattle.std.specs.Prelude.{length, map, get_or, option_map, All};
-ghost use Rattle.std.specs.Prelude.{IfOk, OnOk, IfSome};
+ghost use Rattle.std.specs.Prelude.{length, map, get_or, option_map, All, IfOk, OnOk, IfSome};
 ghost use Rattle.std.specs.Option.{option_map_or};
-ghost use Rattle.std.specs.List.{list_any, AllZip, AllByRecursion};
+ghost use Rattle.std.specs.List.{AllZip, AllByRecursion};
 ghost use Rattle.pep440_range.specs.Agreement.{IsSaid};
 ghost use Rattle.reqtable_text.specs.Ordered.{placed_seen};
 ghost use Rattle.reqtable_answer.specs.Admission.{Admits, AnswersBy};
@@ -25,14 +24,15 @@ ghost use Rattle.reqtable_table.specs.Settings.{nodes_in, valuation_in};
 ghost use Rattle.reqtable_table.specs.Standing.{HasItsFlags, IsOfTexts, HasItsLines};
 
 use crate::asked::{case_in, extras_of, marks_in};
-use crate::choosing::chosen;
+use crate::choosing::{any_marked, chosen};
 use crate::kept::TableLine;
 use crate::runs::Told;
 use crate::setting::Setting;
 use crate::table::Package;
 use pep440_version::Version;
 use reqtable_answer::{Admission, Outcome, Row};
-use reqtable_text::{Ordered, Placed};
+use reqtable_run::Run;
+use reqtable_text::Ordered;
 use std::alloc::{AllocError, Global};
 use version_ranges::Ranges;
 
@@ -42,7 +42,7 @@ pub(crate) fn rows_of<F: Fn(&Version, bool) -> bool>(
     packages: &mut [Package],
     setting: &Setting<'_>,
     ordered: &Ordered<'_>,
-    runs: &[&[Placed<'_>]],
+    runs: &[Run<'_, '_>],
     told: &mut [Told],
     admission: &Admission<F>,
 ) -> Result<Vec<Row>, AllocError>
@@ -71,7 +71,7 @@ pub(crate) fn rows_of<F: Fn(&Version, bool) -> bool>(
             alloc,
             kept,
             setting,
-            runs[index],
+            &runs[index],
             &mut told[index],
             admission,
         )?;
@@ -95,7 +95,7 @@ fn row_of<F: Fn(&Version, bool) -> bool>(
     alloc: Global,
     kept: &mut Package,
     setting: &Setting<'_>,
-    own: &[Placed<'_>],
+    own: &Run<'_, '_>,
     told: &mut Told,
     admission: &Admission<F>,
 ) -> Result<Option<Row>, AllocError>
@@ -140,7 +140,7 @@ fn outcome_in<F: Fn(&Version, bool) -> bool>(
     kept: &mut Package,
     marks: &[bool],
     place: usize,
-    own: &[Placed<'_>],
+    own: &Run<'_, '_>,
     told: &mut Told,
     admission: &Admission<F>,
 ) -> Result<Outcome, AllocError>
@@ -184,7 +184,7 @@ fn outcome<F: Fn(&Version, bool) -> bool>(
     lines: &mut [TableLine],
     marks: &[bool],
     range: &Option<Ranges<Version>>,
-    own: &[Placed<'_>],
+    own: &Run<'_, '_>,
     admission: &Admission<F>,
 ) -> Result<Outcome, AllocError>
     requires callable { F.IsAlwaysCallable admission.now }
@@ -202,7 +202,7 @@ fn outcome<F: Fn(&Version, bool) -> bool>(
     ensures tests { tests_of (map line_record lines.new) ≤ tests_of (map line_record lines.old)
         + most_tests (case_asks marks.now (map line_record lines.old)) (map placed_seen own.now) }
 {
-    if any_url(lines, marks) {
+    if any_marked(lines, marks, |line: &TableLine| line.is_url) {
         return Ok(Outcome::Direct);
     }
     match chosen(alloc, lines, marks, range, own, admission) {
@@ -210,17 +210,4 @@ fn outcome<F: Fn(&Version, bool) -> bool>(
         Ok(None) => Ok(Outcome::Nothing),
         Err(error) => Err(error),
     }
-}
-
-/// Whether a marked line asks for a URL.
-fn any_url(lines: &[TableLine], marks: &[bool]) -> bool
-    requires { length marks.now ≡ length lines.now }
-    ensures { result ≡ list_any (λ line. line.is_url) (marked marks.now lines.now) }
-{
-    for (index, line) in lines.iter().enumerate() {
-        if marks[index] && line.is_url {
-            return true;
-        }
-    }
-    false
 }

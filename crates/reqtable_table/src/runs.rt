@@ -6,7 +6,8 @@ ghost use Rattle.reqtable_table.specs.Runs.{AreRunsOf, AreUntold};
 
 use crate::table::Table;
 use reqtable_answer::Outcome;
-use reqtable_text::{Ordered, Placed};
+use reqtable_run::Run;
+use reqtable_text::Ordered;
 use std::alloc::{AllocError, Global};
 use std::marker::Model;
 
@@ -20,7 +21,7 @@ pub(crate) struct Told {
 #[derive(Drop)]
 pub struct Runs<'o, 'a> {
     pub(crate) ordered: &'o Ordered<'a>,
-    pub(crate) runs: Vec<&'o [Placed<'a>]>,
+    pub(crate) runs: Vec<Run<'o, 'a>>,
     pub(crate) told: Vec<Told>,
 }
 
@@ -37,8 +38,9 @@ impl<'o, 'a> Model for Runs<'o, 'a> {
 
 impl Table {
     /// The candidates of each package of the table, for `answer_among`; of no case it is decided yet what is
-    /// taken. For n packages and m candidates that are O(n log m) comparisons of names; memory for a place for
-    /// each package and each case.
+    /// taken. For n packages and m candidates that are O(n log m) comparisons of names, and each candidate of
+    /// these packages is looked at twice. Memory for each package and each case, and for the place of each
+    /// candidate with a local part or a post-release.
     pub fn runs<'o, 'a>(
         &self,
         alloc: Global,
@@ -53,7 +55,7 @@ impl Table {
         let mut told = Vec::with_capacity(alloc, self.packages.len())?;
         for kept in &self.packages {
             told.push(untold(alloc, kept.cases.len())?)?;
-            runs.push(ordered.run_of(&kept.name))?;
+            runs.push(Run::of(alloc, ordered, &kept.name)?)?;
         }
         Ok(Runs {
             ordered,

@@ -18,15 +18,15 @@ pub returns-in_err-requirements : goal.returns-in_err-requirements
 unfolding texts_of
 returns-in_err-requirements c =
     let p = err_from_is_err_and c.from_residual-in_err-requirements.result c.from_residual-in_err-requirements.ensures.1 in
-    rw (p.1, p.2, c.in_ok-extras.ensures) (refuses_rest (IsOfTexts c.args.vars.now First c.args.requirements.now.items) _ _ _ c.in_err-requirements.ensures)
+    rw (p.1, p.2, c.in_ok-extras.ensures) (refuses_rest (IsOfTexts c.args.vars.now First c.args.requirements.now.items) _ _ _ c.in_err-requirements.ensures.lines)
 
 pub text_behind-requires : goal.text_behind-requires
 text_behind-requires c =
-    are_of_nodes c.args.vars.now _ _ c.in_ok-requirements.ensures.0 c.in_ok-requirements.ensures.2
+    are_of_nodes c.args.vars.now _ _ c.in_ok-requirements.ensures.lines.0 c.in_ok-requirements.ensures.lines.2
 
 pub returns : goal.returns
 returns c =
     whole_check c.args.vars.now _ c.args.requirements.now.items c.args.environment.now.items c.args.candidates.now.items c.deref.result.now
-    c.in_ok-requirements.ensures.0 (c.in_ok-extras.ensures ∙ ap (λ l. Ok l) (sym c.deref.ensures.value))
-    c.in_ok-requirements.ensures.1 c.text_behind.result
-    (c.text_behind.ensures c.args.vars.now c.in_ok-requirements.ensures.0 c.in_ok-requirements.ensures.2)
+    c.in_ok-requirements.ensures.lines.0 (c.in_ok-extras.ensures ∙ ap (λ l. Ok l) (sym c.deref.ensures.value))
+    c.in_ok-requirements.ensures.lines.1 c.text_behind.result
+    (c.text_behind.ensures c.args.vars.now c.in_ok-requirements.ensures.lines.0 c.in_ok-requirements.ensures.lines.2)

@@ -1,14 +1,15 @@
 use Rattle.std.proofs.Common.{◌≡◌, ℕ, ◌∷◌, [], Vec, Global, refl, rules, string_bytes}
 use Rattle.std.proofs.lemmas.Result.{err_from_is_err_and}
+use Rattle.reqs_ends.specs.declared.fault.Input.TheVariants.{First}
 use Rattle.reqs_ends.specs.declared.fault.Status.TheVariants.{Answered}
-use Rattle.reqs_ends.proofs.Steps.{first_unread, second_unread, third_unread, texts_refused}
-use Rattle.reqs.proofs.Whole.{may_be_said}
+use Rattle.reqs_ends.proofs.Steps.{first_unread, second_unread, third_unread, answered}
+use Rattle.reqs.proofs.Whole.{may_be_said, list_refused}
 use Rattle.reqs.proofs.matrices.matrix.Goals as goal
 
 pub returns-in_err-requirements-clause-runs : goal.returns-in_err-requirements-clause-runs
 returns-in_err-requirements-clause-runs g c =
     let p = err_from_is_err_and c.from_residual.result c.from_residual.ensures.1 in
-    rw (p.1, p.2) (first_unread _ _ _ _ _ _ _ _ (λ (bytes : Vec ℕ Global). bytes.items) _ c.in_err-requirements.ensures)
+    rw (p.1, p.2) (first_unread _ _ _ _ _ _ _ (λ (bytes : Vec ℕ Global). bytes.items) _ c.in_err-requirements.ensures)
 
 pub returns-in_err-environments-clause-runs : goal.returns-in_err-environments-clause-runs
 returns-in_err-environments-clause-runs g c =
@@ -21,42 +22,33 @@ pub returns-in_err-candidates-clause-runs : goal.returns-in_err-candidates-claus
 returns-in_err-candidates-clause-runs g c =
     let p = err_from_is_err_and c.from_residual-in_err-candidates.result c.from_residual-in_err-candidates.ensures.1 in
     rw (p.1, p.2)
-    (third_unread _ _ _ _ _ _ _ _ c.in_ok-requirements.requirements.items c.in_ok-requirements.ensures
+    (third_unread _ _ _ _ _ _ _ _ _ c.in_ok-requirements.requirements.items c.in_ok-requirements.ensures
     c.in_ok-environments.environments.items c.in_ok-environments.ensures
     (λ (bytes : Vec ℕ Global). bytes.items) _ c.in_err-candidates.ensures)
 
 pub returns-in_err-text-clause-runs : goal.returns-in_err-text-clause-runs
 returns-in_err-text-clause-runs g c =
     let p = err_from_is_err_and c.from_residual-in_err-text.result c.from_residual-in_err-text.ensures.1 in
+    let first = c.in_ok-requirements in
+    let second = c.in_ok-environments in
+    let third = c.in_ok-candidates in
     let told = c.in_err-text.ensures in
     rw (p.1, p.2)
-    (texts_refused _ _ _ _ _ _ _ _ c.in_ok-requirements.requirements.items c.in_ok-requirements.ensures
-    c.in_ok-environments.environments.items c.in_ok-environments.ensures
-    c.in_ok-candidates.candidates.items c.in_ok-candidates.ensures c.args.vars.now _
-    (may_be_said c.args.vars.now _ _ c.args.limit _ _ told) told)
-
-pub returns-in-Ok-clause-runs : goal.returns-in-Ok-clause-runs
-returns-in-Ok-clause-runs g c =
-    let answer = c.in_ok-text.ensures in
-    let bytes : c.as_bytes.result.now ≡ string_bytes c.in_ok-text.text = search rules in
-    record {
-      inputs = c.in_ok-requirements.requirements.items ∷ c.in_ok-environments.environments.items ∷ c.in_ok-candidates.candidates.items ∷ [];
-      are_told = (c.in_ok-requirements.ensures.0, (c.in_ok-environments.ensures.0, (c.in_ok-candidates.ensures.0, tt)));
-      ends = (
-        (c.in_ok-requirements.ensures.1, (c.in_ok-environments.ensures.1, (c.in_ok-candidates.ensures.1, tt))),
-        (string_bytes c.in_ok-text.text, (refl, answer), rw bytes at c.in-Ok.ensures.all),
-      );
-    }
+    (list_refused _ _ _ _ _ _
+    (first.requirements.items ∷ second.environments.items ∷ third.candidates.items ∷ [])
+    (first.ensures.0, (second.ensures.0, (third.ensures.0, tt)))
+    (first.ensures.1, (second.ensures.1, (third.ensures.1, tt)))
+    c.args.vars.now First first.requirements.items _ (may_be_said c.args.vars.now _ _ c.args.limit _ _ told) told)
 
 pub returns-clause-runs : goal.returns-clause-runs
 returns-clause-runs g c =
-    let answer = c.in_ok-text.ensures in
-    let bytes : c.as_bytes.result.now ≡ string_bytes c.in_ok-text.text = search rules in
-    record {
-      inputs = c.in_ok-requirements.requirements.items ∷ c.in_ok-environments.environments.items ∷ c.in_ok-candidates.candidates.items ∷ [];
-      are_told = (c.in_ok-requirements.ensures.0, (c.in_ok-environments.ensures.0, (c.in_ok-candidates.ensures.0, tt)));
-      ends = (
-        (c.in_ok-requirements.ensures.1, (c.in_ok-environments.ensures.1, (c.in_ok-candidates.ensures.1, tt))),
-        (Answered, string_bytes c.in_ok-text.text, (refl, answer), rw bytes at c.in-Err.ensures.front),
-      );
-    }
+    let first = c.in_ok-requirements in
+    let second = c.in_ok-environments in
+    let third = c.in_ok-candidates in
+    let bytes : c.as_str.result.now ≡ string_bytes c.in_ok-text.text = search rules in
+    answered _ _ _ _ _ _
+    (first.requirements.items ∷ second.environments.items ∷ third.candidates.items ∷ [])
+    (first.ensures.0, (second.ensures.0, (third.ensures.0, tt)))
+    (first.ensures.1, (second.ensures.1, (third.ensures.1, tt)))
+    Answered (string_bytes c.in_ok-text.text) (refl, c.in_ok-text.ensures) c.write_answer.result
+    (rw bytes at c.write_answer.ensures)

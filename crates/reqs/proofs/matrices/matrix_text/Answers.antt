@@ -17,14 +17,14 @@ pub returns-in_err-requirements : goal.returns-in_err-requirements
 unfolding texts_of
 returns-in_err-requirements c =
     let p = err_from_is_err_and c.from_residual-in_err-requirements.result c.from_residual-in_err-requirements.ensures.1 in
-    rw (p.1, p.2, c.in_ok-extras.ensures) (inl (refuses_rest (IsOfTexts c.args.vars.now First c.args.requirements.now.items) _ _ _ c.in_err-requirements.ensures))
+    rw (p.1, p.2, c.in_ok-extras.ensures) (inl (refuses_rest (IsOfTexts c.args.vars.now First c.args.requirements.now.items) _ _ _ c.in_err-requirements.ensures.lines))
 
 pub matrix_behind-requires : goal.matrix_behind-requires
-matrix_behind-requires c = (c.args.vars.now, c.in_ok-requirements.ensures.0, c.in_ok-requirements.ensures.2)
+matrix_behind-requires c = (c.args.vars.now, c.in_ok-requirements.ensures.lines.0, c.in_ok-requirements.ensures.lines.2)
 
 pub returns : goal.returns
 returns c =
     whole_matrix c.args.vars.now _ c.args.requirements.now.items c.args.environments.now.items c.args.candidates.now.items c.deref.result.now
-    c.in_ok-requirements.ensures.0 (c.in_ok-extras.ensures ∙ ap (λ l. Ok l) (sym c.deref.ensures.value))
-    c.in_ok-requirements.ensures.1 c.args.limit c.matrix_behind.result
-    (c.matrix_behind.ensures c.args.vars.now c.in_ok-requirements.ensures.0 c.in_ok-requirements.ensures.2)
+    c.in_ok-requirements.ensures.lines.0 (c.in_ok-extras.ensures ∙ ap (λ l. Ok l) (sym c.deref.ensures.value))
+    c.in_ok-requirements.ensures.lines.1 c.args.limit c.matrix_behind.result
+    (c.matrix_behind.ensures c.args.vars.now c.in_ok-requirements.ensures.lines.0 c.in_ok-requirements.ensures.lines.2)

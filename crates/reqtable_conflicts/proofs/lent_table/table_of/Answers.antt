@@ -1,4 +1,4 @@
-use Rattle.std.proofs.Common.{◌≤◌, ◌+◌, ◌*◌, ℕ, length, subst}
+use Rattle.std.proofs.Common.{◌≤◌, ◌+◌, ◌*◌, ℕ, subst}
 use Rattle.reqtable_conflicts.proofs.Copied.{trees_copied, said_copied, as_many}
 use Rattle.reqtable_conflicts.proofs.lent_table.table_of.Goals as goal
 

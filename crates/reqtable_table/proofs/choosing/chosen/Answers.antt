@@ -1,107 +1,116 @@
-use Rattle.std.proofs.Common.{◌∙◌, ◌<◌, refl, sym, ap, subst, option_map}
+use Rattle.std.proofs.Common.{◌∙◌, ◌<◌, ◌+◌, refl, sym, ap, subst, option_map, rules, arith}
 use Rattle.pep440_range.specs.Agreement.{IsSaid}
 use Rattle.reqtable_text.specs.Ordered.{placed_seen}
 use Rattle.reqtable_answer.specs.Asks.{may_be_taken}
 use Rattle.reqtable_table.specs.Choosing.{case_asks, Tells}
 use Rattle.reqtable_table.proofs.AskedLines.{records, none_more}
-use Rattle.reqtable_table.proofs.Finding.{find_here, find_none, all_at, is_refused, as_admitted, most_more, most_end}
+use Rattle.reqtable_table.proofs.Finding.{find_here, find_none, find_on, none_passed, passed_more, all_at, is_refused, as_admitted, most_more, most_end}
 use Rattle.reqtable_table.proofs.MarkedAsks.{same_asks, same_answer}
 use Rattle.reqtable_table.proofs.Telling.{case_tells, case_names}
 use Rattle.reqtable_table.proofs.choosing.chosen.Goals as goal
 use Rattle.reqtable_table.proofs.choosing.chosen.Goals.{else-taken-via-then-taken+else-admits, else-taken-via-else-taken}
 
-pub loop-placed-init : goal.loop-placed-init
-loop-placed-init g c = record { more = none_more 0 (records c.args.lines.now); none = λ admits by. refl }
+pub loop-at-init : goal.loop-at-init
+loop-at-init g c = record { more = none_more 0 (records c.args.lines.now); none = λ admits by. refl }
 
 pub takes-requires-clause-tells : goal.takes-requires-clause-tells
 takes-requires-clause-tells g c =
     let marks = c.args.marks.now in
     let lines = c.args.lines.now in
-    let bounded = c.any_bounded-bounded.result in
-    let same = same_asks marks lines c.loop-placed.lines c.loop-placed.invariant.more.same in
+    let bounded = c.any_marked-bounded.result in
+    let same = same_asks marks lines c.loop-at.lines c.loop-at.invariant.more.same in
     subst (λ asks. Tells bounded c.args.range.now asks) (sym same)
     (case_tells marks lines c.args.range.now bounded c.requires.flags c.requires.read c.requires.ranged
-    c.any_bounded-bounded.ensures)
+    (c.any_marked-bounded.ensures (λ line. line.is_bounded) (λ line answer h. search rules)))
 
 pub takes-requires-clause-said : goal.takes-requires-clause-said
 takes-requires-clause-said g c =
-    all_at (λ x. IsSaid x.1.version) placed_seen c.args.own.now c.loop-placed.placed-index c.placed-item.result
-    c.loop-placed-test.true c.placed-item.is c.requires.said
+    all_at (λ x. IsSaid x.1.version) placed_seen c.args.own.now c.loop-at.at c.at-placed.result.now
+    (subst (λ n. c.loop-at.at < n) c.len.ensures c.loop-at-test.true) c.at-placed.ensures c.requires.said
 
 pub returns-then-admits-clause-chosen : goal.returns-then-admits-clause-chosen
 returns-then-admits-clause-chosen g c = λ admits by.
     let marks = c.args.marks.now in
     let lines = c.args.lines.now in
     let asks = case_asks marks (records lines) in
-    let item = c.placed-item.result in
+    let item = c.at-placed.result.now in
     let answer =
-    same_answer item.candidate.now.version marks lines c.loop-placed.lines c.in-Ok.taken
-    c.loop-placed.invariant.more.same c.in-Ok.ensures.answer in
+    same_answer item.candidate.now.version marks lines c.loop-at.lines c.in-Ok.taken
+    c.loop-at.invariant.more.same c.in-Ok.ensures.answer in
     let named =
-    case_names marks lines c.any_prerelease-prerelease.result c.requires.flags
-    c.any_prerelease-prerelease.ensures in
+    case_names marks lines c.any_marked-prerelease.result c.requires.flags
+    (c.any_marked-prerelease.ensures (λ line. line.names_prerelease) (λ line answer h. search rules)) in
     let passes =
-    as_admitted admits asks (placed_seen item) c.in-Ok.taken answer c.any_prerelease-prerelease.result
+    as_admitted admits asks (placed_seen item) c.in-Ok.taken answer c.any_marked-prerelease.result
     c.admits.result named (c.admits.ensures admits by) c.if-taken.true ∙ c.if-admits.true in
     sym (ap (option_map (λ x. x.0))
-    (find_here placed_seen (may_be_taken admits asks) c.args.own.now c.loop-placed.placed-index item
-    c.loop-placed-test.true c.placed-item.is (c.loop-placed.invariant.none admits by) passes))
+    (find_here placed_seen (may_be_taken admits asks) c.args.own.now c.loop-at.at item
+    (subst (λ n. c.loop-at.at < n) c.len.ensures c.loop-at-test.true) c.at-placed.ensures (c.loop-at.invariant.none admits by) passes))
 
 pub returns-then-admits-clause-below : goal.returns-then-admits-clause-below
 returns-then-admits-clause-below g c = λ count below.
-    all_at (λ x. x.0 < count) placed_seen c.args.own.now c.loop-placed.placed-index c.placed-item.result
-    c.loop-placed-test.true c.placed-item.is below
+    all_at (λ x. x.0 < count) placed_seen c.args.own.now c.loop-at.at c.at-placed.result.now
+    (subst (λ n. c.loop-at.at < n) c.len.ensures c.loop-at-test.true) c.at-placed.ensures below
 
 pub returns-then-admits-clause-kept : goal.returns-then-admits-clause-kept
 returns-then-admits-clause-kept g c =
-    (most_end c.args.marks.now c.args.lines.now c.loop-placed.lines c.takes.new.lines c.args.own.now
-    c.loop-placed.placed-index c.placed-item.result c.loop-placed-test.true c.placed-item.is
-    c.loop-placed.invariant.more c.takes.ensures.more).same
+    (most_end c.args.marks.now c.args.lines.now c.loop-at.lines c.takes.new.lines c.args.own.now
+    c.loop-at.at c.at-placed.result.now (subst (λ n. c.loop-at.at < n) c.len.ensures c.loop-at-test.true) c.at-placed.ensures
+    c.loop-at.invariant.more c.takes.ensures.more).same
 
 pub returns-then-admits-clause-tests : goal.returns-then-admits-clause-tests
 returns-then-admits-clause-tests g c =
-    (most_end c.args.marks.now c.args.lines.now c.loop-placed.lines c.takes.new.lines c.args.own.now
-    c.loop-placed.placed-index c.placed-item.result c.loop-placed-test.true c.placed-item.is
-    c.loop-placed.invariant.more c.takes.ensures.more).tests
+    (most_end c.args.marks.now c.args.lines.now c.loop-at.lines c.takes.new.lines c.args.own.now
+    c.loop-at.at c.at-placed.result.now (subst (λ n. c.loop-at.at < n) c.len.ensures c.loop-at-test.true) c.at-placed.ensures
+    c.loop-at.invariant.more c.takes.ensures.more).tests
 
 pub returns-in-Err-clause-kept : goal.returns-in-Err-clause-kept
 returns-in-Err-clause-kept g c =
-    (most_end c.args.marks.now c.args.lines.now c.loop-placed.lines c.takes.new.lines c.args.own.now
-    c.loop-placed.placed-index c.placed-item.result c.loop-placed-test.true c.placed-item.is
-    c.loop-placed.invariant.more c.takes.ensures.more).same
+    (most_end c.args.marks.now c.args.lines.now c.loop-at.lines c.takes.new.lines c.args.own.now
+    c.loop-at.at c.at-placed.result.now (subst (λ n. c.loop-at.at < n) c.len.ensures c.loop-at-test.true) c.at-placed.ensures
+    c.loop-at.invariant.more c.takes.ensures.more).same
 
 pub returns-in-Err-clause-tests : goal.returns-in-Err-clause-tests
 returns-in-Err-clause-tests g c =
-    (most_end c.args.marks.now c.args.lines.now c.loop-placed.lines c.takes.new.lines c.args.own.now
-    c.loop-placed.placed-index c.placed-item.result c.loop-placed-test.true c.placed-item.is
-    c.loop-placed.invariant.more c.takes.ensures.more).tests
+    (most_end c.args.marks.now c.args.lines.now c.loop-at.lines c.takes.new.lines c.args.own.now
+    c.loop-at.at c.at-placed.result.now (subst (λ n. c.loop-at.at < n) c.len.ensures c.loop-at-test.true) c.at-placed.ensures
+    c.loop-at.invariant.more c.takes.ensures.more).tests
 
-pub loop-placed-preserved : goal.loop-placed-preserved
-loop-placed-preserved g c =
+pub loop-at-preserved : goal.loop-at-preserved
+loop-at-preserved g c =
     let marks = c.args.marks.now in
     let lines = c.args.lines.now in
     let asks = case_asks marks (records lines) in
     let own = c.args.own.now in
-    let item = c.placed-item.result in
-    let so_far = c.loop-placed.invariant in
+    let at = c.loop-at.at in
+    let item = c.at-placed.result.now in
+    let so_far = c.loop-at.invariant in
+    let bounded = c.any_marked-bounded.result in
     let answer =
-    same_answer item.candidate.now.version marks lines c.loop-placed.lines c.in-Ok.taken so_far.more.same
+    same_answer item.candidate.now.version marks lines c.loop-at.lines c.in-Ok.taken so_far.more.same
     c.in-Ok.ensures.answer in
+    let tells =
+    case_tells marks lines c.args.range.now bounded c.requires.flags c.requires.read c.requires.ranged
+    (c.any_marked-bounded.ensures (λ line. line.is_bounded) (λ line answer h. search rules)) in
     record {
       more =
-          most_more marks lines c.loop-placed.lines c.takes.new.lines own c.loop-placed.placed-index item
-          c.loop-placed-test.true c.placed-item.is so_far.more c.takes.ensures.more;
+          passed_more marks lines c.takes.new.lines own (at + 1) c.next-at.result (omega (arith, c.next-at.ensures.behind))
+          (most_more marks lines c.loop-at.lines c.takes.new.lines own at item
+          (subst (λ n. c.loop-at.at < n) c.len.ensures c.loop-at-test.true) c.at-placed.ensures so_far.more c.takes.ensures.more);
       none = λ admits by.
-          find_none placed_seen (may_be_taken admits asks) own c.loop-placed.placed-index item c.loop-placed-test.true
-          c.placed-item.is (so_far.none admits by)
+          find_on placed_seen (may_be_taken admits asks) own (at + 1) c.next-at.result
+          (find_none placed_seen (may_be_taken admits asks) own at item (subst (λ n. c.loop-at.at < n) c.len.ensures c.loop-at-test.true)
+          c.at-placed.ensures (so_far.none admits by)
           (elim c.else-taken.branch [
             | else-taken-via-then-taken+else-admits w ↦
                 let named =
-                case_names marks lines c.any_prerelease-prerelease.result c.requires.flags
-                c.any_prerelease-prerelease.ensures in
-                as_admitted admits asks (placed_seen item) c.in-Ok.taken answer c.any_prerelease-prerelease.result
+                case_names marks lines c.any_marked-prerelease.result c.requires.flags
+                (c.any_marked-prerelease.ensures (λ line. line.names_prerelease) (λ line answer h. search rules)) in
+                as_admitted admits asks (placed_seen item) c.in-Ok.taken answer c.any_marked-prerelease.result
                 w.admits.result named (w.admits.ensures admits by) w.if-taken.true ∙ w.if-admits.false
             | else-taken-via-else-taken w ↦
                 is_refused admits asks (placed_seen item) c.in-Ok.taken answer w.if-taken.false
-          ]);
+          ]))
+          (none_passed admits asks bounded c.args.range.now tells own (at + 1) c.next-at.result c.next-at.ensures.within
+          c.requires.said c.next-at.ensures.passed);
     }

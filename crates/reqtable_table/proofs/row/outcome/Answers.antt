@@ -1,4 +1,4 @@
-use Rattle.std.proofs.Common.{◌∙◌, ◌<◌, Some, None, map, sym, subst}
+use Rattle.std.proofs.Common.{◌∙◌, ◌<◌, Some, None, map, sym, subst, rules}
 use Rattle.std.specs.Option.{IfSome}
 use Rattle.reqtable_text.specs.Ordered.{placed_seen}
 use Rattle.reqtable_table.specs.Choosing.{case_asks}
@@ -7,22 +7,22 @@ use Rattle.reqtable_table.proofs.MarkedAsks.{urls_asked}
 use Rattle.reqtable_table.proofs.Own.{direct_first, found_first}
 use Rattle.reqtable_table.proofs.row.outcome.Goals as goal
 
-pub returns-then-any_url-clause-outcome : goal.returns-then-any_url-clause-outcome
-returns-then-any_url-clause-outcome g c = λ admits by.
+pub returns-then-any_marked-clause-outcome : goal.returns-then-any_marked-clause-outcome
+returns-then-any_marked-clause-outcome g c = λ admits by.
     let marks = c.args.marks.now in
     let lines = c.args.lines.now in
     direct_first admits (case_asks marks (records lines)) (map placed_seen c.args.own.now)
-    (sym (urls_asked marks lines) ∙ sym c.any_url.ensures ∙ c.if-any_url.true)
+    (sym (urls_asked marks lines) ∙ sym (c.any_marked.ensures (λ line. line.is_url) (λ line answer h. search rules)) ∙ c.if-any_marked.true)
 
-pub returns-then-any_url-clause-kept : goal.returns-then-any_url-clause-kept
-returns-then-any_url-clause-kept g c = same_all (records c.args.lines.now)
+pub returns-then-any_marked-clause-kept : goal.returns-then-any_marked-clause-kept
+returns-then-any_marked-clause-kept g c = same_all (records c.args.lines.now)
 
 pub returns-in-Ok-Some-clause-outcome : goal.returns-in-Ok-Some-clause-outcome
 returns-in-Ok-Some-clause-outcome g c = λ admits by.
     let marks = c.args.marks.now in
     let lines = c.args.lines.now in
     found_first admits (case_asks marks (records lines)) (map placed_seen c.args.own.now) (Some c.in-Ok-Some.place)
-    (sym (urls_asked marks lines) ∙ sym c.any_url.ensures ∙ c.if-any_url.false)
+    (sym (urls_asked marks lines) ∙ sym (c.any_marked.ensures (λ line. line.is_url) (λ line answer h. search rules)) ∙ c.if-any_marked.false)
     (sym c.in-Ok-Some.field-0-is ∙ c.in-Ok-Some.ensures.chosen admits by)
 
 pub returns-in-Ok-Some-clause-below : goal.returns-in-Ok-Some-clause-below
@@ -34,5 +34,5 @@ returns-in-Ok-None-clause-outcome g c = λ admits by.
     let marks = c.args.marks.now in
     let lines = c.args.lines.now in
     found_first admits (case_asks marks (records lines)) (map placed_seen c.args.own.now) None
-    (sym (urls_asked marks lines) ∙ sym c.any_url.ensures ∙ c.if-any_url.false)
+    (sym (urls_asked marks lines) ∙ sym (c.any_marked.ensures (λ line. line.is_url) (λ line answer h. search rules)) ∙ c.if-any_marked.false)
     (sym c.in-Ok-None.field-0-is ∙ c.in-Ok-None.ensures.chosen admits by)

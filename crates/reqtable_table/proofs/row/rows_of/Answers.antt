@@ -1,6 +1,5 @@
 use Rattle.std.proofs.Common.{◌≡◌, ◌∙◌, ◌<◌, ◌+◌, ℕ, [], List, All, option_map, length, map, take, get_or, sym, ap, subst, arith}
 use Rattle.std.proofs.lemmas.List.{take_all, get_or-map, length-map}
-use Rattle.std.specs.Borrow.{Bor}
 use Rattle.reqtable_text.specs.Ordered.{placed_seen}
 use Rattle.reqtable_text.specs.declared.candidates.Candidate.{Candidate}
 use Rattle.reqtable_text.specs.declared.ordered.Placed.{Placed}
@@ -13,10 +12,10 @@ use Rattle.reqtable_table.proofs.Rows.{next_here, end_here, rows_here, seen_adde
 use Rattle.reqtable_table.proofs.Told.{told_long, told_own, own_told}
 use Rattle.reqtable_table.proofs.row.rows_of.Goals as goal
 
-abbrev seen : Bor (List Placed) → List (ℕ × Candidate)
-seen run = map placed_seen run.now
+abbrev seen : List Placed → List (ℕ × Candidate)
+seen = map placed_seen
 
-own_of : (runs : List (Bor (List Placed))) (i : ℕ) (run : Bor (List Placed)) → i < length (map seen runs) → run ≡ get_or runs i run →
+own_of : (runs : List (List Placed)) (i : ℕ) (run : List Placed) → i < length (map seen runs) → run ≡ get_or runs i run →
     (other : List (ℕ × Candidate)) → seen run ≡ get_or (map seen runs) i other
 own_of runs i run within is other =
     let long = length-map runs seen in
@@ -111,7 +110,7 @@ row_of-requires-clause-said g c =
     let within = subst (λ n. i < n) (sym c.loop-index.auto.packages) c.loop-index-test.true in
     let so = c.loop-index.invariant in
     let r = c.requires in
-    let own = map placed_seen c.index-runs-index.result.now in
+    let own = map placed_seen c.index-runs-index.result in
     let own_at = own_of c.args.runs.now i c.index-runs-index.result (within_runs nodes v all r.ordered old r.lines r.cases r.runs now i kept so.so_far within is) c.index-runs-index.is in
     said_here nodes v all r.ordered old r.lines r.cases r.runs now i kept so.so_far within is own own_at
 
@@ -128,7 +127,7 @@ row_of-requires-clause-told g c =
     let within = subst (λ n. i < n) (sym c.loop-index.auto.packages) c.loop-index-test.true in
     let so = c.loop-index.invariant in
     let r = c.requires in
-    let own = map placed_seen c.index-runs-index.result.now in
+    let own = map placed_seen c.index-runs-index.result in
     let own_at = own_of c.args.runs.now i c.index-runs-index.result (within_runs nodes v all r.ordered old r.lines r.cases r.runs now i kept so.so_far within is) c.index-runs-index.is in
     told_own _ now all.runs c.loop-index.told i kept so.told within is own (own_at own) (get_or c.loop-index.told i c.index-told-index.result)
     (ap (get_or c.loop-index.told i) c.index-told-index.is)
@@ -146,7 +145,7 @@ returns-in_err-row-clause-kept g c =
     let within = subst (λ n. i < n) (sym c.loop-index.auto.packages) c.loop-index-test.true in
     let so = c.loop-index.invariant in
     let r = c.requires in
-    let own = map placed_seen c.index-runs-index.result.now in
+    let own = map placed_seen c.index-runs-index.result in
     let own_at = own_of c.args.runs.now i c.index-runs-index.result (within_runs nodes v all r.ordered old r.lines r.cases r.runs now i kept so.so_far within is) c.index-runs-index.is in
     (end_here nodes v all r.ordered old r.lines r.cases r.runs now i kept so.so_far within is own own_at c.row_of.new.kept c.row_of.ensures.same c.row_of.ensures.tests).0
 
@@ -163,7 +162,7 @@ returns-in_err-row-clause-told g c =
     let within = subst (λ n. i < n) (sym c.loop-index.auto.packages) c.loop-index-test.true in
     let so = c.loop-index.invariant in
     let r = c.requires in
-    let own = map placed_seen c.index-runs-index.result.now in
+    let own = map placed_seen c.index-runs-index.result in
     let own_at = own_of c.args.runs.now i c.index-runs-index.result (within_runs nodes v all r.ordered old r.lines r.cases r.runs now i kept so.so_far within is) c.index-runs-index.is in
     own_told _ now all.runs c.loop-index.told i kept so.told within is own (own_at own) c.row_of.new.kept c.row_of.new.told c.row_of.ensures.same c.row_of.ensures.told
 
@@ -180,7 +179,7 @@ returns-in_err-row-clause-tests g c =
     let within = subst (λ n. i < n) (sym c.loop-index.auto.packages) c.loop-index-test.true in
     let so = c.loop-index.invariant in
     let r = c.requires in
-    let own = map placed_seen c.index-runs-index.result.now in
+    let own = map placed_seen c.index-runs-index.result in
     let own_at = own_of c.args.runs.now i c.index-runs-index.result (within_runs nodes v all r.ordered old r.lines r.cases r.runs now i kept so.so_far within is) c.index-runs-index.is in
     (end_here nodes v all r.ordered old r.lines r.cases r.runs now i kept so.so_far within is own own_at c.row_of.new.kept c.row_of.ensures.same c.row_of.ensures.tests).1
 
@@ -197,7 +196,7 @@ returns-in_err-add_row-clause-kept g c =
     let within = subst (λ n. i < n) (sym c.loop-index.auto.packages) c.loop-index-test.true in
     let so = c.loop-index.invariant in
     let r = c.requires in
-    let own = map placed_seen c.index-runs-index.result.now in
+    let own = map placed_seen c.index-runs-index.result in
     let own_at = own_of c.args.runs.now i c.index-runs-index.result (within_runs nodes v all r.ordered old r.lines r.cases r.runs now i kept so.so_far within is) c.index-runs-index.is in
     (end_here nodes v all r.ordered old r.lines r.cases r.runs now i kept so.so_far within is own own_at c.row_of.new.kept c.row_of.ensures.same c.row_of.ensures.tests).0
 
@@ -214,7 +213,7 @@ returns-in_err-add_row-clause-told g c =
     let within = subst (λ n. i < n) (sym c.loop-index.auto.packages) c.loop-index-test.true in
     let so = c.loop-index.invariant in
     let r = c.requires in
-    let own = map placed_seen c.index-runs-index.result.now in
+    let own = map placed_seen c.index-runs-index.result in
     let own_at = own_of c.args.runs.now i c.index-runs-index.result (within_runs nodes v all r.ordered old r.lines r.cases r.runs now i kept so.so_far within is) c.index-runs-index.is in
     own_told _ now all.runs c.loop-index.told i kept so.told within is own (own_at own) c.row_of.new.kept c.row_of.new.told c.row_of.ensures.same c.row_of.ensures.told
 
@@ -231,7 +230,7 @@ returns-in_err-add_row-clause-tests g c =
     let within = subst (λ n. i < n) (sym c.loop-index.auto.packages) c.loop-index-test.true in
     let so = c.loop-index.invariant in
     let r = c.requires in
-    let own = map placed_seen c.index-runs-index.result.now in
+    let own = map placed_seen c.index-runs-index.result in
     let own_at = own_of c.args.runs.now i c.index-runs-index.result (within_runs nodes v all r.ordered old r.lines r.cases r.runs now i kept so.so_far within is) c.index-runs-index.is in
     (end_here nodes v all r.ordered old r.lines r.cases r.runs now i kept so.so_far within is own own_at c.row_of.new.kept c.row_of.ensures.same c.row_of.ensures.tests).1
 
@@ -248,7 +247,7 @@ loop-index-preserved g c =
     let within = subst (λ n. i < n) (sym c.loop-index.auto.packages) c.loop-index-test.true in
     let so = c.loop-index.invariant in
     let r = c.requires in
-    let own = map placed_seen c.index-runs-index.result.now in
+    let own = map placed_seen c.index-runs-index.result in
     let own_at = own_of c.args.runs.now i c.index-runs-index.result (within_runs nodes v all r.ordered old r.lines r.cases r.runs now i kept so.so_far within is) c.index-runs-index.is in
     let rows = c.loop-index.rows.items in
     let row = c.in_ok-row.row in

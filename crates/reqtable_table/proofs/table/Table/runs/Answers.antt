@@ -18,18 +18,18 @@ loop-kept-preserved c =
     let runs = c.loop-kept.runs.items in
     let told = c.loop-kept.told.items in
     let placed = c.args.ordered.now.placed in
-    let own = map placed_seen c.run_of.result.now in
-    let pushed = ap (map (λ run. map placed_seen run.now)) c.in_ok-push-2.ensures.items ∙ map-append (λ run. map placed_seen run.now) runs _ in
+    let own = map placed_seen c.in_ok-of.field-0 in
+    let pushed = ap (map (map placed_seen)) c.in_ok-push-2.ensures.items ∙ map-append (map placed_seen) runs _ in
     record {
       are =
           zip_pushed (λ (k : KeptPackage) run. run ≡ filter (is_candidate k.name) placed) (map package_record (take i items))
-          (map package_record (take (i + 1) items)) (map (λ run. map placed_seen run.now) runs)
-          (map (λ run. map placed_seen run.now) c.push-in-loop-kept.new.self.items) (package_record kept) own
+          (map package_record (take (i + 1) items)) (map (map placed_seen) runs)
+          (map (map placed_seen) c.push-in-loop-kept.new.self.items) (package_record kept) own
           (seen_more package_record items i kept c.loop-kept-test.true c.kept-item.is) pushed
-          c.loop-kept.invariant.are c.run_of.ensures;
+          c.loop-kept.invariant.are c.in_ok-of.ensures;
       none =
           zip_pushed (λ (run : List (ℕ × Candidate)) (t : List (Option Outcome)). (place : ℕ) → get_or t place None ≡ None)
-          (map (λ run. map placed_seen run.now) runs) (map (λ run. map placed_seen run.now) c.push-in-loop-kept.new.self.items)
+          (map (map placed_seen) runs) (map (map placed_seen) c.push-in-loop-kept.new.self.items)
           (map (λ t. t.outcomes.items) told) (map (λ t. t.outcomes.items) c.push.new.self.items) own
           c.in_ok-untold.field-0.outcomes.items pushed
           (ap (map (λ t. t.outcomes.items)) c.in_ok-push.ensures.items ∙ map-append (λ t. t.outcomes.items) told _)

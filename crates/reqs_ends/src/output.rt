@@ -1,0 +1,21 @@
+//! The output of a command: the text of its answer.
+
+ghost use Rattle.reqs_ends.specs.Ends.{WritesAnswer};
+
+use crate::fault::{RunFault, Status};
+use reqs_io::write_whole;
+use std::io::Write;
+
+/// Writes the text of an answer whole, by no write where it is empty, and ends with its status.
+pub fn write_answer<W: Write>(
+    output: &mut W,
+    text: &str,
+    status: Status,
+) -> Result<Status, RunFault>
+    ensures { WritesAnswer W.contents output.old output.new text.now status result }
+{
+    match write_whole(output, text.as_bytes()) {
+        Ok(()) => Ok(status),
+        Err(_) => Err(RunFault::Write),
+    }
+}

@@ -1,0 +1,100 @@
+-- What `same` does, from the bytes of two lists to those of its answer.
+use Rattle.std.specs.Prelude.{◌≡◌, ◌⊎◌, ℕ, List, [], ◌∷◌, ◌++◌, codes, unwrap_or, Option, Result, Err}
+use Rattle.pep508_url.specs.Vars.{Variables}
+use Rattle.pep508_diagram.specs.Diagram.{Diagram}
+use Rattle.pep508_diagram.specs.Question.{Question, Valuation, truth, IsCanonical}
+use Rattle.pep508_diagram.specs.Shortened.{HasShortVersions}
+use Rattle.pep508_tree.specs.Tree.{Tree}
+use Rattle.pep508_tree.specs.Meaning.{NodeRecord, holds}
+use Rattle.pep508_marker_text.specs.MarkerText.{marker_text}
+use Rattle.reqtable_requirements.specs.LineReading.{LineRecord}
+use Rattle.reqtable_cases.specs.Requires.{RequireTheSame, IsFirstDifference}
+use Rattle.reqtable_compare.specs.Compared.{MayCompare, Compares}
+use Rattle.reqtable_compare.specs.declared.sides.LineCause.{LineCause}
+use Rattle.reqtable_compare.specs.declared.sides.LineCause.TheVariants as cause
+use Rattle.reqtable_compare.specs.declared.sides.SameError.{SameError}
+use Rattle.reqtable_compare.specs.declared.sides.SameError.TheVariants as errors
+use Rattle.reqtable_compare.specs.declared.sides.Side.{Side}
+use Rattle.reqtable_compare.specs.declared.sides.Side.TheVariants.{Left, Right}
+use Rattle.reqs_ends.specs.declared.fault.Input.{Input}
+use Rattle.reqs_ends.specs.declared.fault.Input.TheVariants.{First, Second}
+use Rattle.reqs_ends.specs.declared.fault.RefusedCause.TheVariants as refused
+use Rattle.reqs_ends.specs.declared.fault.RunFault.{RunFault}
+use Rattle.reqs_ends.specs.declared.fault.RunFault.TheVariants as run
+use Rattle.reqs_ends.specs.declared.fault.Status.{Status}
+use Rattle.reqs_ends.specs.declared.fault.Status.TheVariants as status
+use Rattle.reqs_ends.specs.Ends.{Runs}
+use Rattle.reqs_lists.specs.Lists.{IsOfLists, two_lists, IsRead, RefusesLists}
+
+-- what two lists ask for
+abbrev pub Lists : Type 0
+Lists = List LineRecord × List LineRecord
+
+-- ---- the text
+
+-- where a difference is
+abbrev pub place_text : Diagram Question → List ℕ
+place_text diagram = unwrap_or (marker_text diagram) (codes "all environments")
+
+abbrev pub difference_text : List ℕ → Diagram Question → List ℕ
+difference_text name diagram =
+    codes "no\n" ++ (name ++ (codes "\n" ++ (place_text diagram ++ codes "\n")))
+
+-- ---- what lists are answered with
+
+-- the first package that differs, and the one diagram that asks nothing in vain, has each version in its
+-- shortest spelling, and holds just where the first two cases meet that require different things
+pub record IsToldDifference (lists : Lists) (name : List ℕ) (diagram : Diagram Question) : Type 0 where
+  pub nodes : List NodeRecord
+  pub tree : Tree
+  pub difference : IsFirstDifference lists.0 lists.1 nodes name tree
+  pub canonical : IsCanonical diagram
+  pub short : HasShortVersions diagram
+  pub means : (v : Valuation) → truth diagram v ≡ holds nodes tree v
+
+-- nothing is in the way of an answer, and both require the same, or differ first so
+abbrev pub IsSameAnswer : ℕ → Lists → Status → List ℕ → Type 0
+IsSameAnswer limit lists ended text =
+    MayCompare limit lists.0 lists.1
+    × (((ended ≡ status.Answered) × (text ≡ codes "yes\n") × RequireTheSame lists.0 lists.1)
+    ⊎ ((ended ≡ status.Different) × ((name : List ℕ) × (diagram : Diagram Question)
+    × IsToldDifference lists name diagram × (text ≡ difference_text name diagram))))
+
+-- ---- why they are refused
+
+abbrev pub input_of : Side → Input
+input_of Left = First
+input_of Right = Second
+
+abbrev pub line_fault : Input → ℕ → LineCause → RunFault
+line_fault input number cause.Url = run.Refused input number refused.Url
+line_fault input number cause.ExactEqual = run.Refused input number refused.ExactEqual
+line_fault input number cause.PostAfterBound = run.Refused input number refused.PostAfterBound
+line_fault input number cause.NumberAtEnd = run.NumberAtEnd input number
+
+abbrev pub fault_of : ℕ → SameError → RunFault
+fault_of limit (errors.Line side number why) = line_fault (input_of side) number why
+fault_of limit (errors.TooManyCases side name) = run.TooManyCases (input_of side) limit name
+fault_of limit errors.Memory = run.Memory
+
+-- the fault tells why lists that are read can't be compared
+abbrev pub CantBeCompared : ℕ → Lists → RunFault → Type 0
+CantBeCompared limit lists fault =
+    (error : SameError) × (fault ≡ fault_of limit error)
+    × ((nodes : List NodeRecord) × Compares limit nodes lists.0 lists.1 (Err error))
+
+-- ---- the command
+
+abbrev pub SameAnswersAs : ℕ → Variables → List (List ℕ) → Status → List ℕ → Type 0
+SameAnswersAs limit vars inputs ended text =
+    IsRead (two_lists vars inputs) (λ lists. IsSameAnswer limit lists ended text)
+
+abbrev pub SameRefuses : ℕ → Variables → List (List ℕ) → RunFault → Type 0
+SameRefuses limit vars inputs fault =
+    RefusesLists (IsOfLists vars inputs) (CantBeCompared limit) (two_lists vars inputs) fault
+
+-- `same` ends so, with what its readers tell of the left and the right list
+abbrev pub RunsSame : {W : Type 0} → ℕ → Variables → Option (List ℕ) → Option (List ℕ)
+    → (W → Option (List ℕ)) → W → W → Result Status RunFault → Type 0
+RunsSame limit vars left right contents old new result =
+    Runs (SameAnswersAs limit vars) (SameRefuses limit vars) (left ∷ right ∷ []) contents old new result

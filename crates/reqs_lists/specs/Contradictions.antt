@@ -1,0 +1,56 @@
+-- What `conflicts` does, from the bytes of a list to those of its conflicts.
+use Rattle.std.specs.Prelude.{◌≡◌, ℕ, List, [], ◌∷◌, ◌++◌, map, codes, Option, Result, Ok}
+use Rattle.std.specs.List.{flat_map, join_with_byte}
+use Rattle.std.specs.Fmt.{decimal}
+use Rattle.pep508_url.specs.Vars.{Variables}
+use Rattle.reqtable_requirements.specs.LineReading.{LineRecord}
+use Rattle.reqtable_cases.specs.Lines.{IsFirstTooMany}
+use Rattle.reqtable_conflicts.specs.Contradictions.{ConflictRecord, FindsConflicts}
+use Rattle.reqs_ends.specs.declared.fault.Input.TheVariants.{First}
+use Rattle.reqs_ends.specs.declared.fault.RunFault.{RunFault}
+use Rattle.reqs_ends.specs.declared.fault.RunFault.TheVariants as run
+use Rattle.reqs_ends.specs.declared.fault.Status.{Status}
+use Rattle.reqs_ends.specs.declared.fault.Status.TheVariants as status
+use Rattle.reqs_ends.specs.Ends.{Runs}
+use Rattle.reqs_lists.specs.Lists.{IsOfLists, one_list, IsRead, RefusesLists}
+
+-- ---- the text
+
+-- the package of a conflict, and the numbers of its lines with commas between them
+abbrev pub conflict_text : ConflictRecord → List ℕ
+conflict_text found =
+    found.name ++ (codes " " ++ (join_with_byte 44 (map decimal found.numbers) ++ codes "\n"))
+
+abbrev pub conflicts_text : List ConflictRecord → List ℕ
+conflicts_text found = flat_map conflict_text found
+
+-- ---- what lines are answered with
+
+-- the text of all conflicts, where no package has more cases than the limit
+abbrev pub IsConflictsAnswer : ℕ → List LineRecord → Status → List ℕ → Type 0
+IsConflictsAnswer limit lines ended text =
+    (ended ≡ status.Answered)
+    × ((found : List ConflictRecord) × FindsConflicts (λ all. all) limit lines (Ok found)
+    × (text ≡ conflicts_text found))
+
+-- the fault names the first package that has more
+abbrev pub HasTooManyCases : ℕ → List LineRecord → RunFault → Type 0
+HasTooManyCases limit lines fault =
+    (name : List ℕ) × (fault ≡ run.TooManyCases First limit name) × IsFirstTooMany limit lines name
+
+-- ---- the command
+
+abbrev pub ConflictsAnswerAs : ℕ → Variables → List (List ℕ) → Status → List ℕ → Type 0
+ConflictsAnswerAs limit vars inputs ended text =
+    IsRead (one_list vars inputs) (λ lines. IsConflictsAnswer limit lines ended text)
+
+abbrev pub ConflictsRefuse : ℕ → Variables → List (List ℕ) → RunFault → Type 0
+ConflictsRefuse limit vars inputs fault =
+    RefusesLists (IsOfLists vars inputs) (HasTooManyCases limit) (one_list vars inputs) fault
+
+-- `conflicts` ends so, with what its reader tells of the requirements
+abbrev pub RunsConflicts : {W : Type 0} → ℕ → Variables → Option (List ℕ) → (W → Option (List ℕ)) → W → W
+    → Result Status RunFault → Type 0
+RunsConflicts limit vars requirements contents old new result =
+    Runs (ConflictsAnswerAs limit vars) (ConflictsRefuse limit vars)
+    (requirements ∷ []) contents old new result

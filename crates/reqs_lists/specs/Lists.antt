@@ -1,0 +1,80 @@
+-- What the texts of requirement lists are, or what is at fault there; and how a command on them ends.
+use Rattle.std.specs.Prelude.{◌≡◌, ◌⊎◌, ℕ, List, Result, Ok, Err}
+use Rattle.std.specs.List.{AllZip}
+use Rattle.std.specs.String.{string_bytes}
+use Rattle.pep508_url.specs.Vars.{Variables}
+use Rattle.pep508_tree.specs.Meaning.{NodeRecord}
+use Rattle.reqtable_text.specs.TextLines.{text_lines}
+use Rattle.reqtable_requirements.specs.LineReading.{LineRecord}
+use Rattle.reqtable_requirements.specs.Requirements.{IsErrorIn, StandsFor}
+use Rattle.reqtable_requirements.specs.declared.requirements.Line.{Line}
+use Rattle.reqs_ends.specs.declared.fault.Input.TheVariants.{First, Second}
+use Rattle.reqs_ends.specs.declared.fault.RunFault.{RunFault}
+use Rattle.reqs_ends.specs.declared.fault.RunFault.TheVariants.{Memory}
+use Rattle.reqs_ends.specs.declared.fault.Status.{Status}
+use Rattle.reqs_ends.specs.Ends.{of_input}
+use Rattle.reqs_ends.specs.Faults.{Cause, IsOfInputs, Refuses}
+use Rattle.reqs_ends.specs.Inputs.{◌>>=◌, lines_from}
+use Rattle.reqs_lists.specs.declared.answer.Answer.{Answer}
+
+-- it is of texts of which each is a list of requirements: what it says of a line that is none is the error
+-- of some line with this number of the input that it names
+abbrev pub IsOfLists : Variables → List (List ℕ) → RunFault → Type 0
+IsOfLists vars inputs =
+    IsOfInputs (λ input error. IsErrorIn vars (text_lines (of_input inputs input)) error)
+
+-- ---- reading
+
+-- the lines of one list
+abbrev pub one_list : Variables → List (List ℕ) → Result (List LineRecord) Cause
+one_list vars inputs = lines_from vars First (of_input inputs First)
+
+-- the lines of a right list behind those of the left one
+abbrev pub with_right : Variables → List ℕ → List LineRecord
+    → Result (List LineRecord × List LineRecord) Cause
+with_right vars right left = do
+  lines ← lines_from vars Second right
+  Ok (left, lines)
+
+-- the lines of two lists, or the first thing at fault: that of the left one before that of the right one
+abbrev pub two_lists : Variables → List (List ℕ) → Result (List LineRecord × List LineRecord) Cause
+two_lists vars inputs =
+    lines_from vars First (of_input inputs First) >>= with_right vars (of_input inputs Second)
+
+-- lines of a left and a right list stand for those of some texts
+pub record AreBothRead (nodes : List NodeRecord) (left right : List Line) : Type 0 where
+  pub vars : Variables
+  pub said : List LineRecord
+  pub others : List LineRecord
+  pub reads_left : AllZip (StandsFor vars nodes) left said
+  pub reads_right : AllZip (StandsFor vars nodes) right others
+
+-- lists are read as what has this property
+abbrev pub IsRead : {A : Type 0} → Result A Cause → (A → Type 0) → Type 0
+IsRead {A} lists Holds = (read : A) × (lists ≡ Ok read) × Holds read
+
+-- ---- answering
+
+-- what may be answered on lists that are read, a status and a text; and for which faults they may be refused
+abbrev pub Answered : Type 0 → Type 1
+Answered A = A → Status → List ℕ → Type 0
+
+abbrev pub Refused : Type 0 → Type 1
+Refused A = A → RunFault → Type 0
+
+-- lists that are refused: for what isn't read, by a fault of which this holds, or once all are read
+abbrev pub RefusesLists : {A : Type 0} → (RunFault → Type 0) → Refused A → Result A Cause → RunFault → Type 0
+RefusesLists IsOne Declines lists fault =
+    Refuses IsOne fault lists ⊎ IsRead lists (λ read. Declines read fault)
+
+-- what is answered on lists that are read, before it is written; want of memory may come at any time
+abbrev pub Gives : {A : Type 0} → Answered A → Refused A → A → Result Answer RunFault → Type 0
+Gives Answers Declines read (Ok answer) = Answers read answer.status (string_bytes answer.text)
+Gives Answers Declines read (Err fault) = (fault ≡ Memory) ⊎ Declines read fault
+
+-- and on the texts of lists
+abbrev pub AnswersLists : {A : Type 0} → (RunFault → Type 0) → Answered A → Refused A → Result A Cause
+    → Result Answer RunFault → Type 0
+AnswersLists IsOne Answers Declines lists (Ok answer) =
+    IsRead lists (λ read. Answers read answer.status (string_bytes answer.text))
+AnswersLists IsOne Answers Declines lists (Err fault) = RefusesLists IsOne Declines lists fault

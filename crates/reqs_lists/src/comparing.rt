@@ -1,0 +1,175 @@
+//! `same`: whether two lists require the same.
+
+ghost use Rattle.std.specs.Prelude.{◌≡◌, ◌≢◌, ◌∷◌, ◌++◌, [], List, codes, IfErr, IfOk, string_bytes};
+ghost use Rattle.std.specs.List.{AllZip};
+ghost use Rattle.pep508_url.specs.Vars.{Variables};
+ghost use Rattle.pep508_diagram.specs.Question.{IsCanonical};
+ghost use Rattle.pep508_diagram.specs.Shortened.{HasShortVersions};
+ghost use Rattle.pep508_tree.specs.Meaning.{IsTree, diagram_of};
+ghost use Rattle.reqtable_requirements.specs.LineReading.{LineRecord};
+ghost use Rattle.reqtable_requirements.specs.Requirements.{StandsFor};
+ghost use Rattle.reqs_lists.specs.Lists.{IsOfLists, AreBothRead, AnswersLists, Gives, two_lists};
+ghost use Rattle.reqs_lists.specs.Comparison.{difference_text, IsSameAnswer, CantBeCompared};
+ghost use Rattle.reqs_lists.specs.Comparison.{input_of, line_fault, fault_of, RunsSame};
+
+use crate::answer::Answer;
+use pep508_marker_dnf::MarkerTreeText;
+use pep508_name::PackageName;
+use pep508_tree::{Interner, MarkerTree};
+use pep508_url::Vars;
+use reqs_ends::{
+    Input, RefusedCause, RunFault, Status, read_input, read_requirements, write_answer,
+};
+use reqtable_compare::{LineCause, Same, SameError, Side};
+use reqtable_requirements::Requirements;
+use std::alloc::{AllocError, Global};
+use std::io::{Read, Write};
+
+/// What stands for the text of a marker that always holds.
+const EVERYWHERE: &str = "all environments";
+
+/// Reads two lists of requirements, and writes `yes` where they require the same of every package in every
+/// environment with any extras. Else it writes three lines, `no`, the first package that differs, and the
+/// marker of where its first difference is, or `all environments` where that always holds; and ends with
+/// `Status::Different`. By `reqtable_compare::same`.
+///
+/// Both lists are read whole, the left one first, and then as what they are, the left one first. Lists are
+/// refused that have something which can't be compared, and then those with a package that has more cases
+/// than the limit. The text is made whole before the first write.
+pub fn same<L: Read, R: Read, W: Write>(
+    alloc: Global,
+    left: &mut L,
+    right: &mut R,
+    vars: &Vars,
+    limit: u64,
+    output: &mut W,
+) -> Result<Status, RunFault>
+    ensures runs { RunsSame limit vars.now (L.remaining left.old) (R.remaining right.old)
+        W.contents output.old output.new result }
+    // A refused command has written nothing.
+    ensures unwritten { IfErr result (λ fault. fault ≢ RunFault.Write → output.new ≡ output.old) }
+{
+    let mut left = read_input(alloc, Input::First, left)?;
+    let mut right = read_input(alloc, Input::Second, right)?;
+    let answer = same_answer(alloc, &mut left, &mut right, vars, limit)?;
+    write_answer(output, answer.text.as_str(), answer.status)
+}
+
+/// The answer on two lists, whose bytes are let go once they are read.
+fn same_answer(
+    alloc: Global,
+    left: &mut Vec<u8>,
+    right: &mut Vec<u8>,
+    vars: &Vars,
+    limit: u64,
+) -> Result<Answer, RunFault>
+    ensures { AnswersLists (IsOfLists vars.now (left.old.items ∷ right.old.items ∷ [])) (IsSameAnswer limit)
+        (CantBeCompared limit) (two_lists vars.now (left.old.items ∷ right.old.items ∷ [])) result }
+{
+    let mut interner = Interner::new(alloc);
+    let left = read_requirements(alloc, Input::First, left, &mut interner, vars)?;
+    let right = read_requirements(alloc, Input::Second, right, &mut interner, vars)?;
+    same_of(alloc, &left, &right, &mut interner, limit)
+}
+
+/// The answer on requirements.
+fn same_of(
+    alloc: Global,
+    left: &Requirements,
+    right: &Requirements,
+    interner: &mut Interner,
+    limit: u64,
+) -> Result<Answer, RunFault>
+    requires { AreBothRead interner.old.nodes left.now right.now }
+    ensures { (vars : Variables) (said others : List LineRecord) →
+        AllZip (StandsFor vars interner.old.nodes) left.now said →
+        AllZip (StandsFor vars interner.old.nodes) right.now others →
+        Gives (IsSameAnswer limit) (CantBeCompared limit) (said, others) result }
+{
+    match reqtable_compare::same(alloc, left, right, interner, limit) {
+        Ok(Same::Yes) => Ok(Answer {
+            status: Status::Answered,
+            text: String::from_str(alloc, "yes\n")?,
+        }),
+        Ok(Same::No { package, tree }) => Ok(Answer {
+            status: Status::Different,
+            text: difference_text(alloc, &package, tree, interner)?,
+        }),
+        Err(error) => Err(fault_of(error, limit)),
+    }
+}
+
+/// The text of a difference, which is where the tree holds.
+#[tactic(auto, using(crate::proofs::Trees::canonical, crate::proofs::Trees::short))]
+fn difference_text(
+    alloc: Global,
+    name: &PackageName,
+    tree: MarkerTree,
+    interner: &Interner,
+) -> Result<String, AllocError>
+    requires { IsTree interner.now.nodes tree }
+    ensures text { IfOk result (λ text. string_bytes text
+        ≡ difference_text name.now (diagram_of interner.now.nodes tree)) }
+    ensures canonical { IsCanonical (diagram_of interner.now.nodes tree) }
+    ensures short { HasShortVersions (diagram_of interner.now.nodes tree) }
+{
+    interner.are_sound();
+    match tree.try_to_string(alloc, interner)? {
+        Some(marker) => difference_lines(alloc, name, marker.as_str()),
+        None => difference_lines(alloc, name, EVERYWHERE),
+    }
+}
+
+/// The lines of a difference, of which the last says where it is.
+fn difference_lines(alloc: Global, name: &PackageName, place: &str) -> Result<String, AllocError>
+    ensures { IfOk result (λ text. string_bytes text
+        ≡ codes "no\n" ++ (name.now ++ (codes "\n" ++ (place.now ++ codes "\n")))) }
+{
+    format!(in alloc; "no\n{name}\n{place}\n")
+}
+
+/// Why the lists are refused.
+fn fault_of(error: SameError, limit: u64) -> RunFault
+    ensures { result ≡ fault_of limit error }
+{
+    match error {
+        SameError::Line {
+            side,
+            number,
+            cause,
+        } => line_fault(input_of(side), number, cause),
+        SameError::TooManyCases { side, package } => RunFault::TooManyCases {
+            input: input_of(side),
+            limit,
+            package,
+        },
+        SameError::Memory => RunFault::Memory,
+    }
+}
+
+/// The input of a side.
+fn input_of(side: Side) -> Input
+    ensures { result ≡ input_of side }
+{
+    match side {
+        Side::Left => Input::First,
+        Side::Right => Input::Second,
+    }
+}
+
+/// Why a line is refused.
+fn line_fault(input: Input, number: usize, cause: LineCause) -> RunFault
+    ensures { result ≡ line_fault input number cause }
+{
+    let cause = match cause {
+        LineCause::Url => RefusedCause::Url,
+        LineCause::ExactEqual => RefusedCause::ExactEqual,
+        LineCause::PostAfterBound => RefusedCause::PostAfterBound,
+        LineCause::NumberAtEnd => return RunFault::NumberAtEnd { input, number },
+    };
+    RunFault::Refused {
+        input,
+        number,
+        cause,
+    }
+}

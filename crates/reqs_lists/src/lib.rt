@@ -1,0 +1,14 @@
+//! The commands of `reqs` on requirement lists alone: whether two require the same, which lines of one
+//! contradict each other, and one in the normal form. Each reads its inputs whole, and writes its answer once
+//! it is made whole.
+#![tactic(auto)]
+
+mod answer;
+mod comparing;
+mod conflict_lines;
+mod contradicting;
+mod normalizing;
+
+pub use comparing::same;
+pub use contradicting::conflicts;
+pub use normalizing::normal;

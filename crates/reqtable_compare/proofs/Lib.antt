@@ -1,0 +1,14 @@
+pub mod Steps
+pub mod Comparable
+pub mod AnsweredAlike
+pub mod OfTexts
+pub mod Likeness
+pub mod Finding
+pub mod Paired
+pub mod Causes
+pub mod ByNumber
+pub mod Summaries
+pub mod Trees
+pub mod Whole
+pub mod Answering
+pub mod Apart

@@ -1,0 +1,9 @@
+use Rattle.std.proofs.Common.{map, take}
+use Rattle.std.specs.List.{AllByRecursion}
+use Rattle.reqtable_compare.specs.Seen.{summary_record}
+use Rattle.reqtable_compare.specs.Pairs.{PassesAll}
+use Rattle.reqtable_compare.proofs.pairing.first_trees.Given as goal
+
+abbrev pub invariant-loop-one : goal.invariant-loop-one
+invariant-loop-one l =
+    AllByRecursion (PassesAll l.interner.nodes (map summary_record l.right)) (map summary_record (take l.one-index l.left))

@@ -1,0 +1,49 @@
+-- What comparing two lists answers.
+use Rattle.std.specs.Prelude.{◌≡◌, ℕ, List, Some, None, Result, Ok, Err}
+use Rattle.pep508_tree.specs.Meaning.{NodeRecord}
+use Rattle.reqtable_requirements.specs.LineReading.{LineRecord}
+use Rattle.reqtable_cases.specs.Lines.{HasTooMany, IsFirstTooMany}
+use Rattle.reqtable_cases.specs.Requires.{RequireTheSame, IsFirstDifference}
+use Rattle.reqtable_table.specs.Cases.{Builds}
+use Rattle.reqtable_table.specs.Kept.{KeptPackage}
+use Rattle.reqtable_compare.specs.declared.sides.Same.{Same}
+use Rattle.reqtable_compare.specs.declared.sides.Same.TheVariants.{Yes, No}
+use Rattle.reqtable_compare.specs.declared.sides.SameError.{SameError}
+use Rattle.reqtable_compare.specs.declared.sides.SameError.TheVariants.{Line, TooManyCases, Memory}
+use Rattle.reqtable_compare.specs.declared.sides.Side.{Side}
+use Rattle.reqtable_compare.specs.declared.sides.Side.TheVariants.{Left, Right}
+use Rattle.reqtable_compare.specs.Refusals.{line_refusal}
+
+-- no package has too many cases
+abbrev pub NoneTooMany : ℕ → List LineRecord → Type 0
+NoneTooMany limit lines = (name : List ℕ) → HasTooMany limit lines name → ⊥
+
+-- nothing is in the way of an answer
+pub record MayCompare (limit : ℕ) (left right : List LineRecord) : Type 0 where
+  pub lines : line_refusal left right ≡ None
+  pub ours : NoneTooMany limit left
+  pub theirs : NoneTooMany limit right
+
+-- what comparing the lines of two lists answers, with these nodes afterwards: whether both require the same,
+-- and if not, the first difference; or the first line that is in the way, those of the left list first; or
+-- the first package by name that has too many cases, those of the left list first; or want of memory
+abbrev pub Compares : ℕ → List NodeRecord → List LineRecord → List LineRecord → Result Same SameError → Type 0
+Compares limit nodes left right (Ok Yes) = MayCompare limit left right × RequireTheSame left right
+Compares limit nodes left right (Ok (No name tree)) =
+    MayCompare limit left right × IsFirstDifference left right nodes name tree
+Compares limit nodes left right (Err (Line side number cause)) =
+    line_refusal left right ≡ Some (record { side = side; number = number; cause = cause })
+Compares limit nodes left right (Err (TooManyCases Left name)) =
+    (line_refusal left right ≡ None) × IsFirstTooMany limit left name
+Compares limit nodes left right (Err (TooManyCases Right name)) =
+    (line_refusal left right ≡ None) × NoneTooMany limit left × IsFirstTooMany limit right name
+Compares limit nodes left right (Err Memory) = Unit {0}
+
+-- what making the table of one of two lists answers
+abbrev pub TablesSide : Side → ℕ → List NodeRecord → List LineRecord → Result (List KeptPackage) SameError
+    → Type 0
+TablesSide side limit nodes said (Ok table) = Builds limit nodes said (Ok table)
+TablesSide side limit nodes said (Err (Line other number cause)) = ⊥
+TablesSide side limit nodes said (Err (TooManyCases other name)) =
+    (other ≡ side) × IsFirstTooMany limit said name
+TablesSide side limit nodes said (Err Memory) = Unit {0}

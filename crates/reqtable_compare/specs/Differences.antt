@@ -1,0 +1,108 @@
+-- The first of some packages of which two lists require different things.
+use Rattle.std.specs.Prelude.{◌≡◌, ◌&&◌, ◌||◌, ℕ, true, false, List, ◌∷◌, ◌++◌, Option, Some, None}
+use Rattle.std.specs.Prelude.{Result, Ok, Err}
+use Rattle.std.specs.List.{list_any, AllByRecursion}
+use Rattle.std.specs.List.Sorted.{IsStrictlySortedBy}
+use Rattle.std.specs.Ordering.{nat_cmp}
+use Rattle.std.specs.Cmp.Lexicographic.{slice_cmp}
+use Rattle.std.specs.Str.{bytes_eq}
+use Rattle.pep508_diagram.specs.Question.{Valuation}
+use Rattle.pep508_tree.specs.Tree.{Tree}
+use Rattle.pep508_tree.specs.Meaning.{NodeRecord, IsTree, holds}
+use Rattle.reqtable_requirements.specs.declared.requirements.Line.{Line}
+use Rattle.reqtable_table.specs.Cases.{cases_under}
+use Rattle.reqtable_table.specs.Given.{is_under}
+use Rattle.reqtable_table.specs.Kept.{KeptPackage}
+use Rattle.reqtable_compare.specs.declared.comparing.Place.{Place as Found}
+use Rattle.reqtable_compare.specs.declared.sides.Same.{Same}
+use Rattle.reqtable_compare.specs.declared.sides.Same.TheVariants.{Yes, No}
+use Rattle.reqtable_compare.specs.declared.sides.SameError.{SameError}
+use Rattle.reqtable_compare.specs.declared.sides.SameError.TheVariants.{Memory}
+use Rattle.reqtable_compare.specs.Summed.{SummaryRecord}
+use Rattle.reqtable_compare.specs.Totals.{AreSummed}
+use Rattle.reqtable_compare.specs.Pairs.{PassesAll, IsFirstPair}
+
+-- a list with its table
+pub record Listed : Type 0 where
+  pub lines : List Line
+  pub table : List KeptPackage
+
+-- what it requires of a package
+abbrev pub Sums : Listed → List ℕ → List SummaryRecord → Type 0
+Sums side name summaries = AreSummed side.lines (cases_under name side.table) summaries
+
+-- both require the same of a package
+pub record AgreeOn (nodes : List NodeRecord) (left right : Listed) (name : List ℕ) : Type 0 where
+  pub ours : List SummaryRecord
+  pub theirs : List SummaryRecord
+  pub our_sums : Sums left name ours
+  pub their_sums : Sums right name theirs
+  pub pass : AllByRecursion (PassesAll nodes theirs) ours
+
+-- they don't of this one, at these trees of both
+pub record DifferOn (nodes : List NodeRecord) (left right : Listed) (name : List ℕ) (one other : Tree)
+    : Type 0 where
+  pub ours : List SummaryRecord
+  pub theirs : List SummaryRecord
+  pub our_sums : Sums left name ours
+  pub their_sums : Sums right name theirs
+  pub pair : IsFirstPair nodes ours theirs one other
+
+-- a package by its name, and a tree of each side
+abbrev pub Place : Type 0
+Place = List ℕ × (Tree × Tree)
+
+pub record IsFirstPlace (nodes : List NodeRecord) (left right : Listed) (names : List (List ℕ)) (place : Place)
+    : Type 0 where
+  pub front : List (List ℕ)
+  pub back : List (List ℕ)
+  pub split : names ≡ front ++ place.0 ∷ back
+  pub before : AllByRecursion (AgreeOn nodes left right) front
+  pub differ : DifferOn nodes left right place.0 place.1.0 place.1.1
+
+abbrev pub FindsPlace : List NodeRecord → Listed → Listed → List (List ℕ) → Option Place → Type 0
+FindsPlace nodes left right names None = AllByRecursion (AgreeOn nodes left right) names
+FindsPlace nodes left right names (Some place) = IsFirstPlace nodes left right names place
+
+-- the names of the packages that either list names, each once and rising
+pub record AreNames (left right : Listed) (names : List (List ℕ)) : Type 0 where
+  pub rising : IsStrictlySortedBy (slice_cmp nat_cmp) names
+  pub are : (name : List ℕ) → list_any (bytes_eq name) names
+      ≡ (list_any (is_under name) left.lines || (list_any (is_under name) right.lines || false))
+
+-- ---- and what comes of it
+
+abbrev pub listed : List Line → List KeptPackage → Listed
+listed lines table = record { lines = lines; table = table }
+
+abbrev pub place_seen : Found → Place
+place_seen place = (place.name, (place.meeting.one, place.meeting.other))
+
+-- a tree of new nodes that holds somewhere, and just where both of a place do
+pub record IsBoth (old new : List NodeRecord) (one other tree : Tree) : Type 0 where
+  pub made : IsTree new tree
+  pub somewhere : (v : Valuation) × (holds new tree v ≡ true)
+  pub means : (v : Valuation) → holds new tree v ≡ (holds old one v && holds old other v)
+
+abbrev pub AnswersPlace : List NodeRecord → List NodeRecord → Place → Result Same SameError → Type 0
+AnswersPlace old new place (Ok Yes) = ⊥
+AnswersPlace old new place (Ok (No name tree)) =
+    (name ≡ place.0) × IsBoth old new place.1.0 place.1.1 tree
+AnswersPlace old new place (Err error) = error ≡ Memory
+
+-- what comparing the tables of two lists answers
+pub record DiffersFirst (old new : List NodeRecord) (left right : Listed) (name : List ℕ) (tree : Tree)
+    : Type 0 where
+  pub names : List (List ℕ)
+  pub are : AreNames left right names
+  pub place : Place
+  pub first : IsFirstPlace old left right names place
+  pub named : name ≡ place.0
+  pub both : IsBoth old new place.1.0 place.1.1 tree
+
+abbrev pub ComparesTables : List NodeRecord → List NodeRecord → Listed → Listed → Result Same SameError
+    → Type 0
+ComparesTables old new left right (Ok Yes) =
+    (names : List (List ℕ)) × AreNames left right names × AllByRecursion (AgreeOn old left right) names
+ComparesTables old new left right (Ok (No name tree)) = DiffersFirst old new left right name tree
+ComparesTables old new left right (Err error) = error ≡ Memory

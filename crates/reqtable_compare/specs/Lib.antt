@@ -1,0 +1,10 @@
+pub mod Compared
+pub mod Refusals
+pub mod RefusedLines
+pub mod Numbered
+pub mod Summed
+pub mod Seen
+pub mod Totals
+pub mod Pairs
+pub mod Differences
+pub mod Answered

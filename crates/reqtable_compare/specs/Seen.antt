@@ -1,0 +1,12 @@
+-- Summaries as records.
+use Rattle.std.specs.Option.{option_map}
+use Rattle.reqtable_compare.specs.declared.summary.Summary.{Summary}
+use Rattle.reqtable_compare.specs.Summed.{SummaryRecord}
+
+abbrev pub summary_record : Summary → SummaryRecord
+summary_record s = record {
+  some = s.has_lines;
+  extras = s.extras.items;
+  range = option_map (λ r. r.now) s.range;
+  tree = s.tree;
+}

@@ -1,0 +1,65 @@
+-- The cases of a package's lines, by what they require.
+use Rattle.std.specs.Prelude.{◌≡◌, ◌⊎◌, ℕ, Bool, true, false, List, [], ◌∷◌, Option, Some, None}
+use Rattle.std.specs.List.{list_any, AllZip}
+use Rattle.std.specs.List.Sorted.{IsStrictlySortedBy}
+use Rattle.std.specs.Ordering.{nat_cmp}
+use Rattle.std.specs.Cmp.Lexicographic.{slice_cmp}
+use Rattle.std.specs.Str.{bytes_eq}
+use Rattle.version_ranges.specs.Point.{Point}
+use Rattle.version_ranges.specs.Held.{HoldSamePoints}
+use Rattle.pep440_version.specs.Record.{VersionRecord}
+use Rattle.pep440_version.specs.Order.{version_cmp}
+use Rattle.pep508_tree.specs.Tree.{Tree}
+use Rattle.pep508_tree.specs.Meaning.{NodeRecord}
+use Rattle.pep508_requirement_text.specs.FrontReading.{Front}
+use Rattle.pep508_cases.specs.Cases.{Marks, AreCases}
+use Rattle.reqtable_answer.specs.Asks.{has_extra}
+use Rattle.reqtable_requirements.specs.LineReading.{LineRecord}
+use Rattle.reqtable_cases.specs.Lines.{line_marks, asked_by}
+use Rattle.reqtable_cases.specs.Usable.{is_usable, IsRangeOf}
+
+-- a case: whether it has lines, the extras that they ask for, the range that they share, and where it holds
+pub record SummaryRecord : Type 0 where
+  pub some : Bool
+  pub extras : List (List ℕ)
+  pub range : Option (List (Point VersionRecord))
+  pub tree : Tree
+
+abbrev pub SameRange : Option (List (Point VersionRecord)) → Option (List (Point VersionRecord)) → Type 0
+SameRange (Some a) (Some b) = HoldSamePoints version_cmp a b
+SameRange (Some a) None = ⊥
+SameRange None other = ⊥
+
+-- both have lines, which ask for the same
+pub record BothAlike (a b : SummaryRecord) : Type 0 where
+  pub some : a.some ≡ true
+  pub other : b.some ≡ true
+  pub extras : a.extras ≡ b.extras
+  pub range : SameRange a.range b.range
+
+abbrev pub Alike : SummaryRecord → SummaryRecord → Type 0
+Alike a b = ((a.some ≡ false) × (b.some ≡ false)) ⊎ BothAlike a b
+
+abbrev pub some_asks : List Front → Bool
+some_asks [] = false
+some_asks (ask ∷ asks) = true
+
+-- the asks of a case, which are usable; one without lines has no range to tell
+pub record IsSummaryOf (asks : List Front) (summary : SummaryRecord) : Type 0 where
+  pub some : summary.some ≡ some_asks asks
+  pub rising : IsStrictlySortedBy (slice_cmp nat_cmp) summary.extras
+  pub extras : (extra : List ℕ) → list_any (bytes_eq extra) summary.extras ≡ list_any (has_extra extra) asks
+  pub usable : is_usable asks ≡ true
+  pub range : some_asks asks ≡ true → IsRangeOf asks summary.range
+
+-- a set of the lines with its tree
+pub record IsOfSet (lines : List LineRecord) (summary : SummaryRecord) (set : Marks × Tree) : Type 0 where
+  pub asks : IsSummaryOf (asked_by set.0 lines) summary
+  pub tree : summary.tree ≡ set.1
+
+-- the cases of some lines, in their order
+pub record AreSummaries (nodes : List NodeRecord) (lines : List LineRecord) (summaries : List SummaryRecord)
+    : Type 0 where
+  pub sets : List (Marks × Tree)
+  pub are : AreCases (line_marks lines) nodes sets
+  pub each : AllZip (IsOfSet lines) summaries sets

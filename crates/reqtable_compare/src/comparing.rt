@@ -1,0 +1,198 @@
+//! Two lists, compared package by package.
+
+ghost use Rattle.std.specs.Prelude.{◌≡◌, ◌||◌, ℕ, false, List, map, IfOk};
+ghost use Rattle.std.specs.List.{list_any, AllZip, AllByRecursion};
+ghost use Rattle.std.specs.List.Sorted.{IsStrictlySortedBy};
+ghost use Rattle.std.specs.Ordering.{nat_cmp};
+ghost use Rattle.std.specs.Cmp.Lexicographic.{slice_cmp};
+ghost use Rattle.std.specs.Str.{bytes_eq};
+ghost use Rattle.std.specs.Option.{option_map};
+ghost use Rattle.pep508_url.specs.Vars.{Variables};
+ghost use Rattle.pep508_tree.specs.Meaning.{IsTree, Extends};
+ghost use Rattle.pep508_tree.specs.Disjoint.{AreDisjoint};
+ghost use Rattle.reqtable_requirements.specs.Asks.{AreOfNodes};
+ghost use Rattle.reqtable_requirements.specs.LineReading.{LineRecord};
+ghost use Rattle.reqtable_requirements.specs.Requirements.{StandsFor};
+ghost use Rattle.reqtable_table.specs.Cases.{HasItsCases};
+ghost use Rattle.reqtable_table.specs.Given.{is_under};
+ghost use Rattle.reqtable_compare.specs.Compared.{Compares, TablesSide};
+ghost use Rattle.reqtable_compare.specs.Differences.{FindsPlace, place_seen, listed, AnswersPlace};
+ghost use Rattle.reqtable_compare.specs.Differences.{ComparesTables};
+
+use crate::pairing::{Meeting, first_trees};
+use crate::refusing::first_refusal;
+use crate::sides::{Same, SameError, Side};
+use crate::summing::summaries;
+use pep508_name::PackageName;
+use pep508_tree::Interner;
+use pep508_tree_laws::{a_tree_holds_somewhere, constants_are_named};
+use reqtable_conflicts::{package_names, table_of};
+use reqtable_requirements::{Line, Requirements};
+use reqtable_table::{Table, TableError};
+use std::alloc::{AllocError, Global};
+
+/// Where two lists require different things: of a package, where both trees hold.
+#[derive(Drop)]
+struct Place {
+    name: PackageName,
+    meeting: Meeting,
+}
+
+/// Whether two lists require the same of each package in each environment, with whatever extras: the package
+/// or not, the same extras of it, and the same points in the ranges of all its specifiers (PEP 440, "Version
+/// specifiers"), also where no version lies between two. If not, the first package that differs, and the
+/// marker of the first pair of its cases that do.
+///
+/// A line with a URL, with `===`, with `<` or `>` and a post-release, or with a number that can't be raised
+/// can't be compared, even where it never applies; and a package can't that has more cases than the limit in
+/// one of the lists, whatever differs before it. Both lists must have been read with this interner.
+///
+/// The tables of both lists are made, as `Table::build` does. A package with k and m cases takes at most
+/// k * m comparisons of what two cases require.
+pub fn same<'a>(
+    alloc: Global,
+    left: &'a Requirements,
+    right: &'a Requirements,
+    interner: &mut Interner,
+    limit: u64,
+) -> Result<Same, SameError>
+    requires left { AreOfNodes interner.old.nodes left.now }
+    requires right { AreOfNodes interner.old.nodes right.now }
+    ensures compared { (vars : Variables) (said others : List LineRecord) →
+        AllZip (StandsFor vars interner.old.nodes) left.now said →
+        AllZip (StandsFor vars interner.old.nodes) right.now others →
+        Compares limit interner.new.nodes said others result }
+    ensures keeps { Extends interner.old.nodes interner.new.nodes }
+{
+    left.are_read();
+    right.are_read();
+    if let Some(refused) = first_refusal(alloc, left.lines(), right.lines())? {
+        return Err(SameError::Line {
+            side: refused.side,
+            number: refused.number,
+            cause: refused.cause,
+        });
+    }
+    let left_table = side_table(alloc, Side::Left, left, interner, limit)?;
+    let right_table = side_table(alloc, Side::Right, right, interner, limit)?;
+    compared(alloc, left, &left_table, right, &right_table, interner)
+}
+
+/// The table of one of two lists.
+fn side_table(
+    alloc: Global,
+    side: Side,
+    requirements: &Requirements,
+    interner: &mut Interner,
+    limit: u64,
+) -> Result<Table, SameError>
+    requires { AreOfNodes interner.old.nodes requirements.now }
+    ensures made { (vars : Variables) (said : List LineRecord) →
+        AllZip (StandsFor vars interner.old.nodes) requirements.now said →
+        TablesSide side limit interner.new.nodes said result }
+    ensures cases { IfOk result (AllByRecursion (HasItsCases interner.new.nodes)) }
+    ensures keeps { Extends interner.old.nodes interner.new.nodes }
+{
+    match table_of(alloc, requirements, interner, limit) {
+        Ok(table) => Ok(table),
+        Err(TableError::TooManyCases { package }) => Err(SameError::TooManyCases { side, package }),
+        Err(TableError::Memory) => Err(SameError::Memory),
+    }
+}
+
+/// Compares two lists by their tables.
+fn compared<'a>(
+    alloc: Global,
+    left: &'a Requirements,
+    left_table: &Table,
+    right: &'a Requirements,
+    right_table: &Table,
+    interner: &mut Interner,
+) -> Result<Same, SameError>
+    requires left { AllByRecursion (HasItsCases interner.old.nodes) left_table.now }
+    requires right { AllByRecursion (HasItsCases interner.old.nodes) right_table.now }
+    ensures compared { ComparesTables interner.old.nodes interner.new.nodes
+        (listed left.now left_table.now) (listed right.now right_table.now) result }
+    ensures keeps { Extends interner.old.nodes interner.new.nodes }
+{
+    let names = names_of(alloc, left.lines(), right.lines())?;
+    left.are_read();
+    right.are_read();
+    let place = first_place(
+        alloc,
+        left.lines(),
+        left_table,
+        right.lines(),
+        right_table,
+        &names,
+        interner,
+    )?;
+    match place {
+        Some(place) => difference(alloc, place, interner),
+        None => Ok(Same::Yes),
+    }
+}
+
+/// The names of the packages that either list names, each once and in the order of their bytes.
+fn names_of<'a>(
+    alloc: Global,
+    left: &'a [Line],
+    right: &'a [Line],
+) -> Result<Vec<&'a PackageName>, AllocError>
+    ensures rise { IfOk result (λ names.
+        IsStrictlySortedBy (slice_cmp nat_cmp) (map (λ name. name.now) names.items)) }
+    ensures are { IfOk result (λ names. (name : List ℕ) →
+        list_any (bytes_eq name) (map (λ n. n.now) names.items)
+        ≡ (list_any (is_under name) left.now || (list_any (is_under name) right.now || false))) }
+{
+    package_names(alloc, &[left, right])
+}
+
+/// The answer of a difference.
+fn difference(alloc: Global, place: Place, interner: &mut Interner) -> Result<Same, SameError>
+    requires one { IsTree interner.old.nodes place.meeting.one }
+    requires other { IsTree interner.old.nodes place.meeting.other }
+    requires meet { AreDisjoint interner.old.nodes place.meeting.one place.meeting.other → ⊥ }
+    ensures answered { AnswersPlace interner.old.nodes interner.new.nodes (place_seen place) result }
+    ensures keeps { Extends interner.old.nodes interner.new.nodes }
+{
+    let tree = place.meeting.one.and(alloc, interner, place.meeting.other)?;
+    interner.are_sound();
+    a_tree_holds_somewhere(interner);
+    constants_are_named(interner);
+    Ok(Same::No {
+        package: place.name,
+        tree,
+    })
+}
+
+/// The first of some packages of which two lists require different things.
+fn first_place(
+    alloc: Global,
+    left: &[Line],
+    left_table: &Table,
+    right: &[Line],
+    right_table: &Table,
+    names: &[&PackageName],
+    interner: &Interner,
+) -> Result<Option<Place>, AllocError>
+    requires left_rises { IsStrictlySortedBy nat_cmp (map (λ line. line.number) left.now) }
+    requires right_rises { IsStrictlySortedBy nat_cmp (map (λ line. line.number) right.now) }
+    requires left_cases { AllByRecursion (HasItsCases interner.now.nodes) left_table.now }
+    requires right_cases { AllByRecursion (HasItsCases interner.now.nodes) right_table.now }
+    ensures { IfOk result (λ place. FindsPlace interner.now.nodes (listed left.now left_table.now)
+        (listed right.now right_table.now) (map (λ name. name.now) names.now) (option_map place_seen place)) }
+{
+    for name in names {
+        let ours = summaries(alloc, left, left_table, name)?;
+        let theirs = summaries(alloc, right, right_table, name)?;
+        if let Some(meeting) = first_trees(alloc, interner, &ours, &theirs)? {
+            let package = name.try_clone(alloc)?;
+            return Ok(Some(Place {
+                name: package,
+                meeting,
+            }));
+        }
+    }
+    Ok(None)
+}

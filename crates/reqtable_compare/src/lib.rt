@@ -1,0 +1,13 @@
+//! Whether two requirement lists require the same, and if not, of which package and where.
+#![tactic(auto)]
+
+mod comparing;
+pub mod laws;
+mod pairing;
+mod refusing;
+mod sides;
+mod summary;
+mod summing;
+
+pub use comparing::same;
+pub use sides::{LineCause, Same, SameError, Side};

@@ -1,0 +1,129 @@
+//! The first pair of cases that hold together and require different things.
+
+ghost use Rattle.std.specs.Prelude.{map, List, IfOk, IsTrue};
+ghost use Rattle.pep508_tree.specs.Meaning.{IsTree, NodeRecord};
+ghost use Rattle.reqtable_compare.specs.Seen.{summary_record};
+ghost use Rattle.reqtable_compare.specs.Pairs.{Decides, FindsOther, FindsTrees, AreOfTrees, AreApart};
+ghost use Rattle.reqtable_compare.specs.Pairs.{PassesAll, ArePartners};
+
+use crate::summary::Summary;
+use pep508_disjointness::MarkerTreeDisjointness;
+use pep508_tree::{Interner, MarkerTree};
+use std::alloc::{AllocError, Global};
+use std::collections::HashMap;
+
+/// Of so many cases all are looked at sooner than one is looked up.
+const FEW: usize = 4;
+
+/// Where the cases of a side stand, by their trees.
+type Places = HashMap<MarkerTree, usize>;
+
+/// The trees of two cases that hold together and require different things.
+#[derive(Clone, Copy)]
+pub(crate) struct Meeting {
+    pub(crate) one: MarkerTree,
+    pub(crate) other: MarkerTree,
+}
+
+/// The trees of the first pair, by the left side's cases and then by the right side's. None where each pair
+/// requires the same or never holds together.
+///
+/// A case that has the tree of one on the other side, and requires the same, is compared with no other, since
+/// those never hold together with it: so sides that are alike take as many comparisons as they have cases. Else
+/// k and m cases take at most k * m comparisons, and as many looks at whether two trees are disjoint as there
+/// are pairs that require different things.
+pub(crate) fn first_trees(
+    alloc: Global,
+    interner: &Interner,
+    left: &[Summary<'_>],
+    right: &[Summary<'_>],
+) -> Result<Option<Meeting>, AllocError>
+    requires left { AreOfTrees interner.now.nodes (map summary_record left.now) }
+    requires right { AreOfTrees interner.now.nodes (map summary_record right.now) }
+    requires apart { AreApart interner.now.nodes (map summary_record right.now) }
+    ensures { IfOk result (FindsTrees interner.now.nodes (map summary_record left.now)
+        (map summary_record right.now)) }
+{
+    let places = places_of(alloc, right)?;
+    for one in left {
+        if let Some(other) = first_other(alloc, interner, one, right, &places)? {
+            return Ok(Some(Meeting {
+                one: one.tree,
+                other,
+            }));
+        }
+    }
+    Ok(None)
+}
+
+/// Where each of the cases stands, by its tree, where there are more than a few.
+fn places_of(alloc: Global, right: &[Summary<'_>]) -> Result<Places, AllocError> {
+    let mut places = HashMap::new(alloc);
+    if right.len() <= FEW {
+        return Ok(places);
+    }
+    for (place, other) in right.iter().enumerate() {
+        places.insert(other.tree, place)?;
+    }
+    Ok(places)
+}
+
+/// Whether a case of the other side has the same tree and requires the same.
+fn has_partner(places: &Places, one: &Summary<'_>, right: &[Summary<'_>]) -> bool
+    ensures { (nodes : List NodeRecord) → AreApart nodes (map summary_record right.now) → IsTrue result →
+        PassesAll nodes (map summary_record right.now) (summary_record one.now) }
+{
+    match places.get(&one.tree) {
+        Some(place) => *place < right.len() && is_partner(one, &right[*place]),
+        None => false,
+    }
+}
+
+/// Whether both have the same tree and require the same.
+fn is_partner(one: &Summary<'_>, other: &Summary<'_>) -> bool
+    ensures { IsTrue result → ArePartners (summary_record one.now) (summary_record other.now) }
+{
+    one.tree == other.tree && one.is_alike(other)
+}
+
+/// The tree of the first case that holds together with one and requires something else.
+fn first_other(
+    alloc: Global,
+    interner: &Interner,
+    one: &Summary<'_>,
+    right: &[Summary<'_>],
+    places: &Places,
+) -> Result<Option<MarkerTree>, AllocError>
+    requires one { IsTree interner.now.nodes one.now.tree }
+    requires right { AreOfTrees interner.now.nodes (map summary_record right.now) }
+    requires apart { AreApart interner.now.nodes (map summary_record right.now) }
+    ensures { IfOk result (FindsOther interner.now.nodes (summary_record one.now)
+        (map summary_record right.now)) }
+{
+    if has_partner(places, one, right) {
+        return Ok(None);
+    }
+    for other in right {
+        if !passes(alloc, interner, one, other)? {
+            return Ok(Some(other.tree));
+        }
+    }
+    Ok(None)
+}
+
+/// Whether two cases require the same or never hold together.
+fn passes(
+    alloc: Global,
+    interner: &Interner,
+    one: &Summary<'_>,
+    other: &Summary<'_>,
+) -> Result<bool, AllocError>
+    requires one { IsTree interner.now.nodes one.now.tree }
+    requires other { IsTree interner.now.nodes other.now.tree }
+    ensures { IfOk result (Decides interner.now.nodes (summary_record one.now) (summary_record other.now)) }
+{
+    if one.is_alike(other) {
+        return Ok(true);
+    }
+    one.tree.is_disjoint(alloc, interner, other.tree)
+}

@@ -1,0 +1,133 @@
+//! The first line of two lists that can't be compared.
+
+ghost use Rattle.std.specs.Prelude.{◌≡◌, None, IfOk};
+ghost use Rattle.std.specs.Option.{option_map};
+ghost use Rattle.std.specs.List.{list_any};
+ghost use Rattle.reqtable_compare.specs.Refusals.{members_cause, is_exact, is_bound, bounds_post};
+ghost use Rattle.reqtable_compare.specs.RefusedLines.{refused_seen, line_cause_in, lines_refusal, is_unranged};
+
+use crate::sides::{LineCause, Side};
+use pep440_specifier::{Operator, VersionSpecifier};
+use pep508_requirement::VersionOrUrl;
+use reqtable_range::has_range;
+use reqtable_requirements::Line;
+use std::alloc::{AllocError, Global};
+
+/// A line that can't be compared.
+#[derive(Clone, Copy)]
+pub(crate) struct Refused {
+    pub(crate) side: Side,
+    pub(crate) number: usize,
+    pub(crate) cause: LineCause,
+}
+
+/// The first of two lists, those of the left one first. Linear in the specifiers.
+pub(crate) fn first_refusal(
+    alloc: Global,
+    left: &[Line],
+    right: &[Line],
+) -> Result<Option<Refused>, AllocError>
+    ensures { IfOk result (λ found. option_map refused_seen found
+        ≡ lines_refusal Side.Left left.now (lines_refusal Side.Right right.now None)) }
+{
+    match refused_in(alloc, Side::Left, left)? {
+        Some(refused) => Ok(Some(refused)),
+        None => refused_in(alloc, Side::Right, right),
+    }
+}
+
+/// The first line of a list that can't be compared.
+fn refused_in(alloc: Global, side: Side, lines: &[Line]) -> Result<Option<Refused>, AllocError>
+    ensures { IfOk result (λ found. option_map refused_seen found ≡ lines_refusal side lines.now None) }
+{
+    for line in lines {
+        if let Some(cause) = cause_of(alloc, line)? {
+            return Ok(Some(Refused {
+                side,
+                number: line.number,
+                cause,
+            }));
+        }
+    }
+    Ok(None)
+}
+
+fn cause_of(alloc: Global, line: &Line) -> Result<Option<LineCause>, AllocError>
+    ensures { IfOk result (λ found. found ≡ line_cause_in line.now) }
+{
+    match &line.requirement.version_or_url {
+        Some(VersionOrUrl::Url(_)) => Ok(Some(LineCause::Url)),
+        Some(VersionOrUrl::VersionSpecifier(list)) => cause_of_members(alloc, list.as_slice()),
+        None => Ok(None),
+    }
+}
+
+/// The first cause that any of the specifiers is.
+fn cause_of_members(
+    alloc: Global,
+    members: &[VersionSpecifier],
+) -> Result<Option<LineCause>, AllocError>
+    ensures { IfOk result (λ found. found ≡ members_cause members.now) }
+{
+    if has_exact(members) {
+        return Ok(Some(LineCause::ExactEqual));
+    }
+    if has_post_bound(members) {
+        return Ok(Some(LineCause::PostAfterBound));
+    }
+    if has_unranged(alloc, members)? {
+        return Ok(Some(LineCause::NumberAtEnd));
+    }
+    Ok(None)
+}
+
+fn has_exact(members: &[VersionSpecifier]) -> bool
+    ensures { result ≡ list_any (λ s. is_exact s.operator) members.now }
+{
+    members.iter().any(|member| is_exact(member.operator()))
+}
+
+fn is_exact(operator: Operator) -> bool
+    ensures { result ≡ is_exact operator }
+{
+    match operator {
+        Operator::ExactEqual => true,
+        _ => false,
+    }
+}
+
+fn has_post_bound(members: &[VersionSpecifier]) -> bool
+    ensures { result ≡ list_any bounds_post members.now }
+{
+    members.iter().any(|member| bounds_post(member))
+}
+
+fn bounds_post(member: &VersionSpecifier) -> bool
+    ensures { result ≡ bounds_post member.now }
+{
+    if is_bound(member.operator()) {
+        return member.version().post().is_some();
+    }
+    false
+}
+
+fn is_bound(operator: Operator) -> bool
+    ensures { result ≡ is_bound operator }
+{
+    match operator {
+        Operator::LessThan | Operator::GreaterThan => true,
+        _ => false,
+    }
+}
+
+fn has_unranged(alloc: Global, members: &[VersionSpecifier]) -> Result<bool, AllocError>
+    ensures { IfOk result (λ found. found ≡ list_any is_unranged members.now) }
+{
+    for member in members {
+        let ranged = has_range(alloc, member)?;
+        if !ranged {
+            return Ok(true);
+        }
+    }
+    Ok(false)
+}

@@ -1,0 +1,130 @@
+//! What comes of comparing two lists.
+
+use pep508_name::PackageName;
+use pep508_tree::MarkerTree;
+use std::alloc::{AllocError, AllocFailed};
+use std::error::Error;
+use std::fmt;
+
+/// One of two lists.
+#[derive(Clone, Copy, Debug, PartialEq, Eq)]
+pub enum Side {
+    Left,
+    Right,
+}
+
+/// Why a line can't be compared by versions alone.
+#[derive(Clone, Copy, Debug, PartialEq, Eq)]
+pub enum LineCause {
+    /// It asks for a URL.
+    Url,
+    /// A specifier is of `===`, which goes by texts.
+    ExactEqual,
+    /// A specifier is of `<` or `>` and has a post-release, whose range says less than it takes.
+    PostAfterBound,
+    /// A number of a specifier's range can't be raised, since it is the greatest of 64 bits.
+    NumberAtEnd,
+}
+
+impl LineCause {
+    /// The words for it.
+    pub fn as_str(self) -> &'static str {
+        match self {
+            LineCause::Url => "URL",
+            LineCause::ExactEqual => "===",
+            LineCause::PostAfterBound => "post-release after a bound",
+            LineCause::NumberAtEnd => "a version number can't be raised",
+        }
+    }
+}
+
+impl fmt::Display for LineCause {
+    fn fmt<W: fmt::Write>(&self, f: &mut fmt::Formatter<W>) -> fmt::Result {
+        let words = self.as_str();
+        write!(f, "{words}")
+    }
+}
+
+/// What two lists are to each other.
+#[derive(Debug, Drop)]
+pub enum Same {
+    /// In every environment, with any extras, they require the same.
+    Yes,
+    /// They require different things of this package, the first by the bytes of its name, wherever the tree
+    /// holds.
+    No {
+        package: PackageName,
+        tree: MarkerTree,
+    },
+}
+
+/// Why two lists were not compared.
+#[derive(Debug, Drop)]
+pub enum SameError {
+    /// The first line that can't be compared, those of the left list first.
+    Line {
+        side: Side,
+        number: usize,
+        cause: LineCause,
+    },
+    /// The first package that has more cases than the limit, those of the left list first, then by the bytes
+    /// of their names.
+    TooManyCases {
+        side: Side,
+        package: PackageName,
+    },
+    /// Memory ran out.
+    Memory,
+}
+
+impl From<AllocError> for SameError {
+    ghost use Rattle.std.specs.Prelude.{◌≡◌};
+    ghost use Rattle.reqtable_compare.specs.declared.sides.SameError.TheVariants.{Memory};
+
+    ghost from_gives = { λ _ error. error ≡ Memory };
+
+    fn from(_: AllocError) -> SameError {
+        SameError::Memory
+    }
+}
+
+impl<T: Drop> From<AllocFailed<T>> for SameError {
+    ghost use Rattle.std.specs.Prelude.{◌≡◌};
+    ghost use Rattle.reqtable_compare.specs.declared.sides.SameError.TheVariants.{Memory};
+
+    ghost from_gives = { λ _ error. error ≡ Memory };
+
+    fn from(_: AllocFailed<T>) -> SameError {
+        SameError::Memory
+    }
+}
+
+impl fmt::Display for SameError {
+    fn fmt<W: fmt::Write>(&self, f: &mut fmt::Formatter<W>) -> fmt::Result {
+        match self {
+            SameError::Line {
+                side,
+                number,
+                cause,
+            } => {
+                let side = side_name(*side);
+                write!(f, "{side} list: line {number}: ")?;
+                write!(f, "{cause}")
+            }
+            SameError::TooManyCases { side, package } => {
+                let side = side_name(*side);
+                write!(f, "{side} list: {package}: too many cases")
+            }
+            SameError::Memory => write!(f, "out of memory"),
+        }
+    }
+}
+
+fn side_name(side: Side) -> &'static str {
+    match side {
+        Side::Left => "left",
+        Side::Right => "right",
+    }
+}
+
+impl Error for SameError {}

@@ -1,0 +1,48 @@
+//! A case of a package, by what it requires.
+
+ghost use Rattle.std.specs.Prelude.{◌↔◌, IsTrue};
+ghost use Rattle.std.specs.Option.{option_map};
+ghost use Rattle.reqtable_compare.specs.Summed.{Alike, SameRange};
+ghost use Rattle.reqtable_compare.specs.Seen.{summary_record};
+
+use pep440_version::Version;
+use pep508_name::ExtraName;
+use pep508_tree::MarkerTree;
+use version_ranges::Ranges;
+
+/// A case: whether it has lines, the extras that they ask for, in the order of their bytes, the range that
+/// they share, and where it holds.
+#[derive(Drop)]
+pub(crate) struct Summary<'a> {
+    pub(crate) has_lines: bool,
+    pub(crate) extras: Vec<ExtraName>,
+    pub(crate) range: Option<&'a Ranges<Version>>,
+    pub(crate) tree: MarkerTree,
+}
+
+impl<'a> Summary<'a> {
+    /// Whether both require nothing, or both the same.
+    pub(crate) fn is_alike(&self, other: &Summary<'a>) -> bool
+        ensures { IsTrue result ↔ Alike (summary_record self.now) (summary_record other.now) }
+    {
+        if !self.has_lines {
+            return !other.has_lines;
+        }
+        if !other.has_lines {
+            return false;
+        }
+        self.extras == other.extras && is_same_range(self.range, other.range)
+    }
+}
+
+fn is_same_range(a: Option<&Ranges<Version>>, b: Option<&Ranges<Version>>) -> bool
+    ensures { IsTrue result ↔ SameRange (option_map (λ r. r.now) a.entry) (option_map (λ r. r.now) b.entry) }
+{
+    match a {
+        Some(ours) => match b {
+            Some(theirs) => *ours == *theirs,
+            None => false,
+        },
+        None => false,
+    }
+}

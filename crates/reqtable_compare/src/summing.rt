@@ -1,0 +1,119 @@
+//! What the cases of a package's lines require.
+
+ghost use Rattle.std.specs.Prelude.{◌≡◌, List, [], map, None, IfOk};
+ghost use Rattle.std.specs.List.{AllZip};
+ghost use Rattle.std.specs.List.Sorted.{IsStrictlySortedBy};
+ghost use Rattle.std.specs.Ordering.{nat_cmp};
+ghost use Rattle.reqtable_table.specs.Casing.{case_record};
+ghost use Rattle.reqtable_table.specs.Cases.{cases_under};
+ghost use Rattle.reqtable_compare.specs.Numbered.{extras_at};
+ghost use Rattle.reqtable_compare.specs.Seen.{summary_record};
+ghost use Rattle.reqtable_compare.specs.Totals.{IsSummed, AreSummed, some_numbers};
+
+use crate::summary::Summary;
+use pep508_name::{ExtraName, PackageName};
+use pep508_tree::MarkerTree;
+use reqtable_answer::united_extras;
+use reqtable_requirements::Line;
+use reqtable_table::{Case, Table};
+use std::alloc::{AllocError, Global};
+
+/// The cases that a table has of a package, by what these lines of its list require. A package that the list
+/// doesn't name has one, without lines, that always holds.
+///
+/// A case of n lines takes O(n log m) steps to find them among m, and O(n log n) comparisons of extras.
+pub(crate) fn summaries<'a>(
+    alloc: Global,
+    lines: &[Line],
+    table: &'a Table,
+    name: &PackageName,
+) -> Result<Vec<Summary<'a>>, AllocError>
+    requires rising { IsStrictlySortedBy nat_cmp (map (λ line. line.number) lines.now) }
+    ensures { IfOk result (λ found.
+        AreSummed lines.now (cases_under name.now table.now) (map summary_record found.items)) }
+{
+    match table.cases(name) {
+        Some(cases) => each_summary(alloc, lines, cases),
+        None => nothing(alloc),
+    }
+}
+
+/// The one case without lines.
+fn nothing<'a>(alloc: Global) -> Result<Vec<Summary<'a>>, AllocError>
+    ensures { IfOk result (λ found. AreSummed [] None (map summary_record found.items)) }
+{
+    let mut found = Vec::with_capacity(alloc, 1)?;
+    found.push(Summary {
+        has_lines: false,
+        extras: Vec::new(alloc),
+        range: None,
+        tree: MarkerTree::TRUE,
+    })?;
+    Ok(found)
+}
+
+fn each_summary<'a>(
+    alloc: Global,
+    lines: &[Line],
+    cases: &'a [Case],
+) -> Result<Vec<Summary<'a>>, AllocError>
+    requires rising { IsStrictlySortedBy nat_cmp (map (λ line. line.number) lines.now) }
+    ensures { IfOk result (λ found.
+        AllZip (IsSummed lines.now) (map summary_record found.items) (map case_record cases.now)) }
+{
+    let mut found = Vec::with_capacity(alloc, cases.len())?;
+    for case in cases {
+        found.push(summary(alloc, lines, case)?)?;
+    }
+    Ok(found)
+}
+
+fn summary<'a>(alloc: Global, lines: &[Line], case: &'a Case) -> Result<Summary<'a>, AllocError>
+    requires rising { IsStrictlySortedBy nat_cmp (map (λ line. line.number) lines.now) }
+    ensures { IfOk result (λ found. IsSummed lines.now (summary_record found) (case_record case.now)) }
+{
+    let lists = lists_of(alloc, lines, &case.lines)?;
+    let extras = united_extras(alloc, &lists)?;
+    Ok(Summary {
+        has_lines: has_some(&case.lines),
+        extras,
+        range: case.range.as_ref(),
+        tree: case.tree,
+    })
+}
+
+/// The extras of the lines with these numbers.
+fn lists_of<'a>(
+    alloc: Global,
+    lines: &'a [Line],
+    numbers: &[usize],
+) -> Result<Vec<&'a [ExtraName]>, AllocError>
+    requires rising { IsStrictlySortedBy nat_cmp (map (λ line. line.number) lines.now) }
+    ensures { IfOk result (λ lists.
+        map (λ list. list.now) lists.items ≡ map (extras_at lines.now) numbers.now) }
+{
+    let mut lists = Vec::with_capacity(alloc, numbers.len())?;
+    for number in numbers {
+        lists.push(extras_of(lines, *number))?;
+    }
+    Ok(lists)
+}
+
+fn extras_of(lines: &[Line], number: usize) -> &[ExtraName]
+    requires rising { IsStrictlySortedBy nat_cmp (map (λ line. line.number) lines.now) }
+    ensures { result.now ≡ extras_at lines.now number }
+{
+    match lines.binary_search_by(|line| line.number.cmp(&number)) {
+        Ok(place) => &lines[place].requirement.extras,
+        Err(_) => &[],
+    }
+}
+
+fn has_some(numbers: &[usize]) -> bool
+    ensures { result ≡ some_numbers numbers.now }
+{
+    match numbers.split_first() {
+        Some(_) => true,
+        None => false,
+    }
+}

@@ -1,0 +1,49 @@
+-- What the laws say of conflicts: where just their lines apply, no plain version is taken.
+use Rattle.std.specs.Prelude.{◌≡◌, ℕ, false, List, All, map, filter, Ok}
+use Rattle.std.specs.List.{list_all, AllZip}
+use Rattle.pep440_version.specs.Record.{VersionRecord}
+use Rattle.pep508_url.specs.Vars.{Variables}
+use Rattle.pep508_diagram.specs.Question.{Valuation}
+use Rattle.pep508_tree.specs.Meaning.{NodeRecord}
+use Rattle.reqtable_text.specs.declared.candidates.Candidate.{Candidate}
+use Rattle.reqtable_range.specs.Together.{IsPlain}
+use Rattle.reqtable_answer.specs.declared.answer.Outcome.TheVariants.{Nothing}
+use Rattle.reqtable_answer.specs.Asks.{ask_takes}
+use Rattle.reqtable_answer.specs.Answer.{Admits, RowRecord, IsRow}
+use Rattle.reqtable_requirements.specs.declared.requirements.Line.{Line}
+use Rattle.reqtable_requirements.specs.LineReading.{LineRecord}
+use Rattle.reqtable_requirements.specs.ReadLines.{AreRead}
+use Rattle.reqtable_requirements.specs.Requirements.{StandsFor}
+use Rattle.reqtable_requirements.specs.Asks.{applies, lines_of, asks_of}
+use Rattle.reqtable_cases.specs.Requires.{asked_of}
+use Rattle.reqtable_conflicts.specs.Contradictions.{ConflictRecord, FindsConflicts}
+
+-- of the conflict's package just its lines apply
+abbrev pub ApplyAlone : Valuation → List LineRecord → ConflictRecord → Type 0
+ApplyAlone v said conflict =
+    map (λ line. line.number) (filter (applies v) (lines_of conflict.name said)) ≡ conflict.numbers
+
+-- they do somewhere
+abbrev pub ApplySomewhere : List LineRecord → ConflictRecord → Type 0
+ApplySomewhere said conflict = (v : Valuation) × ApplyAlone v said conflict
+
+-- wherever they do, no plain version is taken by all that is asked of the package
+abbrev pub TakesNoPlain : List LineRecord → ConflictRecord → Type 0
+TakesNoPlain said conflict =
+    (v : Valuation) (version : VersionRecord) → ApplyAlone v said conflict → IsPlain version →
+    list_all (ask_takes version) (asked_of conflict.name v said) ≡ false
+
+-- wherever they do, the package's row says that nothing is taken of plain candidates
+abbrev pub HasNothing : List LineRecord → ConflictRecord → Type 0
+HasNothing said conflict =
+    (v : Valuation) (admits : Admits) (candidates : List Candidate) (row : RowRecord) →
+    ApplyAlone v said conflict → All (λ candidate. IsPlain candidate.version) candidates →
+    IsRow admits (asks_of v said) candidates row → row.name ≡ conflict.name → row.outcome ≡ Nothing
+
+-- whatever conflicts are found in requirements, each is so
+abbrev pub EachFound : (List LineRecord → ConflictRecord → Type 0) → Type 0
+EachFound IsSo =
+    (vars : Variables) (nodes : List NodeRecord) (requirements : List Line) (said : List LineRecord)
+    (limit : ℕ) (found : List ConflictRecord) → AreRead requirements →
+    AllZip (StandsFor vars nodes) requirements said →
+    FindsConflicts (λ conflicts. conflicts) limit said (Ok found) → All (IsSo said) found

@@ -1,0 +1,5 @@
+pub mod Places
+pub mod Sorted
+pub mod Falling
+pub mod Gaps
+pub mod Passing

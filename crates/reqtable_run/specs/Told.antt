@@ -1,0 +1,40 @@
+-- Of which versions the range of some specifiers tells: bounded ones, of which one is `<` or `>`, or others.
+use Rattle.std.specs.Prelude.{◌≡◌, ◌==◌, ◌&&◌, ◌||◌, Bool, true, false, not, List, length}
+use Rattle.std.specs.Prelude.{Option, Some, None, is_none}
+use Rattle.version_ranges.specs.Held.{holds_at}
+use Rattle.version_ranges.specs.Point.{Point, At}
+use Rattle.pep440_version.specs.Order.{version_cmp}
+use Rattle.pep440_version.specs.Record.{VersionRecord}
+use Rattle.pep440_operator.specs.declared.operator.Operator.{Operator}
+use Rattle.pep440_operator.specs.declared.operator.Operator.TheVariants.{ExactEqual, LessThan, GreaterThan}
+use Rattle.pep440_operator.specs.declared.operator.Operator.TheVariants.{Equal, EqualStar, NotEqual}
+use Rattle.pep440_operator.specs.declared.operator.Operator.TheVariants.{NotEqualStar, TildeEqual}
+use Rattle.pep440_operator.specs.declared.operator.Operator.TheVariants.{LessThanEqual, GreaterThanEqual}
+
+-- `<` or `>`
+abbrev pub is_bound : Operator → Bool
+is_bound ExactEqual = false
+is_bound LessThan = true
+is_bound GreaterThan = true
+is_bound Equal = false
+is_bound EqualStar = false
+is_bound NotEqual = false
+is_bound NotEqualStar = false
+is_bound TildeEqual = false
+is_bound LessThanEqual = false
+is_bound GreaterThanEqual = false
+
+-- plain: neither a local part nor a post-release
+abbrev pub is_plain : VersionRecord → Bool
+is_plain version = length version.local == 0 && is_none version.post
+
+-- told: a range tells of each plain version, and where it isn't bounded of post-releases without a local part
+-- too
+abbrev pub is_told : Bool → VersionRecord → Bool
+is_told bounded version = length version.local == 0 && (is_none version.post || not bounded)
+
+-- there is a range, which tells of the version and doesn't hold it
+abbrev pub IsPassed : Bool → Option (List (Point VersionRecord)) → VersionRecord → Type 0
+IsPassed bounded None version = ⊥
+IsPassed bounded (Some set) version =
+    (is_told bounded version ≡ true) × (holds_at version_cmp set (At version) ≡ false)

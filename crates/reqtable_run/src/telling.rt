@@ -1,0 +1,86 @@
+//! Of which versions a range tells, and where those stand of which it doesn't.
+
+ghost use Rattle.std.specs.Prelude.{◌≡◌, ◌≤◌, ◌<◌, length, IfOk};
+ghost use Rattle.std.specs.List.{list_any, AllByRecursion};
+ghost use Rattle.std.specs.List.Sorted.{IsNonDecreasing, IsPartitionPoint};
+ghost use Rattle.reqtable_run.specs.Told.{is_told, is_bound};
+ghost use Rattle.reqtable_run.specs.InRun.{untold_from};
+
+use pep440_specifier::{Operator, VersionSpecifier};
+use pep440_version::Version;
+use reqtable_text::Placed;
+use std::alloc::{AllocError, Global};
+
+/// Whether the range of some specifiers tells of the version. They are bounded where one is `<` or `>`.
+pub fn is_told(bounded: bool, version: &Version) -> bool
+    ensures { result ≡ is_told bounded version.now }
+{
+    version.local().is_empty() && (version.post().is_none() || !bounded)
+}
+
+/// Whether a specifier is `<` or `>`.
+pub fn has_bound(specifiers: &[VersionSpecifier]) -> bool
+    ensures { result ≡ list_any (λ s. is_bound s.operator) specifiers.now }
+{
+    specifiers
+        .iter()
+        .any(|specifier| is_bound(specifier.operator()))
+}
+
+fn is_bound(operator: Operator) -> bool
+    ensures { result ≡ is_bound operator }
+{
+    match operator {
+        Operator::LessThan | Operator::GreaterThan => true,
+        Operator::Equal
+        | Operator::EqualStar
+        | Operator::ExactEqual
+        | Operator::NotEqual
+        | Operator::NotEqualStar
+        | Operator::TildeEqual
+        | Operator::LessThanEqual
+        | Operator::GreaterThanEqual => false,
+    }
+}
+
+/// The places of the candidates of which a range doesn't tell.
+pub(crate) fn untold_places(
+    alloc: Global,
+    bounded: bool,
+    placed: &[Placed<'_>],
+) -> Result<Vec<usize>, AllocError>
+    ensures { IfOk result (λ places. places.items ≡ untold_from bounded 0 placed.now) }
+{
+    let mut places = Vec::new(alloc);
+    for (index, item) in placed.iter().enumerate() {
+        if !is_told(bounded, &item.candidate.version) {
+            places.push(index)?;
+        }
+    }
+    Ok(places)
+}
+
+/// The first of rising places that lies behind a place, up to an end.
+pub(crate) fn next_place(places: &[usize], at: usize, end: usize) -> usize
+    requires rising { IsNonDecreasing places.now }
+    requires within { at < end }
+    ensures behind { at < result }
+    ensures within { result ≤ end }
+    ensures next { AllByRecursion (λ place. at < place → result ≤ place) places.now }
+{
+    let past = places_upto(places, at);
+    if past == places.len() {
+        return end;
+    }
+    let place = places[past];
+    if place < end { place } else { end }
+}
+
+/// How many of rising places lie at a place or before it.
+fn places_upto(places: &[usize], at: usize) -> usize
+    requires { IsNonDecreasing places.now }
+    ensures within { result ≤ length places.now }
+    ensures point { IsPartitionPoint (λ place. place ≤ at) (λ place. at < place) places.now result }
+{
+    places.partition_point(|place| *place <= at)
+}

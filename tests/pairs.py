@@ -1,0 +1,374 @@
+#!/usr/bin/env python3
+"""Compares lists by `reqs same`, of which it is known by how they are made whether they require the same.
+
+    pairs.py COUNT [--seed N] [--program PATH]
+    pairs.py --round N [--seed N] [--program PATH] [--folder FOLDER]
+
+A round is a list of up to 8 lines, made at random, and a second one that is made of it by an edit. Some edits keep what
+the list requires: lines in another order, a line split in two by a marker and its opposite, a line that never applies,
+names and extras in another spelling and order, a specifier doubled, a blank line. Others change it: a version that the
+lines of a package take is taken no more, an extra is asked for besides, a package that no other line names is left out
+where its line sometimes applies, or asked for besides. `same` has to say yes or no accordingly, the lists in either
+order; and yes for each list beside itself in another order, and beside its normal text where it has one. Where it says
+no, environments in which the marker holds are looked for among some: in each of them the one list asks for the package
+as the other doesn't, in the words of `check`, or in what it takes of the package's candidates, where its range tells
+of them.
+
+The rounds of a seed are the same on each machine. The second form runs the one round of that number, shows what is said,
+and leaves its inputs in the folder. PROGRAM is ../crates/reqs_cli/out/reqs_cli where none is named. The last line is
+`pairs: N passed, M failed`, a round each. It fails too where an edit never came, where no list or each had a normal text,
+or where in no environment of a difference the two lists had different rows.
+"""
+
+import argparse
+import json
+import multiprocessing
+import os
+import re
+import shutil
+import subprocess
+import sys
+import tempfile
+from collections import Counter
+
+import alike
+from alike import Draw, EXTRAS, MEMBERS, NAMES, SPACES
+
+MOST_LINES = 8
+# Specifiers that are compared: no `===`, and no post-release beside `<` or `>`.
+SIGNS = ("==", "==", "!=", "<", "<=", ">", ">=", ">=", "==.*", "!=.*", "~=")
+# Markers of which one holds where the other doesn't. Numbers of versions alone are compared.
+OPPOSITES = (
+    ("os_name == 'nt'", "os_name != 'nt'"),
+    ("sys_platform == 'linux'", "'linux' != sys_platform"),
+    ("python_full_version < '3.9'", "python_full_version >= '3.9'"),
+    ("python_version <= \"3.10\"", "python_version > '3.10'"),
+    ("extra == 'dev'", "extra != 'Dev'"),
+    ("'x86' in platform_machine", "'x86' not in platform_machine"),
+    ("platform_system == 'Linux' and extra == 'x'", "platform_system != 'Linux' or extra != 'x'"),
+)
+NEVER = ("os_name == 'a' and os_name == 'b'", "python_full_version < '3.8' and python_full_version >= '3.9'",
+         "extra == 'x' and extra != 'X'", "sys_platform < 'a' and 'b' < sys_platform")
+# Packages that no line of a list names but by an edit.
+OTHERS = ("alone", "zz.top", "Base_9")
+
+
+class Line:
+    """A line's parts: a package, extras, specifiers and a marker, or an empty text."""
+
+    def __init__(self, name, extras, specifiers, marker):
+        self.name, self.extras, self.specifiers, self.marker = name, extras, specifiers, marker
+
+    def with_marker(self, marker):
+        joined = f"({self.marker}) and ({marker})" if self.marker else marker
+        return Line(self.name, self.extras, self.specifiers, joined)
+
+    def text(self, draw):
+        text = draw.one(spellings(self.name))
+        if self.extras:
+            text += f"{draw.one(SPACES)}[{draw.one((',', ', ')).join(self.extras)}]"
+        if self.specifiers:
+            text += draw.one(SPACES) + draw.one((",", ", ")).join(self.specifiers)
+        return text + (f" ;{draw.one(SPACES)}{self.marker}" if self.marker else "")
+
+
+def normal_name(name):
+    return re.sub(r"[-_.]+", "-", name).lower()
+
+
+def spellings(name):
+    """A package's name in some spellings."""
+    return next((it for it in NAMES if normal_name(it[0]) == normal_name(name)), (name, name.upper()))
+
+
+def specifier(draw):
+    sign = draw.one(SIGNS)
+    releases = [it for it in alike.RELEASES if "." in it] if sign == "~=" else alike.RELEASES
+    release = draw.one(releases)
+    if sign.endswith("*"):
+        return f"{sign[:2]}{release}.*"
+    part = draw.one(alike.PUBLIC_PARTS) if draw.is_in(20) else ""
+    # (a post-release beside a bound is refused)
+    if sign in "<>" and re.search(r"post|-1", part):
+        part = ""
+    return sign + draw.one(SPACES) + release + part
+
+
+def marker(draw):
+    kind = draw.below(10)
+    if kind < 3:
+        return ""
+    text = draw.one(draw.one(OPPOSITES)) if kind < 6 else alike.marker(draw, 1)
+    # (a `#` behind a blank begins a comment, also in a marker's text)
+    return "" if re.search(r"\s#", text) else text
+
+
+def list_of_lines(draw):
+    lines = []
+    for _ in range(draw.below(MOST_LINES + 1)):
+        specifiers = [specifier(draw) for _ in range(draw.one((0, 1, 1, 2)))]
+        lines.append(Line(draw.one(NAMES)[0], draw.some(EXTRAS, 2) if draw.is_in(25) else [], specifiers, marker(draw)))
+    return lines
+
+
+# ---- edits that keep what a list requires
+
+def in_another_order(draw, lines):
+    return draw.shuffled(lines)
+
+
+def split_in_two(draw, lines):
+    at, pair = draw.below(len(lines)), draw.one(OPPOSITES)
+    return [*lines[:at], *(lines[at].with_marker(it) for it in draw.shuffled(pair)), *lines[at + 1:]]
+
+
+def with_one_that_never_applies(draw, lines):
+    name = draw.one((*OTHERS, *(it.name for it in lines)))
+    return [*lines, Line(name, draw.some(EXTRAS, 1), [specifier(draw)], draw.one(NEVER))]
+
+
+def with_a_specifier_doubled(draw, lines):
+    at = draw.below(len(lines))
+    it = lines[at]
+    doubled = draw.shuffled([*it.specifiers, *it.specifiers[:1]])
+    return [*lines[:at], Line(it.name, it.extras, doubled, it.marker), *lines[at + 1:]]
+
+
+def with_extras_apart(draw, lines):
+    """A line's extras on lines of their own, beside it."""
+    at = draw.below(len(lines))
+    it = lines[at]
+    apart = [Line(it.name, [extra.upper()], [], it.marker) for extra in it.extras]
+    return draw.shuffled([*lines[:at], Line(it.name, [], it.specifiers, it.marker), *lines[at + 1:], *apart])
+
+
+def with_specifiers_apart(draw, lines):
+    at = draw.below(len(lines))
+    it = lines[at]
+    apart = [Line(it.name, [], [one], it.marker) for one in it.specifiers]
+    return [*lines[:at], Line(it.name, it.extras, [], it.marker), *lines[at + 1:], *apart]
+
+
+# ---- edits that change it: where some package is asked for with other extras or points
+
+def with_another_package(draw, lines):
+    pair = draw.one(OPPOSITES)
+    return [*lines, Line(draw.one(OTHERS), [], [specifier(draw)] if draw.is_in(50) else [], draw.one(("", *pair)))]
+
+
+def with_an_extra(draw, lines):
+    """An extra that no line asks for, wherever the line's marker holds."""
+    at = sometimes(draw, lines)
+    it = lines[at]
+    return [*lines[:at], Line(it.name, [*it.extras, "brand_new"], it.specifiers, it.marker), *lines[at + 1:]]
+
+
+def with_a_bound_moved(draw, lines):
+    """A package of one line alone whose specifiers take other versions."""
+    name, (old, new) = draw.one(OTHERS), draw.one(BOUNDS)
+    place = draw.one(("", *draw.one(OPPOSITES)))
+    extras = draw.some(EXTRAS, 1)
+    return [*lines, Line(name, extras, [old], place)], [*lines, Line(name, extras, [new], place)]
+
+
+# Specifiers that don't take the same versions.
+BOUNDS = ((">=1", ">1"), (">=1.0", ">=1.0.1"), ("<2", "<=2"), ("==1.*", "==1.0.*"), ("==1.0", "==1.0.1"), ("!=1.5", "!=1.5.*"),
+          ("~=1.4", "~=1.4.2"), (">=1", ">=1.0a1"), ("<2.0.dev0", "<2.0a1"), ("==1!1.0", "==1.0"))
+
+
+def sometimes(draw, lines):
+    """A line that applies in some environment with some extras, as one of no marker or of a simple one."""
+    simple = {"", *(it for pair in OPPOSITES for it in pair)}
+    return draw.one([at for at, it in enumerate(lines) if it.marker in simple])
+
+
+def has_sometimes(lines):
+    simple = {"", *(it for pair in OPPOSITES for it in pair)}
+    return any(it.marker in simple for it in lines)
+
+
+KEEPING = (in_another_order, split_in_two, with_one_that_never_applies, with_a_specifier_doubled, with_extras_apart,
+           with_specifiers_apart)
+CHANGING = (with_another_package, with_an_extra, with_a_bound_moved)
+
+
+class Round:
+    """The two lists of a round, and whether they require the same."""
+
+    def __init__(self, seed, number):
+        draw = Draw(seed, number)
+        lines = list_of_lines(draw)
+        self.is_kept = draw.is_in(50)
+        edits = KEEPING if self.is_kept else CHANGING
+        if not lines:
+            edits = (in_another_order, with_one_that_never_applies) if self.is_kept else (with_another_package, with_a_bound_moved)
+        elif not self.is_kept and not has_sometimes(lines):
+            edits = (with_another_package, with_a_bound_moved)
+        self.edit = draw.one(edits)
+        found = self.edit(draw, lines)
+        left, right = found if isinstance(found, tuple) else (lines, found)
+        if self.is_kept and draw.is_in(50):
+            right = draw.one((split_in_two, with_a_specifier_doubled))(draw, right) if right else right
+        self.left, self.right = left, right
+        self.texts = {"LEFT": laid_out(draw, left), "RIGHT": laid_out(draw, draw.shuffled(right))}
+        self.texts["TURNED"] = laid_out(draw, draw.shuffled(left))
+        self.environments = [alike.members(draw) for _ in range(6)]
+        self.extras = [draw.some(EXTRAS, 3) for _ in self.environments]
+        names = {normal_name(it.name) for it in (*left, *right)}
+        plain = ("0.5", "1.0", "1.0.1", "1.4", "1.4.2", "1.5", "1.5.1", "2", "2.0.1", "3.1", "1!1.0")
+        self.texts["C"] = "".join(f"{name} {version}\n" for name in sorted(names) for version in plain)
+        for at, it in enumerate(self.environments):
+            self.texts[f"E{at}"] = json.dumps(it)
+
+    def write(self, folder):
+        for name, text in self.texts.items():
+            with open(os.path.join(folder, name), "w", encoding="utf-8") as file:
+                file.write(text)
+
+
+def laid_out(draw, lines):
+    return alike.laid_out(draw, [it.text(draw) for it in lines])
+
+
+# What `normal` may refuse.
+NO_NORMAL = re.compile(rb"reqs: LEFT: line [0-9]+: (?:single quote|deprecated key|version bound)\n")
+NO = re.compile(rb"no\n([a-z0-9-]+)\n([^\n]+)\n")
+
+
+class Play:
+    """What is said of a round's lists: what was seen, and what is wrong."""
+
+    def __init__(self, program, made, folder):
+        self.program, self.made, self.folder = program, made, folder
+        self.seen, self.said = Counter([made.edit.__name__]), []
+
+    def ask(self, *words):
+        ended = alike.ran(self.program, [*words], self.folder)
+        self.said.append((words, ended))
+        return ended
+
+    def fault(self):
+        yes, made = (0, b"yes\n", b""), self.made
+        found = self.ask("same", "LEFT", "RIGHT")
+        turned = self.ask("same", "RIGHT", "LEFT")
+        if made.is_kept:
+            if found != yes or turned != yes:
+                return f"the edit keeps what is required, and same says {found}, and {turned} of the lists exchanged"
+        else:
+            said, other = (NO.fullmatch(it[1]) if (it[0], it[2]) == (1, b"") else None for it in (found, turned))
+            if not said or not other or said[1] != other[1]:
+                return f"the edit changes what is required, and same says {found}, and {turned} of the lists exchanged"
+            fault = self.difference_fault(said)
+            if fault:
+                return fault
+        again = self.ask("same", "TURNED", "LEFT")
+        return f"the list turned round: same says {again}" if again != yes else self.normal_fault(yes)
+
+    def normal_fault(self, yes):
+        status, text, told = self.ask("normal", "LEFT")
+        if status == 2 and not text and NO_NORMAL.fullmatch(told):
+            self.seen["without a normal text"] += 1
+            return None
+        if status or told:
+            return f"normal says {(status, text, told)}"
+        self.seen["normal texts"] += 1
+        with open(os.path.join(self.folder, "NORMAL"), "wb") as file:
+            file.write(text)
+        again, same = self.ask("normal", "NORMAL"), self.ask("same", "LEFT", "NORMAL")
+        if again != (0, text, b"") or same != yes:
+            return f"the normal text {text}: normal says {again} of it, and same {same}"
+        return None
+
+    def difference_fault(self, said):
+        """Where the marker holds, as a line with it tells, the rows of the package are looked at."""
+        package = said[1].decode()
+        if said[2] != b"all environments":
+            with open(os.path.join(self.folder, "WHERE"), "wb") as file:
+                file.write(b"here ; " + said[2] + b"\n")
+        for at, extras in enumerate(self.made.extras):
+            inputs = [f"E{at}", "C", *extras]
+            if said[2] != b"all environments" and not self.ask("check", "WHERE", *inputs)[1]:
+                continue
+            self.seen["environments of a difference"] += 1
+            rows = [self.row(package, self.ask("check", it, *inputs)[1]) for it in ("LEFT", "RIGHT")]
+            self.seen["differing"] += rows[0] != rows[1]
+            # (lists that take other versions may take the same candidate)
+            if rows == [None, None]:
+                return f"in E{at} with {extras} neither list asks for {package}, and same says {said[0]}"
+        return None
+
+    @staticmethod
+    def row(package, text):
+        form = re.compile(rf"{re.escape(package)}(?:\[[^]]*\])? \S+")
+        return next((it for it in text.decode().splitlines() if form.fullmatch(it)), None)
+
+
+def played(task):
+    """What came of a round: how often what was seen, and a fault or nothing."""
+    program, seed, number, kept = task
+    made = Round(seed, number)
+    folder = kept or tempfile.mkdtemp(prefix="pairs-")
+    play = Play(program, made, folder)
+    try:
+        made.write(folder)
+        fault = play.fault()
+    except (OSError, subprocess.TimeoutExpired) as error:
+        fault = str(error)
+    finally:
+        if not kept:
+            shutil.rmtree(folder)
+    if kept:
+        for words, ended in play.said:
+            print(*words, *ended, sep="\n    ")
+    return play.seen, fault and f"round {number}: {made.edit.__name__}: {fault}"
+
+
+# What has to come at least once, beside each edit.
+WANTED = ("normal texts", "without a normal text", "environments of a difference", "differing")
+
+
+def play_all(words):
+    """Plays all rounds, and returns how many passed and failed."""
+    sums, faults = Counter(), []
+    tasks = ((words.program, words.seed, number, None) for number in range(words.count))
+    with multiprocessing.Pool(len(os.sched_getaffinity(0))) as pool:
+        for seen, fault in pool.imap(played, tasks, chunksize=8):
+            sums += seen
+            if fault:
+                faults.append(fault)
+    for it in faults[:5]:
+        print(f"FAILED: {it[:1000]}")
+    edits = [it.__name__ for it in (*KEEPING, *CHANGING)]
+    told = ", ".join(f"{sums[it]} {it.replace('_', ' ')}" for it in (*edits, *WANTED))
+    print(f"pairs: seed {words.seed}: {words.count} rounds: {told}")
+    lacking = [it for it in (*edits, *WANTED) if not sums[it]]
+    for it in lacking:
+        print(f"FAILED: not one was {it}")
+    return words.count - len(faults), len(faults) + len(lacking)
+
+
+def main():
+    words = argparse.ArgumentParser(description=__doc__, formatter_class=argparse.RawDescriptionHelpFormatter)
+    words.add_argument("count", metavar="COUNT", type=int, nargs="?")
+    words.add_argument("--round", metavar="N", type=int)
+    words.add_argument("--seed", metavar="N", type=int, default=1)
+    words.add_argument("--program", metavar="PATH", default=os.path.normpath(alike.PROGRAM))
+    words.add_argument("--folder", metavar="FOLDER", help="of one round")
+    given = words.parse_args()
+    given.program = os.path.abspath(given.program)
+    if (given.count is None) == (given.round is None):
+        words.error("either COUNT or --round is needed")
+    if given.round is not None:
+        folder = os.path.abspath(given.folder or tempfile.mkdtemp(prefix="pairs-"))
+        os.makedirs(folder, exist_ok=True)
+        print(f"the inputs are in {folder}")
+        fault = played((given.program, given.seed, given.round, folder))[1]
+        print(fault or "as it has to be")
+        return 1 if fault else 0
+    passed, failed = play_all(given)
+    print(f"pairs: {passed} passed, {failed} failed")
+    return 1 if failed else 0
+
+
+if __name__ == "__main__":
+    sys.exit(main())
