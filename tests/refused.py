@@ -193,12 +193,12 @@ def commands_on_lists(room):
     yield "same, everywhere:", ["same", "APART", "RIGHT"], room, (1, b"no\nbar\nall environments\n", b"")
     cases = b"reqs: RIGHT: more than 1 cases for foo-bar\n"
     yield "same, too many cases:", ["same", "REQS", "RIGHT", "--limit", "1"], room, (2, b"", cases)
-    yield "same, a URL:", ["same", "LEFT", "URL"], room, (2, b"", b"reqs: RIGHT: line 1: URL\n")
+    yield "same, a URL:", ["same", "LEFT", "URL"], room, (2, b"", b"reqs: URL: line 1: URL\n")
     yield "conflicts:", ["conflicts", "APART"], room, (0, b"bar 2\nfoo 1,3\n", b"")
     yield "conflicts, too many cases:", ["conflicts", "APART", "--limit", "1"], room, (
         2, b"", b"reqs: APART: more than 1 cases for foo\n")
     normal = (b"foo-bar[b,a]>=1,<2 ; python_full_version >= '3.8'\n"
-              b"x==1 ; os_name == 'nt' or extra == 'dev'\n")
+              b"x==1 ; extra == 'dev' or os_name == 'nt'\n")
     yield "normal:", ["normal", "LEFT"], room, (0, normal, b"")
     yield "normal, a URL:", ["normal", "URL"], room, (2, b"", b"reqs: URL: line 1: URL\n")
 
