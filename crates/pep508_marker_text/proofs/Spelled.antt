@@ -1,5 +1,6 @@
 -- Equal versions in their shortest spelling are the same, and so are diagrams that are one.
-use Rattle.std.proofs.Common.{◌≡◌, ◌∙◌, ℕ, ◌==◌, cond, if◌then◌else◌, List, [], ◌∷◌, map, refl, ap, ap₂, sym, arith, Option, Some, None, Less, Equal, Greater}
+use Rattle.std.proofs.Common.{◌≡◌, ◌∙◌, ℕ, ◌==◌, cond, if◌then◌else◌, List, [], ◌∷◌, map, refl, ap, ap₂, sym}
+use Rattle.std.proofs.Common.{arith, Option, Some, None, Less, Equal, Greater}
 use Rattle.std.specs.Ordering.{is_eq}
 use Rattle.std.specs.Cmp.Lexicographic.{slice_cmp}
 use Rattle.version_ranges.specs.declared.boundary.Boundary.{Boundary}
@@ -10,13 +11,16 @@ use Rattle.pep440_text.specs.declared.PrereleaseKind.{PrereleaseKind}
 use Rattle.pep440_text.specs.declared.PrereleaseKind.TheVariants.{Alpha, Beta, Rc}
 use Rattle.pep440_text.specs.Record.{Segment, Text, Number, VersionRecord}
 use Rattle.pep440_version.specs.Changes.{or_zero}
-use Rattle.pep440_version.specs.Order.{kind_rank, stripped, absent_first, absent_last, pre_key, post_key, segment_key, key_of, version_cmp}
+use Rattle.pep440_version.specs.Order.{kind_rank, stripped, absent_first, absent_last, pre_key, post_key}
+use Rattle.pep440_version.specs.Order.{segment_key, key_of, version_cmp}
 use Rattle.pep440_version.specs.OrderLaws.{key_decides}
 use Rattle.pep508_diagram.specs.Diagram.{Diagram, Leaf, Test}
-use Rattle.pep508_diagram.specs.Question.{Question, VersionBelow, TextBelow, IsSet, Valuation, truth, AreOne, IsCanonical, place_of, version_rank, text_rank, question_cmp}
+use Rattle.pep508_diagram.specs.Question.{Question, VersionBelow, TextBelow, IsSet, Valuation, truth, AreOne}
+use Rattle.pep508_diagram.specs.Question.{IsCanonical, place_of, version_rank, text_rank, question_cmp}
 use Rattle.pep508_diagram.specs.Shortened.{post_beside, shortest, IsShort, AsksOfShort, HasShortVersions}
 use Rattle.pep508_diagram.specs.Text.{text_cmp}
-use Rattle.pep508_diagram.proofs.Places.{not_less, both_equal, texts_same, versions_same, text_keys_same, version_rank_below, rank_below, flag_rank_from, flag_from_place}
+use Rattle.pep508_diagram.proofs.Places.{not_less, both_equal, texts_same, versions_same, text_keys_same}
+use Rattle.pep508_diagram.proofs.Places.{version_rank_below, rank_below, flag_rank_from, flag_from_place}
 use Rattle.pep508_diagram.proofs.Questions.{one_marker_diagram}
 
 -- ---- parts of keys

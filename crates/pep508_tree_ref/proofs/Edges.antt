@@ -1,5 +1,6 @@
 -- The order of trees by the edges at their roots.
-use Rattle.std.proofs.Common.{◌≡◌, ℕ, ◌<◌, ◌≤◌, Bool, true, false, not, List, [], ◌∷◌, map, length, Option, Some, None, refl, sym, ap, ap₂, subst, ◌∙◌, Less, Greater, nat_cmp, get_or}
+use Rattle.std.proofs.Common.{◌≡◌, ℕ, ◌<◌, ◌≤◌, Bool, true, false, not, List, [], ◌∷◌, map, length, Option}
+use Rattle.std.proofs.Common.{Some, None, refl, sym, ap, ap₂, subst, ◌∙◌, Less, Greater, nat_cmp, get_or}
 use Rattle.std.specs.Prelude.{option_map}
 use Rattle.std.specs.List.{slice_get}
 use Rattle.std.specs.Ordering.{bool_cmp, ordering_then}
@@ -17,7 +18,8 @@ use Rattle.pep508_diagram.specs.Diagram.{Diagram, Leaf, Test}
 use Rattle.pep508_diagram.specs.Branches.{AllBranches}
 use Rattle.pep508_diagram.specs.Chains.{chain}
 use Rattle.pep508_diagram.specs.Children.{RootBehind}
-use Rattle.pep508_diagram.specs.Question.{Question, VersionBelow, TextBelow, IsSet, question_cmp, shares_variable, version_boundaries, text_boundaries, place_of}
+use Rattle.pep508_diagram.specs.Question.{Question, VersionBelow, TextBelow, IsSet, question_cmp}
+use Rattle.pep508_diagram.specs.Question.{shares_variable, version_boundaries, text_boundaries, place_of}
 use Rattle.pep508_diagram.proofs.Chains.{versions_key, texts_key, behind_above}
 use Rattle.pep508_diagram.proofs.Places.{then_equal}
 use Rattle.pep508_tree.specs.Tree.{Tree}

@@ -1,5 +1,6 @@
 -- Diagrams tie where they are one.
-use Rattle.std.proofs.Common.{◌≡◌, ◌↔◌, Bool, true, false, not, refl, sym, ap, ◌∙◌, true≢false, IsTrue, Ordering, Less, Equal, Greater, is_eq}
+use Rattle.std.proofs.Common.{◌≡◌, ◌↔◌, Bool, true, false, not, refl, sym, ap, ◌∙◌, true≢false, IsTrue}
+use Rattle.std.proofs.Common.{Ordering, Less, Equal, Greater, is_eq}
 use Rattle.std.specs.Ordering.{bool_cmp, ordering_then, eq_by_cmp}
 use Rattle.pep508_diagram.specs.Diagram.{Diagram, Leaf, Test}
 use Rattle.pep508_diagram.specs.Question.{Question, Valuation, question_cmp, truth, AreOne, IsCanonical}

@@ -1,5 +1,7 @@
 -- The order of trees, as it is found edge by edge.
-use Rattle.std.proofs.Common.{◌≡◌, ◌↔◌, ℕ, zero, suc, ◌+◌, ◌-◌, ◌==◌, ◌<◌, ◌≤◌, arith, add-one, Bool, true, false, cond, List, [], ◌∷◌, length, drop, Option, Some, None, IsTrue, inl, inr, refl, sym, ap, ap₂, subst, ◌∙◌, true≢false, Ordering, Less, Equal, Greater}
+use Rattle.std.proofs.Common.{◌≡◌, ◌↔◌, ℕ, zero, suc, ◌+◌, ◌-◌, ◌==◌, ◌<◌, ◌≤◌, arith, add-one, Bool, true}
+use Rattle.std.proofs.Common.{false, cond, List, [], ◌∷◌, length, drop, Option, Some, None, IsTrue, inl, inr}
+use Rattle.std.proofs.Common.{refl, sym, ap, ap₂, subst, ◌∙◌, true≢false, Ordering, Less, Equal, Greater}
 use Rattle.std.proofs.lemmas.Bool.{cases_Bool}
 use Rattle.std.specs.Prelude.{option_map, IfSome, if◌then◌else◌}
 use Rattle.std.specs.List.{slice_get}
