@@ -6,7 +6,8 @@ use Rattle.std.specs.List.{AllByRecursion}
 use Rattle.std.specs.Cmp.{ranks, nat_cmp_is}
 use Rattle.std.specs.Ordering.{MatchOrdering, ordering_then, nat_cmp, bool_cmp, is_gt}
 use Rattle.std.proofs.Math.Nat.{mul-le-mul_left}
-use Rattle.pep508_diagram.proofs.Places.{both_equal, not_less}
+use Rattle.pep508_diagram.proofs.Places.{not_less}
+use Rattle.version_ranges.specs.HashingLaws.{then_equal}
 use Rattle.pep508_tree.specs.Tree.{Tree}
 use Rattle.pep508_tree.specs.Nodes.{tree_cmp}
 use Rattle.pep508_tree.proofs.Storing.{trees_same}
@@ -140,8 +141,8 @@ less_places a b less =
 pub same_asked : (a b : TreePair) → pair_cmp a b ≡ Equal → a ≡ b
 same_asked a b e =
     let trees = ordering_then (tree_cmp a.first b.first) (tree_cmp a.second b.second) in
-    let parts = both_equal (nat_cmp (places a) (places b)) trees e in
-    let both = both_equal (tree_cmp a.first b.first) (tree_cmp a.second b.second) parts.1 in
+    let parts = then_equal (nat_cmp (places a) (places b)) trees e in
+    let both = then_equal (tree_cmp a.first b.first) (tree_cmp a.second b.second) parts.1 in
     let one = trees_same a.first b.first both.0 in
     let other = trees_same a.second b.second both.1 in
     λ i. record { first = one i; second = other i }

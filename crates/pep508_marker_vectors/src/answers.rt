@@ -18,11 +18,14 @@ use std::alloc::{AllocError, Global};
 
 /// The answer to a question, `no question` for another form.
 pub fn answer(alloc: Global, environments: &str, question: &str) -> Result<String, AllocError> {
-    let answer = match Value::from_str(alloc, question) {
-        Ok(question) => on_markers(alloc, environments, &question),
-        Err(error) if error.is_memory() => Err(Stop::Memory),
-        Err(_) => said(alloc, "no question"),
-    };
+    match Value::from_str(alloc, question) {
+        Ok(question) => ended(on_markers(alloc, environments, &question)),
+        Err(error) if error.is_memory() => Err(AllocError),
+        Err(_) => String::from_str(alloc, "no question"),
+    }
+}
+
+fn ended(answer: Result<String, Stop>) -> Result<String, AllocError> {
     match answer {
         Ok(text) => Ok(text),
         Err(Stop::Said(text)) => Ok(text),
@@ -32,16 +35,26 @@ pub fn answer(alloc: Global, environments: &str, question: &str) -> Result<Strin
 
 fn on_markers(alloc: Global, environments: &str, question: &Value) -> Result<String, Stop> {
     let mut interner = Interner::new(alloc);
+    on_many(alloc, &mut interner, environments, question)
+}
+
+/// The answer to a question on more than texts alone, or to one of another kind.
+fn on_many(
+    alloc: Global,
+    interner: &mut Interner,
+    environments: &str,
+    question: &Value,
+) -> Result<String, Stop> {
     match text_at(question, 0) {
         "evaluate" | "collected" | "called" | "logged" | "silent" => {
-            evaluated(alloc, &mut interner, environments, question)
+            evaluated(alloc, interner, environments, question)
         }
-        "extras" => on_extras(alloc, &mut interner, question),
-        "present" => on_present(alloc, &mut interner, question),
-        "keeps" => on_kept(alloc, &mut interner, environments, question),
+        "extras" => on_extras(alloc, interner, question),
+        "present" => on_present(alloc, interner, question),
+        "keeps" => on_kept(alloc, interner, environments, question),
         "from value" => {
             let other = text_at(question, 2);
-            shown::from_value(alloc, &mut interner, question.get(1), other)
+            shown::from_value(alloc, interner, question.get(1), other)
         }
         "key of" => {
             let key = text_at(question, 2);
@@ -53,7 +66,7 @@ fn on_markers(alloc: Global, environments: &str, question: &Value) -> Result<Str
         }
         "with" => members::with(alloc, environments, question),
         "built" => members::built(alloc, question),
-        _ => on_two(alloc, &mut interner, question),
+        _ => on_two(alloc, interner, question),
     }
 }
 

@@ -154,6 +154,15 @@ fn of_extra(
         return said(alloc, "no comparison");
     };
     let name = extra(alloc, text)?;
+    of_name(alloc, interner, operator, &name)
+}
+
+fn of_name(
+    alloc: Global,
+    interner: &mut Interner,
+    operator: ExtraOperator,
+    name: &MarkerValueExtra,
+) -> Result<String, Stop> {
     let expression = MarkerExpression::Extra {
         operator,
         name: name.try_clone(alloc)?,

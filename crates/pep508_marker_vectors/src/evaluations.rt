@@ -45,13 +45,22 @@ fn evaluated_in(
         environment,
         extras: &extras,
     };
+    evaluated_at(alloc, interner, &place, question)
+}
+
+fn evaluated_at(
+    alloc: Global,
+    interner: &mut Interner,
+    place: &Place,
+    question: &Value,
+) -> Result<String, Stop> {
     let tree = read(alloc, interner, text_at(question, 1))?;
     match text_at(question, 0) {
-        "evaluate" => told(alloc, interner, tree, &place),
-        "collected" => collected(alloc, interner, tree, &place),
-        "called" => called(alloc, interner, tree, &place),
-        "silent" => silent(alloc, interner, tree, &place),
-        _ => logged(alloc, interner, tree, &place),
+        "evaluate" => told(alloc, interner, tree, place),
+        "collected" => collected(alloc, interner, tree, place),
+        "called" => called(alloc, interner, tree, place),
+        "silent" => silent(alloc, interner, tree, place),
+        _ => logged(alloc, interner, tree, place),
     }
 }
 
@@ -62,12 +71,21 @@ fn told(alloc: Global, interner: &Interner, tree: MarkerTree, place: &Place) -> 
     let mut told = Told::new(alloc);
     let (environment, extras) = (place.environment, place.extras);
     let holds = tree.evaluate_reporter(alloc, interner, environment, extras, &mut told)?;
-    if holds != tree.evaluate(interner, environment, extras)
-        || holds != tree.evaluate_optional_environment(interner, Some(environment), extras)
-    {
-        return said(alloc, "two answers");
+    told.behind(one_answer(interner, tree, place, holds))
+}
+
+/// The answer that each call gives, where all give the same.
+fn one_answer(interner: &Interner, tree: MarkerTree, place: &Place, holds: bool) -> &'static str
+    requires { IsTree interner.now.nodes tree }
+{
+    let (environment, extras) = (place.environment, place.extras);
+    let alone = tree.evaluate(interner, environment, extras);
+    let there = tree.evaluate_optional_environment(interner, Some(environment), extras);
+    if holds == alone && holds == there {
+        word(holds)
+    } else {
+        "two answers"
     }
-    told.behind(word(holds))
 }
 
 fn word(holds: bool) -> &'static str {
@@ -99,7 +117,7 @@ fn listed(
 ) -> Result<String, AllocError> {
     let mut text = String::from_str(alloc, word(holds))?;
     for (kind, warning) in warnings.iter() {
-        push_warning(alloc, &mut text, *kind, warning)?;
+        push_warning(&mut text, *kind, warning)?;
     }
     Ok(text)
 }
@@ -128,7 +146,7 @@ fn called_with(
     requires { IsTree interner.now.nodes tree }
 {
     let mut reporter = ClosureReporter::new(|kind: MarkerWarningKind, warning: String| {
-        push_warning(alloc, text, kind, warning.as_str())
+        push_warning(text, kind, warning.as_str())
     });
     tree.evaluate_reporter(
         alloc,

@@ -66,13 +66,27 @@ fn text_under<'a>(environment: &'a MarkerEnvironment, member: &str) -> &'a str {
 /// The value of an environment with another text as one member.
 pub fn with(alloc: Global, environments: &str, question: &Value) -> Result<String, Stop> {
     let environment = environment(alloc, environments, text_at(question, 1))?;
-    let (name, text) = (text_at(question, 2), text_at(question, 3));
+    printed(
+        alloc,
+        &changed(
+            alloc,
+            environment,
+            text_at(question, 2),
+            text_at(question, 3),
+        )?,
+    )
+}
+
+fn changed(
+    alloc: Global,
+    environment: MarkerEnvironment,
+    name: &str,
+    text: &str,
+) -> Result<MarkerEnvironment, Stop> {
     if name.ends_with("version") && name != "platform_version" {
-        let value = string_version(alloc, text)?;
-        printed(alloc, &with_version(environment, name, value))
+        Ok(with_version(environment, name, string_version(alloc, text)?))
     } else {
-        let value = String::from_str(alloc, text)?;
-        printed(alloc, &with_text(environment, name, value))
+        Ok(with_text(environment, name, String::from_str(alloc, text)?))
     }
 }
 
@@ -123,8 +137,14 @@ pub fn built(alloc: Global, question: &Value) -> Result<String, Stop> {
     };
     match MarkerEnvironment::try_from(alloc, builder) {
         Ok(environment) => printed(alloc, &environment),
-        Err(EnvironmentBuildError::Memory) => Err(Stop::Memory),
-        Err(EnvironmentBuildError::Version(key, error)) => {
+        Err(error) => not_built(alloc, &error),
+    }
+}
+
+fn not_built(alloc: Global, error: &EnvironmentBuildError) -> Result<String, Stop> {
+    match error {
+        EnvironmentBuildError::Memory => Err(Stop::Memory),
+        EnvironmentBuildError::Version(key, error) => {
             let name = key.name();
             answered(format!(in alloc; "{name}: {error}"))
         }

@@ -6,7 +6,7 @@ ghost use Rattle.pep508_tree.specs.Meaning.{IsTree, Extends};
 use crate::stop::{Stop, answered, said, truth};
 use crate::told::Told;
 use pep508_error::{Cursor, Pep508Error, Pep508ErrorSource};
-use pep508_marker::Silent;
+use pep508_marker::{MarkerExpression, Silent};
 use pep508_marker_comparison::{parse_expression, parse_expression_reporter};
 use pep508_marker_read::{MarkerTreeReading, read_marker};
 use pep508_tree::{Interner, MarkerTree};
@@ -85,12 +85,22 @@ pub fn expression(alloc: Global, text: &str) -> Result<String, Stop> {
         alloc, text, &mut told,
     );
     match read {
-        Ok(Some(expression)) => {
+        Ok(read) => print_behind(alloc, &told, &read),
+        Err(error) => Err(refused(alloc, &error)),
+    }
+}
+
+fn print_behind(
+    alloc: Global,
+    told: &Told,
+    read: &Option<MarkerExpression>,
+) -> Result<String, Stop> {
+    match read {
+        Some(expression) => {
             let print = expression.to_string(alloc)?;
             told.behind(&print)
         }
-        Ok(None) => told.behind("left out"),
-        Err(error) => Err(refused(alloc, &error)),
+        None => told.behind("left out"),
     }
 }
 

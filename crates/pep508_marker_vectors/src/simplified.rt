@@ -63,8 +63,19 @@ pub fn within(
 ) -> Result<String, Stop> {
     let lower = bound(alloc, bounds.0)?;
     let upper = bound(alloc, bounds.1)?;
+    within_bounds(alloc, interner, asked, (text, other), &lower, &upper)
+}
+
+fn within_bounds(
+    alloc: Global,
+    interner: &mut Interner,
+    asked: &str,
+    (text, other): (&str, &str),
+    lower: &Bound<Version>,
+    upper: &Bound<Version>,
+) -> Result<String, Stop> {
     let tree = read(alloc, interner, text)?;
-    let tree = made(alloc, interner, asked, tree, &lower, &upper)?;
+    let tree = made(alloc, interner, asked, tree, lower, upper)?;
     let other = read(alloc, interner, other)?;
     truth(alloc, tree == other)
 }

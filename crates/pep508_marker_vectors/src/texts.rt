@@ -8,6 +8,7 @@ use pep508_marker::MarkerExpression;
 use pep508_marker_dnf::MarkerTreeText;
 use pep508_tree::{Interner, MarkerTree};
 use std::alloc::{AllocError, Global};
+use std::fmt::Write;
 
 /// The text of a marker's tree, read where another marker was read before.
 pub fn text_after(
@@ -57,27 +58,17 @@ pub fn clauses(alloc: Global, interner: &mut Interner, text: &str) -> Result<Str
 fn shown(alloc: Global, clauses: &[Vec<MarkerExpression>]) -> Result<String, AllocError> {
     let mut text = String::from_str(alloc, "clauses:")?;
     for clause in clauses.iter() {
-        push_clause(alloc, &mut text, clause)?;
+        push_clause(&mut text, clause)?;
     }
     Ok(text)
 }
 
-fn push_clause(
-    alloc: Global,
-    text: &mut String,
-    clause: &[MarkerExpression],
-) -> Result<(), AllocError> {
+fn push_clause(text: &mut String, clause: &[MarkerExpression]) -> Result<(), AllocError> {
     text.push_str(" (")?;
     let mut mark = "";
     for term in clause.iter() {
-        text.push_str(mark)?;
-        push_term(alloc, text, term)?;
+        write!(text, "{mark}{term}")?;
         mark = "; ";
     }
     text.push(')')
-}
-
-fn push_term(alloc: Global, text: &mut String, term: &MarkerExpression) -> Result<(), AllocError> {
-    let term = term.to_string(alloc)?;
-    text.push_str(&term)
 }

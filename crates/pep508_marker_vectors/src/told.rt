@@ -3,6 +3,7 @@
 use crate::stop::{Stop, answered};
 use pep508_marker::{MarkerWarningKind, Reporter};
 use std::alloc::{AllocError, Global};
+use std::fmt::Write;
 
 /// Writes warnings down, one behind another.
 #[derive(Drop)]
@@ -31,17 +32,15 @@ impl Reporter for Told {
     ghost takes = { λ old _ new. Unit {0} };
 
     fn report(&mut self, kind: MarkerWarningKind, text: String) -> Result<(), AllocError> {
-        push_warning(self.alloc, &mut self.text, kind, text.as_str())
+        push_warning(&mut self.text, kind, text.as_str())
     }
 }
 
 /// Writes a warning behind a text.
 pub fn push_warning(
-    alloc: Global,
     text: &mut String,
     kind: MarkerWarningKind,
     warning: &str,
 ) -> Result<(), AllocError> {
-    let told = format!(in alloc; " | {kind:?}: {warning}")?;
-    text.push_str(told.as_str())
+    write!(text, " | {kind:?}: {warning}")
 }

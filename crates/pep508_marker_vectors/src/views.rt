@@ -12,6 +12,7 @@ use pep508_view::{
 };
 use std::alloc::{AllocError, Global};
 use std::fmt;
+use std::fmt::Write;
 use std::ops::Bound;
 
 /// The root of a marker's tree.
@@ -67,22 +68,17 @@ fn versions(alloc: Global, node: &VersionMarkerTree) -> Result<String, AllocErro
     let mut is_first = true;
     for edge in node.edges() {
         text.push_str(if is_first { "{" } else { ", " })?;
-        push_version_edge(alloc, &mut text, edge)?;
+        push_version_edge(&mut text, edge)?;
         is_first = false;
     }
     text.push('}')?;
     Ok(text)
 }
 
-fn push_version_edge(
-    alloc: Global,
-    text: &mut String,
-    edge: Edge<&Version>,
-) -> Result<(), AllocError> {
+fn push_version_edge(text: &mut String, edge: Edge<&Version>) -> Result<(), AllocError> {
     let (lower, upper) = (Lower(edge.lower), Upper(edge.upper));
     let tree = subtree(edge.tree);
-    let edge = format!(in alloc; "{lower}..{upper} {tree}")?;
-    text.push_str(&edge)
+    write!(text, "{lower}..{upper} {tree}")
 }
 
 fn texts(alloc: Global, node: &StringMarkerTree) -> Result<String, AllocError> {
@@ -91,21 +87,20 @@ fn texts(alloc: Global, node: &StringMarkerTree) -> Result<String, AllocError> {
     let mut is_first = true;
     for edge in node.children() {
         text.push_str(if is_first { "{" } else { ", " })?;
-        push_text_edge(alloc, &mut text, edge)?;
+        push_text_edge(&mut text, edge)?;
         is_first = false;
     }
     text.push('}')?;
     Ok(text)
 }
 
-fn push_text_edge(alloc: Global, text: &mut String, edge: Edge<&str>) -> Result<(), AllocError> {
+fn push_text_edge(text: &mut String, edge: Edge<&str>) -> Result<(), AllocError> {
     let (lower, upper) = (
         Lower(with_quotes(edge.lower)),
         Upper(with_quotes(edge.upper)),
     );
     let tree = subtree(edge.tree);
-    let edge = format!(in alloc; "{lower}..{upper} {tree}")?;
-    text.push_str(&edge)
+    write!(text, "{lower}..{upper} {tree}")
 }
 
 fn with_quotes(bound: Bound<&str>) -> Bound<Quoted<'_>> {
