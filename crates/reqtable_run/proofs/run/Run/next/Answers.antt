@@ -52,7 +52,7 @@ returns-clause-far c =
     let one =
     subst (λ (places : List ℕ). (next ≡ end) ⊎ IsOneOf places next) c.untold_places.ensures c.next_place.ensures.one in
     let between : (d : Placed) → end < length own →
-        TurnsBetween set (version_of (get_or own end d)) (version_of (get_or own at d)) =
+    TurnsBetween set (version_of (get_or own end d)) (version_of (get_or own at d)) =
     λ d l.
     subst (λ turns. TurnsBetween turns (version_of (get_or own end d)) (version_of (get_or own at d))) c.turns.ensures.turns
     (turns_between starts boundaries (version_of (get_or own end d)) (version_of (get_or own at d))
