@@ -1,9 +1,9 @@
 //! The cases of a package's lines, and what the lines of a case ask for.
 
-ghost use Rattle.std.specs.Prelude.{◌≡◌, ◌++◌, List, length, map, flat_map, IfOk, OnOk};
+ghost use Rattle.std.specs.Prelude.{◌≡◌, ◌++◌, ◌&&◌, not, List, length, map, flat_map, IfOk, OnOk};
 ghost use Rattle.std.specs.List.{list_any, AllZip, AllByRecursion};
+ghost use Rattle.pep440_specifier_list.specs.Lists.{any_prerelease};
 ghost use Rattle.reqtable_range.specs.Together.{lent};
-ghost use Rattle.reqtable_answer.specs.Asks.{names_prerelease};
 ghost use Rattle.reqtable_cases.specs.Lines.{marked};
 ghost use Rattle.reqtable_cases.specs.Usable.{IsRangeOf};
 ghost use Rattle.pep508_cases.specs.Cases.{case_seen, cases_seen};
@@ -47,6 +47,7 @@ pub(crate) fn cases_of(
     Ok(cases)
 }
 
+#[tactic(auto, using(crate::proofs::Ranging::any_named))]
 fn case_of(alloc: Global, lines: &[Given], set: TreeCase) -> Result<Case, AllocError>
     requires { HaveMarks (length lines.now) (case_seen set) }
     ensures { IfOk result (λ case. IsCaseOfGiven lines.now (case_record case) (case_seen set)) }
@@ -92,7 +93,7 @@ fn numbers(alloc: Global, lines: &[&Given]) -> Result<Vec<usize>, AllocError>
 
 /// Whether a specifier of the lines has a pre-release or developmental release.
 fn any_prerelease(lines: &[&Given]) -> bool
-    ensures { result ≡ names_prerelease (map given_front (lent_given lines.now)) }
+    ensures { result ≡ list_any (λ line. not line.now.is_url && any_prerelease line.now.specifiers) lines.now }
 {
     lines
         .iter()

@@ -57,17 +57,16 @@ pub(crate) fn chosen<F: Fn(&Version, bool) -> bool>(
         + most_tests (case_asks marks.now (map line_record lines.old)) (map placed_seen own.now) }
 {
     let bounded = any_marked(lines, marks, |line: &TableLine| line.is_bounded);
-    let range = &case.range;
     let mut at = 0;
     while at < own.len() {
         let placed = own.at(at);
         let version = &placed.candidate.version;
-        match takes(alloc, lines, marks, range, bounded, version) {
+        match takes(alloc, lines, marks, &case.range, bounded, version) {
             Ok(taken) => {
                 if taken && admission.admits(version, case.pre) {
                     return Ok(Some(placed.place));
                 }
-                at = own.next(at, range, bounded);
+                at = own.next(at, &case.range, bounded);
             }
             Err(error) => return Err(error),
         }
