@@ -205,19 +205,19 @@ pub fn made_of_operators(alloc: Global, answer: &mut String) -> Told {
     )?;
     push_made(
         answer,
-        VersionSpecifier::less_than_version(Version::new(alloc, &one)?),
-    )?;
-    push_made(
-        answer,
-        VersionSpecifier::less_than_equal_version(Version::new(alloc, &one)?),
-    )?;
-    push_made(
-        answer,
         VersionSpecifier::greater_than_version(Version::new(alloc, &one)?),
     )?;
     push_made(
         answer,
         VersionSpecifier::greater_than_equal_version(Version::new(alloc, &one)?),
+    )?;
+    push_made(
+        answer,
+        VersionSpecifier::less_than_version(Version::new(alloc, &one)?),
+    )?;
+    push_made(
+        answer,
+        VersionSpecifier::less_than_equal_version(Version::new(alloc, &one)?),
     )
 }
 
