@@ -45,6 +45,7 @@ to_require (x ∷ xs) (o ∷ os) a b one other (inl none) = absurd (never_both a
 to_require (x ∷ xs) (o ∷ os) a b one other (inr both) = record {
   extras = λ e. sym (one.extras e) ∙ ap (list_any (bytes_eq e)) both.extras ∙ other.extras e;
   points = points_by (x ∷ xs) (o ∷ os) a.range b.range (one.range refl) (other.range refl) both.range;
+  prerelease = sym one.prerelease ∙ both.prerelease ∙ other.prerelease;
 }
 
 pub from_require : (asks others : List Front) (a b : SummaryRecord) → IsSummaryOf asks a → IsSummaryOf others b →
@@ -58,6 +59,7 @@ from_require (x ∷ xs) (o ∷ os) a b one other h = inr (record {
   extras = same_texts a.extras b.extras one.rising other.rising
       (λ q. one.extras q ∙ h.extras q ∙ sym (other.extras q));
   range = range_by (x ∷ xs) (o ∷ os) a.range b.range one.usable other.usable (one.range refl) (other.range refl) h.points;
+  prerelease = one.prerelease ∙ h.prerelease ∙ sym other.prerelease;
 })
 
 -- ---- lists of names

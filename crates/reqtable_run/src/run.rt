@@ -40,8 +40,8 @@ impl<'o, 'a> Model for Run<'o, 'a> {
 
 impl<'o, 'a> Run<'o, 'a> {
     /// The candidates of a package. They are found in O(log n) comparisons of names for n candidates of all
-    /// packages, and each of them is looked at twice. Memory for the place of each that has a local part or is
-    /// a post-release.
+    /// packages, and each of them is looked at twice. Memory for the place of each that has a local part or
+    /// is a post-release.
     pub fn of(
         alloc: Global,
         ordered: &'o Ordered<'a>,

@@ -27,7 +27,8 @@ pub fn has_bound(specifiers: &[VersionSpecifier]) -> bool
         .any(|specifier| is_bound(specifier.operator()))
 }
 
-fn is_bound(operator: Operator) -> bool
+/// Whether an operator is `<` or `>`.
+pub fn is_bound(operator: Operator) -> bool
     ensures { result ≡ is_bound operator }
 {
     match operator {

@@ -3,6 +3,7 @@
 ghost use Rattle.std.specs.Prelude.{◌≡◌, ◌++◌, List, length, map, flat_map, IfOk, OnOk};
 ghost use Rattle.std.specs.List.{list_any, AllZip, AllByRecursion};
 ghost use Rattle.reqtable_range.specs.Together.{lent};
+ghost use Rattle.reqtable_answer.specs.Asks.{names_prerelease};
 ghost use Rattle.reqtable_cases.specs.Lines.{marked};
 ghost use Rattle.reqtable_cases.specs.Usable.{IsRangeOf};
 ghost use Rattle.pep508_cases.specs.Cases.{case_seen, cases_seen};
@@ -52,10 +53,12 @@ fn case_of(alloc: Global, lines: &[Given], set: TreeCase) -> Result<Case, AllocE
 {
     let own = marked_lines(alloc, &set.marks, lines)?;
     let range = range_of(alloc, &own)?;
+    let pre = any_prerelease(&own);
     Ok(Case {
         lines: numbers(alloc, &own)?,
         tree: set.tree,
         range,
+        pre,
     })
 }
 
@@ -85,6 +88,15 @@ fn numbers(alloc: Global, lines: &[&Given]) -> Result<Vec<usize>, AllocError>
         numbers.push(line.number)?;
     }
     Ok(numbers)
+}
+
+/// Whether a specifier of the lines has a pre-release or developmental release.
+fn any_prerelease(lines: &[&Given]) -> bool
+    ensures { result ≡ names_prerelease (map given_front (lent_given lines.now)) }
+{
+    lines
+        .iter()
+        .any(|line| !line.is_url && line.specifiers.any_prerelease())
 }
 
 /// The range of what the lines ask for, where they are usable.
