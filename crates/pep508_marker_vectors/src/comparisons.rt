@@ -9,7 +9,7 @@ use pep440_range::RangeError;
 use pep508_expression::MarkerTreeExpression;
 use pep508_marker::{
     ExtraOperator, MarkerExpression, MarkerOperator, MarkerTextError, MarkerValue,
-    MarkerValueExtra, MarkerValueString,
+    MarkerValueExtra, MarkerValueString, MarkerValueVersion,
 };
 use pep508_name::{ExtraName, InvalidNameError};
 use pep508_tree::{Interner, MarkerTree};
@@ -57,7 +57,7 @@ pub fn key(alloc: Global, answer: &mut String, text: &str) -> Told {
 
 fn key_shown(answer: &mut String, value: &MarkerValue) -> Told {
     match value {
-        MarkerValue::MarkerEnvVersion(key) => said(answer, key.name()),
+        MarkerValue::MarkerEnvVersion(key) => said(answer, MarkerValueVersion::name(*key)),
         MarkerValue::MarkerEnvString(key) => {
             let (name, written, modern) = (key.name(), key.written(), key.modern());
             let is_old = key.is_deprecated();

@@ -1,7 +1,7 @@
 //! The environments that questions name.
 
 use crate::stop::{Stop, stop_behind};
-use pep508_environment::{EnvironmentError, MarkerEnvironment};
+use pep508_environment::{EnvironmentError, EnvironmentMember, MarkerEnvironment};
 use serde_json::Value;
 use std::alloc::Global;
 
@@ -48,7 +48,9 @@ fn fault(answer: &mut String, error: EnvironmentError) -> Stop {
         EnvironmentError::Memory => return Stop::Memory,
         EnvironmentError::Float => "float",
         EnvironmentError::Shape => "shape",
-        EnvironmentError::Member(member) | EnvironmentError::Version(member) => member.name(),
+        EnvironmentError::Member(member) | EnvironmentError::Version(member) => {
+            EnvironmentMember::name(member)
+        }
     };
     stop_behind(answer.push_str(words))
 }
