@@ -1,8 +1,9 @@
 -- Cases are alike exactly where their asks require the same.
 use Rattle.std.proofs.Common.{◌≡◌, ◌∙◌, ℕ, Bool, true, false, List, [], ◌∷◌, Option, Some, None}
-use Rattle.std.proofs.Common.{◌&&◌, refl, sym, ap, subst, inl, inr, true≢false}
+use Rattle.std.proofs.Common.{◌&&◌, not, refl, sym, ap, subst, inl, inr, true≢false}
 use Rattle.std.proofs.lemmas.Cmp.{nat_list_eq_equiv}
 use Rattle.std.specs.Cmp.Lexicographic.{pointwise}
+use Rattle.std.specs.Bool.{beq}
 use Rattle.std.specs.List.{list_any}
 use Rattle.std.specs.Str.{bytes_eq}
 use Rattle.version_ranges.specs.Point.{Point}
@@ -87,3 +88,9 @@ names_are (x ∷ xs) (y ∷ ys) h =
 
 pub names_same : (xs ys : List (List ℕ)) → xs ≡ ys → pointwise bytes_eq xs ys ≡ true
 names_same xs ys same = subst (λ l. pointwise bytes_eq xs l ≡ true) same (itself xs)
+
+pub same_flags : (a b : Bool) → not (beq a b) ≡ false → a ≡ b
+same_flags true true e = refl
+same_flags true false e = absurd (true≢false e)
+same_flags false true e = absurd (true≢false e)
+same_flags false false e = refl
