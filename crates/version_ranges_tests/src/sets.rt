@@ -17,7 +17,10 @@ struct Spelled {
 
 impl RangeValue for Spelled {
     fn try_clone(&self, _alloc: Global) -> Result<Spelled, AllocError> {
-        Ok(value(self.rank, 0))
+        Ok(Spelled {
+            rank: self.rank,
+            spelling: 0,
+        })
     }
 }
 
