@@ -2,7 +2,7 @@
 
 ghost use Rattle.std.specs.Prelude.{◌≡◌};
 ghost use Rattle.reqtable_requirements.specs.LineSpecifiers.{specifiers_by};
-ghost use Rattle.reqtable_table.specs.Given.{given_by, is_url_by};
+ghost use Rattle.reqtable_table.specs.Given.{is_url_by, named_by};
 
 use pep440_specifier_list::VersionSpecifiers;
 use pep508_name::{ExtraName, PackageName};
@@ -23,10 +23,16 @@ pub(crate) struct Given {
     pub(crate) specifiers: VersionSpecifiers,
 }
 
-/// The name of a line's package, and the rest of the line. Takes no memory.
-pub(crate) fn given_of(alloc: Global, line: Line) -> (PackageName, Given)
-    ensures name { result.0 ≡ line.requirement.name }
-    ensures given { result.1 ≡ given_by line }
+/// A line beside the name of its package.
+#[derive(Drop)]
+pub(crate) struct NamedGiven {
+    pub(crate) name: PackageName,
+    pub(crate) given: Given,
+}
+
+/// A line without its URL, beside the name of its package. Takes no memory.
+pub(crate) fn given_of(alloc: Global, line: Line) -> NamedGiven
+    ensures { result ≡ named_by line }
 {
     let Line {
         number,
@@ -48,7 +54,7 @@ pub(crate) fn given_of(alloc: Global, line: Line) -> (PackageName, Given)
         is_url,
         specifiers,
     };
-    (name, given)
+    NamedGiven { name, given }
 }
 
 fn is_url(wanted: &Option<VersionOrUrl<VerbatimUrl>>) -> bool
