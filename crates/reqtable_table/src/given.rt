@@ -1,14 +1,12 @@
 //! The lines of a text, as a table takes them.
 
 ghost use Rattle.std.specs.Prelude.{◌≡◌};
-ghost use Rattle.reqtable_requirements.specs.LineSpecifiers.{specifiers_by};
-ghost use Rattle.reqtable_table.specs.Given.{is_url_by, named_by};
+ghost use Rattle.reqtable_table.specs.Given.{named_by};
 
 use pep440_specifier_list::VersionSpecifiers;
 use pep508_name::{ExtraName, PackageName};
 use pep508_requirement::{Requirement, VersionOrUrl};
 use pep508_tree::MarkerTree;
-use pep508_url::VerbatimUrl;
 use reqtable_requirements::Line;
 use std::alloc::Global;
 
@@ -45,8 +43,11 @@ pub(crate) fn given_of(alloc: Global, line: Line) -> NamedGiven
         marker,
         ..
     } = requirement;
-    let is_url = is_url(&version_or_url);
-    let specifiers = specifiers(alloc, version_or_url);
+    let (is_url, specifiers) = match version_or_url {
+        Some(VersionOrUrl::VersionSpecifier(list)) => (false, list),
+        Some(VersionOrUrl::Url(_url)) => (true, VersionSpecifiers::empty(alloc)),
+        None => (false, VersionSpecifiers::empty(alloc)),
+    };
     let given = Given {
         number,
         extras,
@@ -55,22 +56,4 @@ pub(crate) fn given_of(alloc: Global, line: Line) -> NamedGiven
         specifiers,
     };
     NamedGiven { name, given }
-}
-
-fn is_url(wanted: &Option<VersionOrUrl<VerbatimUrl>>) -> bool
-    ensures { result ≡ is_url_by wanted.now }
-{
-    match wanted {
-        Some(VersionOrUrl::Url(_)) => true,
-        Some(VersionOrUrl::VersionSpecifier(_)) | None => false,
-    }
-}
-
-fn specifiers(alloc: Global, wanted: Option<VersionOrUrl<VerbatimUrl>>) -> VersionSpecifiers
-    ensures { result ≡ specifiers_by wanted }
-{
-    match wanted {
-        Some(VersionOrUrl::VersionSpecifier(list)) => list,
-        Some(VersionOrUrl::Url(_)) | None => VersionSpecifiers::empty(alloc),
-    }
 }
