@@ -42,7 +42,7 @@ extends_on old now new e f =
 pub tree_kept : (old new : List NodeRecord) → Extends old new → (t : Tree) → IsTree old t → IsTree new t
 tree_kept old new e t made = omega (arith, ap length e.1, length-append old e.0)
 
-above_back : (old new : List NodeRecord) → Extends old new → (place : List ℕ) (t : Tree) → IsTree old t →
+pub above_back : (old new : List NodeRecord) → Extends old new → (place : List ℕ) (t : Tree) → IsTree old t →
     Above new place t → Above old place t
 unfolding Above
 above_back old new e place t made above k f =
