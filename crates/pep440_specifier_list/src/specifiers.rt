@@ -118,9 +118,7 @@ impl VersionSpecifiers {
     pub fn any_prerelease(&self) -> bool
         ensures { result ≡ any_prerelease self.now }
     {
-        self.members
-            .iter()
-            .any(|member| member.any_prerelease())
+        self.members.iter().any(|member| member.any_prerelease())
     }
 
     /// A copy, in memory of its own.

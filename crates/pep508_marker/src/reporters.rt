@@ -1,9 +1,10 @@
 //! Who takes warnings: a closure, or a log.
 
 ghost use Rattle.std.specs.Prelude.{◌≡◌, Ok, IfSome};
+ghost use Rattle.std.specs.Bool.{OnFalse};
 ghost use Rattle.std.specs.String.{string_bytes};
 ghost use Rattle.log.specs.declared.level.Level.TheVariants.{Warn};
-ghost use Rattle.pep508_marker.specs.Warnings.{named_target};
+ghost use Rattle.pep508_marker.specs.Warnings.{Warning, named_target};
 
 use crate::{MarkerWarningKind, Reporter};
 use log::{Level, Log, log_enabled, warn};
@@ -63,7 +64,8 @@ impl<L: Log> Reporter for TracingReporter<'_, L> {
     }
 
     fn wants(&self) -> bool
-        ensures { IfSome (L.target_of self.now.log.now) (λ target.
+        ensures left_out { OnFalse result ((warning : Warning) → self.now ≡ self.now) }
+        ensures asked { IfSome (L.target_of self.now.log.now) (λ target.
             IfSome (L.enables self.now.log.now Warn (named_target target)) (λ enabled. result ≡ enabled)) }
     {
         let log = self.log;
