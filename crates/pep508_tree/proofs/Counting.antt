@@ -112,7 +112,7 @@ none_most : (answer : Option Tree) → none answer ≤ 1
 none_most None = omega arith
 none_most (Some tree) = omega arith
 
-unfoldable pub unknown : BTreeMap TreePair Tree → ℕ → ℕ
+pub unknown : BTreeMap TreePair Tree → ℕ → ℕ
 unknown known n = with_all (λ pair. none (get pair_cmp known pair)) n
 
 pub unknown_less : (old new : BTreeMap TreePair Tree) (asked : TreePair) (tree : Tree) (n : ℕ) →

@@ -1,30 +1,32 @@
 -- A walk over pairs of trees whose conjunctions wait for those of the pairs that stand in them.
-use Rattle.std.proofs.Common.{◌≡◌, ◌⊎◌, inl, inr, ℕ, zero, suc, ◌+◌, ◌*◌, ◌<◌, ◌≤◌, Bool, true, false, cond, List, [], ◌∷◌, ◌++◌, length, length-append, get_or, take, refl, ap, sym, subst, ◌∙◌, arith, Option, Some, None}
+use Rattle.std.proofs.Common.{◌≡◌, ◌⊎◌, inl, inr, ℕ, zero, suc, ◌+◌, ◌*◌, ◌<◌, ◌≤◌, Bool, true, false, cond, List, [], ◌∷◌, ◌++◌, length, length-append, get_or, take, refl, ap, sym, subst, ◌∙◌, arith, Option, Some, None, IfSome}
 use Rattle.std.proofs.lemmas.List.{take_more, take_all}
 use Rattle.std.proofs.Math.Nat.{mul-le-mul_left}
 use Rattle.std.specs.declared.cmp.Ordering.TheVariants.{Less}
 use Rattle.std.specs.BTreeMap.{BTreeMap, get, Updates}
 use Rattle.std.specs.Cmp.{nat_cmp_is}
 use Rattle.std.specs.List.{AllByRecursion}
+use Rattle.std.specs.Map.{lookup}
 use Rattle.std.specs.Ordering.{is_eq, nat_cmp, ordering_then}
-use Rattle.pep508_diagram.specs.Question.{Valuation}
+use Rattle.version_ranges.specs.HashingLaws.{then_equal}
 use Rattle.pep508_tree.specs.declared.tree_pair.TreePair.{TreePair}
 use Rattle.pep508_tree.specs.declared.walk.Pending.{Pending}
 use Rattle.pep508_tree.specs.Tree.{Tree}
-use Rattle.pep508_tree.specs.Meaning.{NodeOf, NodeRecord, holds, IsTree, Extends}
+use Rattle.pep508_tree.specs.Meaning.{NodeOf, NodeRecord, IsTree, Extends}
 use Rattle.pep508_tree.specs.Forms.{record_of}
-use Rattle.pep508_tree.specs.Nodes.{AllChildren, Above, Splits, chosen, node_place, tree_cmp, turned}
-use Rattle.pep508_tree.specs.Joining.{children}
+use Rattle.pep508_tree.specs.Nodes.{AllChildren, Above, Splits, Made, chosen, node_place, tree_cmp, turned}
+use Rattle.pep508_tree.specs.Joining.{children, node_joined}
 use Rattle.pep508_tree.specs.PairOrder.{pair_cmp, places}
 use Rattle.pep508_tree.specs.Conjunctions.{Conjunction, ArePairs, Meet}
-use Rattle.pep508_tree.specs.Known.{AreKnown}
+use Rattle.pep508_tree.specs.Known.{IsKnown, AreKnown}
 use Rattle.pep508_tree.specs.Pending.{IsAsked, IsPending}
-use Rattle.pep508_tree.proofs.Conjoining.{extends_itself, extends_on, tree_kept, above_back, conjunction_later, conjunction_now, meet_push, meet_weaker, meet_with, children_list}
+use Rattle.pep508_tree.proofs.Conjoining.{extends_itself, extends_on, tree_kept, above_back, conjunction_later, conjunction_now, meet_push, meet_weaker, meet_with, children_list, made_children, above_children, conjunction_made}
 use Rattle.pep508_tree.proofs.Counting.{unknown, unknown_less}
 use Rattle.pep508_tree.proofs.Diagrams.{holds_kept}
 use Rattle.pep508_tree.proofs.Meanings.{chosen_all}
 use Rattle.pep508_tree.proofs.NodeChildren.{weaker_children, both_children}
-use Rattle.pep508_tree.proofs.Storing.{above_kept}
+use Rattle.pep508_tree.proofs.Splitting.{equal_of}
+use Rattle.pep508_tree.proofs.Storing.{above_kept, trees_same}
 
 -- ---- what waits, while nodes are added
 
@@ -186,7 +188,7 @@ record IsWaiting (nodes : List NodeRecord) (known : BTreeMap TreePair Tree) (mos
 pub record IsWalk (old now : List NodeRecord) (known : BTreeMap TreePair Tree) (asked : TreePair)
     (waiting : List Pending) (last : Tree) : Type 0 where
   pub keeps : Extends old now
-  pub known : AreKnown now known
+  pub all_known : AreKnown now known
   pub each : AllByRecursion (IsWaiting now known (places asked)) waiting
   pub falls : Falling waiting
   pub begins : BeginsWith now asked last waiting
@@ -197,7 +199,7 @@ pub walk_begun : (nodes : List NodeRecord) (known : BTreeMap TreePair Tree) (ask
 walk_begun nodes known asked p list last all is same pending e =
     subst (λ xs. IsWalk nodes nodes known asked xs last) (sym e) (record {
       keeps = extends_itself nodes;
-      known = all;
+      all_known = all;
       each = (
         record {
           pending = pending;
@@ -223,7 +225,7 @@ last_places [] = 0
 last_places (p ∷ []) = places p.asked
 last_places (p ∷ q ∷ list) = last_places (q ∷ list)
 
-unfoldable pub work : ℕ → BTreeMap TreePair Tree → List Pending → ℕ
+pub work : ℕ → BTreeMap TreePair Tree → List Pending → ℕ
 work most known waiting = (most + 1) * unknown known (most + 1) + last_places waiting
 
 last_is : (list : List Pending) (p : Pending) → last_places (list ++ p ∷ []) ≡ places p.asked
@@ -264,7 +266,7 @@ module _ (old now : List NodeRecord) (known : BTreeMap TreePair Tree) (asked : T
         let higher = ap places same in
         subst (λ xs. IsWalk old now known asked xs last) (sym pushed) (record {
           keeps = walk.keeps;
-          known = walk.known;
+          all_known = walk.all_known;
           each = all_behind (IsWaiting now known (places asked)) (list ++ again ∷ []) below
               (all_behind (IsWaiting now known (places asked)) list again each_before.0 (record {
                 pending = pending;
@@ -312,7 +314,7 @@ module _ (old now : List NodeRecord) (known : BTreeMap TreePair Tree) (asked : T
         Conjunction new new top.asked.first top.asked.second tree → IsWalk old new later asked list tree
     walk_up keeps all made = record {
       keeps = extends_on old now new walk.keeps keeps;
-      known = all;
+      all_known = all;
       each = all_with (IsWaiting now known (places asked)) (λ p. places top.asked < places p.asked)
           (IsWaiting new later (places asked)) (still keeps) list each_before.0 falls_before.1;
       falls = falls_before.0;
@@ -334,3 +336,54 @@ module _ (old now : List NodeRecord) (known : BTreeMap TreePair Tree) (asked : T
         (all_with (IsWaiting now known most) (IsWaiting now known most) (λ p. places p.asked ≤ most)
         (λ p is also. is.within) list each_before.0 each_before.0) in
         omega (arith, more, within)
+
+-- ---- the conjunction that is there, and what is remembered
+
+module _ (nodes : List NodeRecord) (p : Pending) (is : IsPending nodes p)
+    (all : length p.children.items ≤ length p.trees.items) where
+  abbrev pub node_of : NodeRecord
+  node_of = node_joined (record_of p.pairs) p.trees.items
+
+  pub node_made : AllChildren (IsTree nodes) node_of
+  node_made =
+      made_children nodes nodes p.asked.first p.asked.second (record_of p.pairs) p.trees.items is.splits
+      (met_all nodes p is all)
+
+  pub node_above : AllChildren (Above nodes (node_place node_of)) node_of
+  node_above =
+      above_children nodes nodes p.asked.first p.asked.second (record_of p.pairs) p.trees.items is.splits
+      (met_all nodes p is all)
+
+  pub tree_made : (new : List NodeRecord) (tree : Tree) → Extends nodes new → Made nodes new node_of tree →
+      Conjunction new new p.asked.first p.asked.second tree
+  tree_made new tree keeps made =
+      conjunction_now nodes new p.asked.first p.asked.second tree keeps is.first is.second
+      (conjunction_made nodes nodes p.asked.first p.asked.second (record_of p.pairs) p.trees.items is.splits
+      (met_all nodes p is all) new tree made)
+
+pub known_same : (nodes : List NodeRecord) (old new : BTreeMap TreePair Tree) → new.entries ≡ old.entries →
+    AreKnown nodes old → AreKnown nodes new
+known_same nodes old new e all pair =
+    subst (λ (es : List (TreePair × Tree)).
+    IfSome (lookup (λ q. is_eq (pair_cmp pair q)) es) (λ tree. IsKnown nodes pair tree)) (sym e) (all pair)
+
+same_pair : (a b : TreePair) → is_eq (pair_cmp a b) ≡ true → a ≡ b
+same_pair a b e =
+    let trees = ordering_then (tree_cmp a.first b.first) (tree_cmp a.second b.second) in
+    let parts = then_equal (nat_cmp (places a) (places b)) trees (equal_of (pair_cmp a b) e) in
+    let both = then_equal (tree_cmp a.first b.first) (tree_cmp a.second b.second) parts.1 in
+    let one = trees_same a.first b.first both.0 in
+    let other = trees_same a.second b.second both.1 in
+    λ i. record { first = one i; second = other i }
+
+pub known_more : (nodes : List NodeRecord) (old new : BTreeMap TreePair Tree) (asked : TreePair) (tree : Tree) →
+    Updates pair_cmp old new asked (Some tree) → AreKnown nodes old → IsKnown nodes asked tree →
+    AreKnown nodes new
+known_more nodes old new asked tree updates all is pair =
+    subst (λ answer. IfSome answer (λ t. IsKnown nodes pair t)) (sym (updates.0 pair))
+    (by_sign (is_eq (pair_cmp asked pair)) refl)
+  where
+    by_sign : (same : Bool) → is_eq (pair_cmp asked pair) ≡ same →
+        IfSome (cond same (Some tree) (get pair_cmp old pair)) (λ t. IsKnown nodes pair t)
+    by_sign true e = subst (λ p. IsKnown nodes p tree) (same_pair asked pair e) is
+    by_sign false e = all pair

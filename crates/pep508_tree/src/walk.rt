@@ -116,28 +116,30 @@ fn begun(alloc: Global, table: &NodeTable, asked: TreePair) -> Result<Pending, A
 fn next_unknown(
     table: &NodeTable,
     known: &BTreeMap<TreePair, MarkerTree>,
-    asked: TreePair,
+    a: MarkerTree,
+    b: MarkerTree,
     children: &[Pair],
     trees: &mut Vec<MarkerTree>,
 ) -> Result<Option<TreePair>, AllocError>
     requires known { AreKnown table.now known.now }
     requires made { AllByRecursion (λ pair. IsTree table.now pair.0 × IsTree table.now pair.1) children.now }
-    requires falls { AllByRecursion (λ pair. pair.0.place + pair.1.place < places asked) children.now }
-    requires met { Meet (ArePairs table.now table.now asked.first asked.second)
-        (take (length trees.old.items) children.now) trees.old.items }
-    ensures met { Meet (ArePairs table.now table.now asked.first asked.second)
-        (take (length trees.new.items) children.now) trees.new.items }
+    requires falls { AllByRecursion (λ pair. pair.0.place + pair.1.place < a.place + b.place) children.now }
+    requires met { Meet (ArePairs table.now table.now a b) (take (length trees.old.items) children.now)
+        trees.old.items }
+    ensures met { Meet (ArePairs table.now table.now a b) (take (length trees.new.items) children.now)
+        trees.new.items }
     ensures next { IfOk result (λ next. MatchOption next (length children.now ≤ length trees.new.items)
-        (λ pair. IsAsked table.now known.now pair × places pair < places asked)) }
+        (λ pair. IsAsked table.now known.now pair × places pair < a.place + b.place)) }
 {
     for index in trees.len()..children.len() {
-        let (first, second) = children[index];
-        let first = first.turned(asked.first.is_negated());
-        let second = second.turned(asked.second.is_negated());
-        match look_up(table, known, first, second) {
-            Ok(tree) => trees.push(tree)?,
-            Err(pair) => return Ok(Some(pair)),
-        }
+        let pair = children[index];
+        let first = pair.0.turned(a.is_negated());
+        let second = pair.1.turned(b.is_negated());
+        let tree = match look_up(table, known, first, second) {
+            Ok(tree) => tree,
+            Err(asked) => return Ok(Some(asked)),
+        };
+        trees.push(tree)?;
     }
     Ok(None)
 }
@@ -179,14 +181,27 @@ fn walked(
     let mut waiting = Vec::new(alloc);
     let mut last = MarkerTree::TRUE;
     waiting.push(begun(alloc, table, asked)?)?;
-    while let Some(mut top) = waiting.pop() {
-        match next_unknown(table, known, top.asked, &top.children, &mut top.trees)? {
+    while let Some(top) = waiting.pop() {
+        let Pending {
+            asked: pair,
+            pairs,
+            children,
+            mut trees,
+        } = top;
+        let unknown = next_unknown(table, known, pair.first, pair.second, &children, &mut trees)?;
+        let again = Pending {
+            asked: pair,
+            pairs,
+            children,
+            trees,
+        };
+        match unknown {
             Some(next) => {
                 let below = begun(alloc, table, next)?;
-                waiting.push(top)?;
+                waiting.push(again)?;
                 waiting.push(below)?;
             }
-            None => last = finished(table, known, top)?,
+            None => last = finished(table, known, again)?,
         }
     }
     Ok(last)
