@@ -20,7 +20,7 @@ use Rattle.pep508_tree.specs.PairOrder.{pair_cmp, places}
 use Rattle.pep508_tree.specs.Conjunctions.{Conjunction, ArePairs, Meet}
 use Rattle.pep508_tree.specs.Known.{IsKnown, AreKnown}
 use Rattle.pep508_tree.specs.Pending.{IsAsked, IsPending}
-use Rattle.pep508_tree.proofs.Conjoining.{extends_itself, extends_on, tree_kept, above_back, conjunction_later, conjunction_now, meet_push, meet_weaker, meet_with, children_list, made_children, above_children, conjunction_made}
+use Rattle.pep508_tree.proofs.Conjoining.{extends_itself, extends_on, tree_kept, above_back, conjunction_earlier, conjunction_later, conjunction_now, meet_push, meet_weaker, meet_with, children_list, made_children, above_children, conjunction_made}
 use Rattle.pep508_tree.proofs.Counting.{unknown, unknown_less}
 use Rattle.pep508_tree.proofs.Diagrams.{holds_kept}
 use Rattle.pep508_tree.proofs.Meanings.{chosen_all}
@@ -96,6 +96,12 @@ pending_kept old new e p is = record {
       is.met;
 }
 
+-- what holds of all pairs that stand in the two trees
+pub pending_all : (P : Tree × Tree → Type 0) (nodes : List NodeRecord) (p : Pending) (pairs : List (Tree × Tree)) →
+    IsPending nodes p → pairs ≡ p.children.items → AllChildren P (record_of p.pairs) → AllByRecursion P pairs
+pending_all P nodes p pairs is e all =
+    subst (AllByRecursion P) (sym (e ∙ is.children_are)) (children_list P (record_of p.pairs) all)
+
 -- ---- one more conjunction is there
 
 pub met_more : (nodes : List NodeRecord) (a b : Tree) (pairs : List (Tree × Tree)) (trees more : List Tree)
@@ -140,7 +146,7 @@ all_with P Q R so (x ∷ xs) p q = (so x p.0 q.0, all_with P Q R so xs p.1 q.1)
 -- ---- what waits
 
 -- the pairs that wait, each of lesser places than those before it
-abbrev Falling : List Pending → Type 0
+abbrev pub Falling : List Pending → Type 0
 Falling [] = Unit {0}
 Falling (p ∷ list) = AllByRecursion (λ q. places q.asked < places p.asked) list × Falling list
 
@@ -160,7 +166,7 @@ falling_behind (q ∷ list) p falls above = (
 )
 
 -- the first of those that wait is what was asked, whose conjunction is there once nothing waits
-abbrev BeginsWith : List NodeRecord → TreePair → Tree → List Pending → Type 0
+abbrev pub BeginsWith : List NodeRecord → TreePair → Tree → List Pending → Type 0
 BeginsWith nodes asked last [] = Conjunction nodes nodes asked.first asked.second last
 BeginsWith nodes asked last (p ∷ list) = p.asked ≡ asked
 
@@ -178,7 +184,7 @@ begins_later nodes new asked last tree [] p made begins =
 begins_later nodes new asked last tree (q ∷ list) p made begins = begins
 
 -- one that waits: its pair isn't known, and is of no greater places than what was asked
-record IsWaiting (nodes : List NodeRecord) (known : BTreeMap TreePair Tree) (most : ℕ) (p : Pending)
+pub record IsWaiting (nodes : List NodeRecord) (known : BTreeMap TreePair Tree) (most : ℕ) (p : Pending)
     : Type 0 where
   pub pending : IsPending nodes p
   pub absent : get pair_cmp known p.asked ≡ None
@@ -211,6 +217,13 @@ walk_begun nodes known asked p list last all is same pending e =
       falls = (tt, tt);
       begins = same;
     })
+
+pub walk_ended : (old now : List NodeRecord) (known : BTreeMap TreePair Tree) (asked : TreePair)
+    (list : List Pending) (last : Tree) → IsWalk old now known asked list last → length list ≡ 0 →
+    IsTree old asked.first → IsTree old asked.second → Conjunction old now asked.first asked.second last
+walk_ended old now known asked [] last walk none made other =
+    conjunction_earlier old now now asked.first asked.second last walk.keeps made other walk.begins
+walk_ended old now known asked (p ∷ list) last walk none made other = absurd (omega arith)
 
 -- ---- how the walk goes on
 
