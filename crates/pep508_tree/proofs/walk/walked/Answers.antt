@@ -124,5 +124,5 @@ loop-top-preserved c =
 pub returns-clause-made : goal.returns-clause-made
 returns-clause-made c =
     walk_ended c.args.table.now c.loop-top.table c.loop-top.known c.args.asked c.loop-top.waiting.items
-    c.loop-top.last c.loop-top.invariant c.in_default.ensures.cases.0 c.requires.asked.first
-    c.requires.asked.second
+    c.loop-top.last c.loop-top.invariant (omega (arith, c.loop-top.waiting.ok, c.in_default.ensures.cases.0))
+    c.requires.asked.first c.requires.asked.second
