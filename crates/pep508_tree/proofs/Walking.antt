@@ -1,5 +1,5 @@
 -- A walk over pairs of trees whose conjunctions wait for those of the pairs that stand in them.
-use Rattle.std.proofs.Common.{◌≡◌, ◌⊎◌, inl, inr, ℕ, zero, suc, ◌+◌, ◌*◌, ◌<◌, ◌≤◌, Bool, true, false, cond, List, [], ◌∷◌, ◌++◌, length, length-append, get_or, take, refl, ap, sym, subst, ◌∙◌, arith, Option, Some, None, IfSome}
+use Rattle.std.proofs.Common.{◌≡◌, ℕ, zero, suc, ◌+◌, ◌*◌, ◌<◌, ◌≤◌, Bool, true, false, cond, List, [], ◌∷◌, ◌++◌, length, length-append, get_or, take, refl, ap, sym, subst, ◌∙◌, arith, Some, None, IfSome}
 use Rattle.std.proofs.lemmas.List.{take_more, take_all}
 use Rattle.std.proofs.Math.Nat.{mul-le-mul_left}
 use Rattle.std.specs.declared.cmp.Ordering.TheVariants.{Less}
@@ -19,8 +19,8 @@ use Rattle.pep508_tree.specs.Joining.{children, node_joined}
 use Rattle.pep508_tree.specs.PairOrder.{pair_cmp, places}
 use Rattle.pep508_tree.specs.Conjunctions.{Conjunction, ArePairs, Meet}
 use Rattle.pep508_tree.specs.Known.{IsKnown, AreKnown}
-use Rattle.pep508_tree.specs.Pending.{IsAsked, IsPending}
-use Rattle.pep508_tree.proofs.Conjoining.{extends_itself, extends_on, tree_kept, above_back, conjunction_earlier, conjunction_later, conjunction_now, meet_push, meet_weaker, meet_with, children_list, made_children, above_children, conjunction_made}
+use Rattle.pep508_tree.specs.Pending.{IsPending}
+use Rattle.pep508_tree.proofs.Conjoining.{extends_on, tree_kept, above_back, conjunction_earlier, conjunction_later, conjunction_now, meet_push, meet_weaker, meet_with, children_list, made_children, above_children, conjunction_made}
 use Rattle.pep508_tree.proofs.Counting.{unknown, unknown_less}
 use Rattle.pep508_tree.proofs.Diagrams.{holds_kept}
 use Rattle.pep508_tree.proofs.Meanings.{chosen_all}
@@ -115,9 +115,9 @@ met_more nodes a b pairs trees more i pair t e met inside is here pushed =
     ap (λ n. take n pairs) count ∙ take_more pairs i pair inside ∙ ap (λ p. take i pairs ++ p ∷ []) (sym is) in (
       sym count,
       subst (λ xs. Meet (ArePairs nodes nodes a b) xs more) (sym longer)
-      (subst (Meet (ArePairs nodes nodes a b) (take i pairs ++ pair ∷ [])) (sym pushed)
-      (meet_push (ArePairs nodes nodes a b) (take i pairs) trees pair t
-      (subst (λ n. Meet (ArePairs nodes nodes a b) (take n pairs) trees) (sym e) met) here)),
+          (subst (Meet (ArePairs nodes nodes a b) (take i pairs ++ pair ∷ [])) (sym pushed)
+          (meet_push (ArePairs nodes nodes a b) (take i pairs) trees pair t
+          (subst (λ n. Meet (ArePairs nodes nodes a b) (take n pairs) trees) (sym e) met) here)),
     )
 
 pub met_all : (nodes : List NodeRecord) (p : Pending) → IsPending nodes p →
@@ -198,25 +198,6 @@ pub record IsWalk (old now : List NodeRecord) (known : BTreeMap TreePair Tree) (
   pub each : AllByRecursion (IsWaiting now known (places asked)) waiting
   pub falls : Falling waiting
   pub begins : BeginsWith now asked last waiting
-
-pub walk_begun : (nodes : List NodeRecord) (known : BTreeMap TreePair Tree) (asked : TreePair) (p : Pending)
-    (list : List Pending) (last : Tree) → AreKnown nodes known → IsAsked nodes known asked →
-    p.asked ≡ asked → IsPending nodes p → list ≡ p ∷ [] → IsWalk nodes nodes known asked list last
-walk_begun nodes known asked p list last all is same pending e =
-    subst (λ xs. IsWalk nodes nodes known asked xs last) (sym e) (record {
-      keeps = extends_itself nodes;
-      all_known = all;
-      each = (
-        record {
-          pending = pending;
-          absent = subst (λ pair. get pair_cmp known pair ≡ None) (sym same) is.unknown;
-          within = omega (arith, ap places same);
-        },
-        tt,
-      );
-      falls = (tt, tt);
-      begins = same;
-    })
 
 pub walk_ended : (old now : List NodeRecord) (known : BTreeMap TreePair Tree) (asked : TreePair)
     (list : List Pending) (last : Tree) → IsWalk old now known asked list last → length list ≡ 0 →

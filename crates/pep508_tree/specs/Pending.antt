@@ -19,14 +19,18 @@ IsEither a b asked =
     ◌≡◌ {A = Tree × Tree} (asked.first, asked.second) (a, b)
     ⊎ ◌≡◌ {A = Tree × Tree} (asked.first, asked.second) (b, a)
 
--- two trees that are not constant, first the one whose first variable does not come after that of the other,
--- whose conjunction is not known
-pub record IsAsked (nodes : List NodeRecord) (known : BTreeMap TreePair Tree) (asked : TreePair) : Type 0 where
+-- two trees that are not constant, first the one whose first variable does not come after that of the other
+pub record AreInOrder (nodes : List NodeRecord) (asked : TreePair) : Type 0 where
   pub first : IsTree nodes asked.first
   pub second : IsTree nodes asked.second
   pub first_node : 0 < asked.first.place
   pub second_node : 0 < asked.second.place
   pub ordered : is_gt (text_cmp (first_place nodes asked.first) (first_place nodes asked.second)) ≡ false
+
+-- two such trees whose conjunction is not known
+pub record IsAsked (nodes : List NodeRecord) (known : BTreeMap TreePair Tree) (asked : TreePair)
+    : Type 0 where
+  pub trees : AreInOrder nodes asked
   pub unknown : get pair_cmp known asked ≡ None
 
 -- what waits has the pairs that stand in its trees, and the conjunctions of the first of them

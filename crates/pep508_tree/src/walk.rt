@@ -1,7 +1,7 @@
-//! Conjunctions of marker trees, by a walk over pairs of trees that are on a list of their own.
+//! Conjunctions of marker trees, by a walk over pairs of trees.
 
 ghost use Rattle.std.specs.Prelude.{◌≡◌, ◌⊎◌, ◌+◌, ◌<◌, ◌≤◌, false, List, length, take, Some};
-ghost use Rattle.std.specs.Prelude.{MatchOption, IfOk, IfErr, IfSome};
+ghost use Rattle.std.specs.Prelude.{MatchOption, IfOk, IfErr};
 ghost use Rattle.std.specs.Ordering.{is_gt};
 ghost use Rattle.std.specs.List.{AllByRecursion};
 ghost use Rattle.std.specs.BTreeMap.{Updates};
@@ -11,7 +11,7 @@ ghost use Rattle.pep508_tree.specs.Nodes.{first_place};
 ghost use Rattle.pep508_tree.specs.Known.{AreKnown};
 ghost use Rattle.pep508_tree.specs.PairOrder.{pair_cmp, places};
 ghost use Rattle.pep508_tree.specs.Conjunctions.{Conjunction, ArePairs, Meet};
-ghost use Rattle.pep508_tree.specs.Pending.{IsAsked, IsEither, IsPending};
+ghost use Rattle.pep508_tree.specs.Pending.{AreInOrder, IsAsked, IsEither, IsPending};
 
 use crate::node::{Form, Pair};
 use crate::table::NodeTable;
@@ -40,15 +40,16 @@ fn plain_conjunction(a: MarkerTree, b: MarkerTree) -> Option<MarkerTree>
     })
 }
 
-/// The two trees, first the one whose first variable does not come after that of the other. Of one variable it
-/// is the one that was made first, so that a pair and its reverse are one.
+/// The two trees, first the one whose first variable does not come after that of the other. Of one variable
+/// it is the one that was made first, so that a pair and its reverse are one.
 fn in_order(table: &NodeTable, a: MarkerTree, b: MarkerTree) -> (MarkerTree, MarkerTree)
     requires a { IsTree table.now a }
     requires b { IsTree table.now b }
     requires a_node { 0 < a.place }
     requires b_node { 0 < b.place }
     ensures either { (result ≡ (a, b)) ⊎ (result ≡ (b, a)) }
-    ensures ordered { is_gt (text_cmp (first_place table.now result.0) (first_place table.now result.1)) ≡ false }
+    ensures ordered { is_gt (text_cmp (first_place table.now result.0) (first_place table.now result.1))
+        ≡ false }
 {
     if a.cmp_places(b).is_gt() {
         table.in_order(b, a)
@@ -92,12 +93,7 @@ pub(crate) struct Pending {
 
 /// A conjunction that waits for all pairs that stand in its trees.
 fn begun(alloc: Global, table: &NodeTable, asked: TreePair) -> Result<Pending, AllocError>
-    requires a { IsTree table.now asked.first }
-    requires b { IsTree table.now asked.second }
-    requires a_node { 0 < asked.first.place }
-    requires b_node { 0 < asked.second.place }
-    requires ordered { is_gt (text_cmp (first_place table.now asked.first)
-        (first_place table.now asked.second)) ≡ false }
+    requires { AreInOrder table.now asked }
     ensures asked { IfOk result (λ pending. pending.asked ≡ asked) }
     ensures begun { IfOk result (IsPending table.now) }
 {
@@ -112,7 +108,7 @@ fn begun(alloc: Global, table: &NodeTable, asked: TreePair) -> Result<Pending, A
 }
 
 /// Adds the conjunctions of further pairs that stand in two trees to those that are there, up to the first
-/// that is not known.
+/// pair of which none is known.
 fn next_unknown(
     table: &NodeTable,
     known: &BTreeMap<TreePair, MarkerTree>,
@@ -153,7 +149,7 @@ fn finished(
     requires known { AreKnown table.old known.old }
     requires done { IsPending table.old done }
     requires all { length done.children.items ≤ length done.trees.items }
-    ensures made { IfOk result (λ tree. Conjunction table.new table.new done.asked.first done.asked.second tree) }
+    ensures made { IfOk result (Conjunction table.new table.new done.asked.first done.asked.second) }
     ensures keeps { Extends table.old table.new }
     ensures known { AreKnown table.new known.new }
     ensures remembers { IfOk result (λ tree. Updates pair_cmp known.old known.new done.asked (Some tree)) }
@@ -164,8 +160,8 @@ fn finished(
     Ok(tree)
 }
 
-/// The conjunction of a pair that is not known. Those that wait stand on a list, each below one of the pairs
-/// that stand in its trees, so that however long a path is the stack stays as it is.
+/// The conjunction of a pair that is not known. What waits stands on a list, each behind one in whose trees
+/// it stands, so that a long path takes memory and no stack.
 fn walked(
     alloc: Global,
     table: &mut NodeTable,
@@ -179,8 +175,8 @@ fn walked(
     ensures known { AreKnown table.new known.new }
 {
     let mut waiting = Vec::new(alloc);
-    let mut last = MarkerTree::TRUE;
     waiting.push(begun(alloc, table, asked)?)?;
+    let mut last = MarkerTree::TRUE;
     while let Some(top) = waiting.pop() {
         let Pending {
             asked: pair,
@@ -207,8 +203,8 @@ fn walked(
     Ok(last)
 }
 
-/// The conjunction of two trees: no more steps than the product of the numbers of their nodes, each as long as
-/// the two nodes' boundaries. No recursion, however deep the trees are.
+/// The conjunction of two trees: no more steps than the product of the numbers of their nodes, each as long
+/// as the two nodes' boundaries. No recursion, however deep the trees are.
 pub(crate) fn conjunction(
     alloc: Global,
     table: &mut NodeTable,

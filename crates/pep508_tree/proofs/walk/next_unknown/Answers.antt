@@ -1,4 +1,4 @@
-use Rattle.std.proofs.Common.{◌≡◌, ◌∙◌, ap, subst, arith}
+use Rattle.std.proofs.Common.{◌≡◌, ◌∙◌, ap, subst}
 use Rattle.pep508_tree.specs.Nodes.{turned}
 use Rattle.pep508_tree.specs.Conjunctions.{Conjunction}
 use Rattle.pep508_tree.proofs.Walking.{met_more}

@@ -6,7 +6,7 @@ use Rattle.pep508_tree.specs.Meaning.{IsTree}
 use Rattle.pep508_tree.specs.PairOrder.{pair_cmp, places}
 use Rattle.pep508_tree.specs.Conjunctions.{ArePairs, Meet}
 use Rattle.pep508_tree.specs.Pending.{IsPending}
-use Rattle.pep508_tree.proofs.Walking.{top_pending, pending_all, walk_begun, walk_down, work_down, walk_up, work_up, walk_ended}
+use Rattle.pep508_tree.proofs.Walking.{top_pending, pending_all, walk_down, work_down, walk_up, work_up, walk_ended}
 use Rattle.pep508_tree.proofs.walk.walked.Goals as goal
 
 pub next_unknown-requires-clause-made : goal.next_unknown-requires-clause-made
@@ -43,7 +43,7 @@ loop-top-smaller-in_ok-push-in-Some-unknown-2 c =
       asked = top.asked;
       pairs = top.pairs;
       children = top.children;
-      trees = c.next_unknown.new.trees
+      trees = c.next_unknown.new.trees;
     } in
     let below = c.in_ok-below-in-Some-unknown.below in
     let next = rw c.in-Some-unknown.is at c.in_ok-unknown.ensures.next in
@@ -66,7 +66,7 @@ loop-top-preserved-in_ok-push-in-Some-unknown-2 c =
       asked = top.asked;
       pairs = top.pairs;
       children = top.children;
-      trees = trees
+      trees = trees;
     } in
     let again_pending : IsPending nodes again = record {
       first = pending.first;
@@ -75,7 +75,7 @@ loop-top-preserved-in_ok-push-in-Some-unknown-2 c =
       children_are = pending.children_are;
       met = subst (λ (pairs : List (Tree × Tree)). Meet
           (ArePairs nodes nodes top.asked.first top.asked.second)
-          (take (length trees.items) pairs) trees.items) c.deref.ensures.value c.in_ok-unknown.ensures.met
+          (take (length trees.items) pairs) trees.items) c.deref.ensures.value c.in_ok-unknown.ensures.met;
     } in
     let below = c.in_ok-below-in-Some-unknown.below in
     let same = c.in_ok-below-in-Some-unknown.ensures.asked in
@@ -103,7 +103,7 @@ finished-requires-clause-done c =
       children_are = pending.children_are;
       met = subst (λ (pairs : List (Tree × Tree)). Meet
           (ArePairs nodes nodes top.asked.first top.asked.second)
-          (take (length trees.items) pairs) trees.items) c.deref.ensures.value c.in_ok-unknown.ensures.met
+          (take (length trees.items) pairs) trees.items) c.deref.ensures.value c.in_ok-unknown.ensures.met;
     }
 
 pub loop-top-smaller : goal.loop-top-smaller
@@ -125,4 +125,4 @@ pub returns-clause-made : goal.returns-clause-made
 returns-clause-made c =
     walk_ended c.args.table.now c.loop-top.table c.loop-top.known c.args.asked c.loop-top.waiting.items
     c.loop-top.last c.loop-top.invariant (omega (arith, c.loop-top.waiting.ok, c.in_default.ensures.cases.0))
-    c.requires.asked.first c.requires.asked.second
+    c.requires.asked.trees.first c.requires.asked.trees.second
