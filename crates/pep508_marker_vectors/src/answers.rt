@@ -1,4 +1,4 @@
-//! The answers. What is told of a question is written behind one text, so that no function below owns an answer.
+//! The answers. What is told of a question is written behind one text, so that no function below owns one.
 
 use crate::asked::asked as asked_of;
 use crate::environment::environment;

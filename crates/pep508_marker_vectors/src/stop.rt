@@ -3,7 +3,8 @@
 use std::alloc::AllocError;
 use std::fmt::{Display, Write};
 
-/// Want of memory, or an answer that is told already: how a text is refused, or what is wrong with the question.
+/// Want of memory, or an answer that is told already: how a text is refused, or what is wrong with the
+/// question.
 #[derive(Clone, Copy)]
 pub enum Stop {
     Memory,
