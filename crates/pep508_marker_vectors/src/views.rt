@@ -64,11 +64,11 @@ fn subtree(tree: MarkerTree) -> &'static str {
 fn versions(answer: &mut String, node: &VersionMarkerTree) -> Result<(), AllocError> {
     let key = node.key();
     write!(answer, "{key}")?;
-    let mut mark = "{";
+    let mut is_first = true;
     for edge in node.edges() {
-        answer.push_str(mark)?;
+        answer.push_str(if is_first { "{" } else { ", " })?;
         push_edge(answer, &edge, "")?;
-        mark = ", ";
+        is_first = false;
     }
     answer.push('}')
 }
@@ -76,11 +76,11 @@ fn versions(answer: &mut String, node: &VersionMarkerTree) -> Result<(), AllocEr
 fn texts(answer: &mut String, node: &StringMarkerTree) -> Result<(), AllocError> {
     let key = node.key();
     write!(answer, "{key:?}")?;
-    let mut mark = "{";
+    let mut is_first = true;
     for edge in node.children() {
-        answer.push_str(mark)?;
+        answer.push_str(if is_first { "{" } else { ", " })?;
         push_edge(answer, &edge, "'")?;
-        mark = ", ";
+        is_first = false;
     }
     answer.push('}')
 }
