@@ -1,5 +1,8 @@
 //! Lists of requirements and of candidates as they are read, and the answer to them.
 
+ghost use Rattle.std.specs.Prelude.{All, IfOk, length};
+ghost use Rattle.reqtable_answer.specs.Rows.{IsTakenBelow};
+
 use pep440_version::Version;
 use pep508_tree::Interner;
 use pep508_url::Vars;
@@ -96,7 +99,10 @@ pub fn answer_of(
     alloc: Global,
     read: &Requirements,
     candidates: &Candidates,
-) -> Result<Answer, AllocError> {
+) -> Result<Answer, AllocError>
+    ensures { IfOk result (λ answer.
+        All (λ row. IsTakenBelow (length candidates.now) row.outcome) answer.rows.items) }
+{
     let admission = Admission::new(|_: &Version, names_prerelease: bool| names_prerelease);
     let mut asks = Vec::new(alloc);
     for line in read.lines() {
