@@ -62,10 +62,18 @@ def applying(requirements, environment, extras):
     return packages
 
 
+def names_prerelease(requirement):
+    """Whether a specifier has a pre-release or a developmental release, whatever its operator."""
+    return any(Version(it.version.removesuffix(".*")).is_prerelease for it in requirement.specifier)
+
+
 def rows(packages, candidates):
+    early = {name for name, those in packages.items() if any(map(names_prerelease, those))}
     best = {}
     for name, version in candidates:
         if name not in packages or (name in best and best[name] >= version):
+            continue
+        if version.is_prerelease and name not in early:
             continue
         if all(it.specifier.contains(version, prereleases=True) for it in packages[name]):
             best[name] = version

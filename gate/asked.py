@@ -41,6 +41,8 @@ LENT = "lent to the crates of trees, and public only since its type is"
 UNASKED = {
     "MarkerTree::place": LENT,
     "MarkerTree::is_negated": LENT,
+    "MarkerTree::turned": LENT,
+    "MarkerTree::cmp_places": LENT,
 }
 
 # What is no code: comments, texts, characters, items for proofs alone and clauses.

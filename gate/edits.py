@@ -66,8 +66,6 @@ class Edit:
             self.control = control_of(crate.folder, pairs)
             if self.control and {*self.control.functions} != {*self.wrong.functions}:
                 raise Misfit("its control changes another function")
-            if self.control and not self.control.named:
-                raise Misfit("its control changes no function, so it can't be tried")
         except (Misfit, OSError) as error:
             self.why = str(error)
 

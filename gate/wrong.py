@@ -225,6 +225,11 @@ class Trial:
             why = (errors or [f"the last line is: {last_line(said)}"])[0][:300]
             self.record(it, False, f"its control isn't proved, so the edit shows nothing: {why}")
 
+    def try_control_by_whole_check(self, edits, texts):
+        status, said = self.check(edits[0].crate, texts, [])
+        words = "" if status == 0 else f"its control isn't proved, so the edit shows nothing: {last_line(said)}"
+        self.record(edits[0], status == 0, words)
+
     def run_check(self, call, kind, edits, texts):
         before, crate = time.monotonic(), edits[0].crate
         below = [it.name for it in self.prover.crates.below(crate.name)]
@@ -247,8 +252,12 @@ class Trial:
         at_functions = [it for it in edits if None not in it.wrong.functions]
         for batch, texts in batches(at_functions, lambda it: it.wrong):
             yield self.try_edits, "edits", batch, texts
-        for batch, texts in batches([it for it in edits if it.control], lambda it: it.control):
+        controlled = [it for it in edits if it.control]
+        for batch, texts in batches([it for it in controlled if it.control.named], lambda it: it.control):
             yield self.try_controls, "controls", batch, texts
+        for it in controlled:
+            if not it.control.named and self.tries_alone:
+                yield self.try_control_by_whole_check, "controls of definitions", [it], it.control.over({})
         for it in edits:
             if it not in at_functions and self.tries_alone:
                 yield self.try_by_whole_check, "edits of definitions", [it], {}

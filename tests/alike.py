@@ -7,12 +7,13 @@
 A round is a list of up to 12 lines, candidates for them, extras and 1 to 6 environments. `matrix` runs once on it, and
 `check` once for each environment: where all of these answer, the answer of `matrix` has to be theirs, byte by byte, each
 behind its line `env K`; where one is refused, `matrix` has to be refused by the same words but for the place of the
-environment. The rounds of a seed are the same on each machine. The second form runs the one round of that number, shows
+environment. In the first environment `check` is asked once more, where for each package a line beside the others names a
+pre-release: each row has to be what it was, or to take a pre-release. The rounds of a seed are the same on each machine. The second form runs the one round of that number, shows
 what is said, and leaves its inputs in the folder.
 
 PROGRAM is ../crates/reqs_cli/out/reqs_cli where none is named. The last line is `alike: N passed, M failed`, a round each. It
-fails too where of all packages none was taken, none had nothing to take or none was direct, or where of all rounds no
-input was refused or no two environments had different answers.
+fails too where of all packages none was taken, none had nothing to take or none was direct, where no row took a pre-release or
+would have if one had been named, or where of all rounds no input was refused or no two environments had different answers.
 """
 
 import argparse
@@ -28,8 +29,9 @@ from collections import Counter
 
 PROGRAM = os.path.join(os.path.dirname(os.path.abspath(__file__)), "..", "crates", "reqs_cli", "out", "reqs_cli")
 MOST_LINES, MOST_ENVIRONMENTS = 12, 6
-# What becomes of a package, and of a round. Each has to come at least once.
-ROWS, ROUNDS = ("taken", "none", "direct"), ("refused", "differing")
+# What becomes of a package, and of a round. Each has to come at least once. (`passed over`: pre-releases, for want of a line
+# that names one)
+ROWS, ROUNDS = ("taken", "none", "direct", "pre-releases", "passed over"), ("refused", "differing")
 
 
 class Draw:
@@ -199,6 +201,12 @@ def laid_out(draw, lines):
     return end.join(found) + (end if draw.is_in(80) else "")
 
 
+# What each package is asked for besides: a pre-release is named, and no candidate excluded.
+NAMED = "".join(f"\n{names[0]}!=0.0.dev0" for names in NAMES)
+# A version in normal form that is a pre-release or a developmental release.
+PRERELEASE = re.compile(rb"[^+]*(?:a|b|rc|\.dev)[0-9].*")
+
+
 def with_wrong(draw, things, wrong, percent):
     """The things, in some of a hundred rounds with a wrong one among them."""
     if draw.is_in(percent):
@@ -267,7 +275,7 @@ class Round:
             at += len(it) + len(self.between)
 
     def write(self, folder):
-        texts = {"R": self.requirements, "C": self.candidates}
+        texts = {"R": self.requirements, "C": self.candidates, "NAMED": self.requirements + NAMED.encode()}
         texts["ES"] = b"[" + self.between.encode().join(self.environments) + b"]"
         texts.update((f"E{at}", it) for at, it in enumerate(self.environments, 1))
         for name, text in texts.items():
@@ -275,10 +283,11 @@ class Round:
                 file.write(text)
 
     def commands(self):
-        """The words of `matrix`, and those of `check` for each environment."""
+        """The words of `matrix`, those of `check` for each environment, and those where pre-releases are named."""
         yield ["matrix", *self.limit, "R", "ES", "C", *self.extras]
         for at in range(1, len(self.environments) + 1):
             yield ["check", "R", f"E{at}", "C", *self.extras]
+        yield ["check", "NAMED", "E1", "C", *self.extras]
 
 
 # What is said of an environment, in the order in which a list of them is looked at.
@@ -316,13 +325,27 @@ def ran(program, words, folder):
     return done.returncode, done.stdout, done.stderr
 
 
-def counted(checks, said):
+def passed_over(check, named):
+    """The rows of `check` that are others where pre-releases are named, or nothing where one isn't as it has to be then."""
+    if check[0] != 0:
+        return []
+    # (packages that no line asked for have rows there too)
+    rows = dict(it.rsplit(b" ", 1) for it in named[1].splitlines())
+    found = [it.rsplit(b" ", 1) for it in check[1].splitlines()]
+    if named[0] or any(rows.get(package) != what and not PRERELEASE.fullmatch(rows.get(package, b"")) for package, what in found):
+        return None
+    return [package for package, what in found if rows[package] != what]
+
+
+def counted(checks, said, over):
     """How often a package was taken, and so on, over all environments of a round."""
     answers = [out for status, out, _ in checks if status == 0]
     found = Counter(environments=len(checks), refused=int(said[0] == 2), differing=int(said[0] == 0 and len({*answers}) > 1))
+    found["passed over"] = len(over or ())
     for row in b"".join(answers).splitlines():
-        what = row.rpartition(b" ")[2].decode()
-        found[what if what in ROWS else "taken"] += 1
+        what = row.rpartition(b" ")[2]
+        found[what.decode() if what in (b"none", b"direct") else "taken"] += 1
+        found["pre-releases"] += bool(PRERELEASE.fullmatch(what))
     return found
 
 
@@ -333,20 +356,22 @@ def played(task):
     folder = kept or tempfile.mkdtemp(prefix="alike-")
     try:
         made.write(folder)
-        said, *checks = [ran(program, words, folder) for words in made.commands()]
+        said, *checks, named = [ran(program, words, folder) for words in made.commands()]
     except (OSError, subprocess.TimeoutExpired) as error:
         return Counter(), f"round {number}: {error}"
     finally:
         if not kept:
             shutil.rmtree(folder)
-    want, fault = wanted(checks, made.places), None
+    want, over, fault = wanted(checks, made.places), passed_over(checks[0], named), None
     if said != want:
         fault = f"round {number}: matrix says {said}, not {want}"
         fault += "" if want else f"; check says {checks}"
+    elif over is None:
+        fault = f"round {number}: where pre-releases are named check says {named}, not {checks[0]}"
     if kept:
-        for words, it in zip(made.commands(), [said, *checks]):
+        for words, it in zip(made.commands(), [said, *checks, named]):
             print(*words, *it, sep="\n    ")
-    return counted(checks, said), fault
+    return counted(checks, said, over), fault
 
 
 def play(words):
@@ -368,8 +393,12 @@ def play(words):
     return words.count - len(faults), len(faults) + len(lacking)
 
 
-def main():
-    words = argparse.ArgumentParser(description=__doc__, formatter_class=argparse.RawDescriptionHelpFormatter)
+def command(text, name, play_one, play_many, well):
+    """Does what the words of a script of rounds ask for: plays all rounds, or one. Returns the exit status.
+
+    `text` tells of the script, whose name is `name`; `well` is said of a round without a fault.
+    """
+    words = argparse.ArgumentParser(description=text, formatter_class=argparse.RawDescriptionHelpFormatter)
     words.add_argument("count", metavar="COUNT", type=int, nargs="?")
     words.add_argument("--round", metavar="N", type=int)
     words.add_argument("--seed", metavar="N", type=int, default=1)
@@ -380,16 +409,16 @@ def main():
     if (given.count is None) == (given.round is None):
         words.error("either COUNT or --round is needed")
     if given.round is not None:
-        folder = os.path.abspath(given.folder or tempfile.mkdtemp(prefix="alike-"))
+        folder = os.path.abspath(given.folder or tempfile.mkdtemp(prefix=f"{name}-"))
         os.makedirs(folder, exist_ok=True)
         print(f"the inputs are in {folder}")
-        fault = played((given.program, given.seed, given.round, folder))[1]
-        print(fault or "alike")
+        fault = play_one((given.program, given.seed, given.round, folder))[1]
+        print(fault or well)
         return 1 if fault else 0
-    passed, failed = play(given)
-    print(f"alike: {passed} passed, {failed} failed")
+    passed, failed = play_many(given)
+    print(f"{name}: {passed} passed, {failed} failed")
     return 1 if failed else 0
 
 
 if __name__ == "__main__":
-    sys.exit(main())
+    sys.exit(command(__doc__, "alike", played, play, "alike"))

@@ -117,9 +117,9 @@ printf 'foo==1.0\n' >local
 printf 'foo 1.0\nfoo 1.0+x\n' >locals
 run check local E locals
 wants "a local part of a candidate" 0 "foo 1.0+x$n" ""
-printf 'foo>=1.0\n' >any
+printf 'foo>=1.0.dev0\n' >early
 printf 'foo 1.0rc1\nfoo v1.0-ALPHA.1-5.dev\nfoo 1!0.1.dev3\n' >spellings
-run check any E spellings
+run check early E spellings
 wants "candidates in every spelling" 0 "foo 1!0.1.dev3$n" ""
 environment python_full_version | sed 's/}/, "python_full_version": " v3.12.0RC1 "}/' >candidate
 printf "foo>=1.0 ; python_full_version >= '3.11'\nbar>=1.0 ; python_full_version >= '3.12'\n" >both
@@ -138,12 +138,18 @@ wants "a variable that makes no URL" 2 "" SOMETHING
 printf 'foo @ ./foo.whl\n' >path
 run check path E C
 wants "a path beside the list" 0 "foo direct$n" ""
+printf 'foo>=1.0\n' >any
 printf 'foo 1.0\nfoo 2.0rc1\n' >final
 run check any E final
-wants "a pre-release is an ordinary candidate" 0 "foo 2.0rc1$n" ""
+wants "a pre-release that nobody asks for" 0 "foo 1.0$n" ""
+run check early E final
+wants "a pre-release where a line names one" 0 "foo 2.0rc1$n" ""
+printf 'foo 2.0rc1\n' >unasked
+run check any E unasked
+wants "a pre-release that nobody asks for, and nothing else" 0 "foo none$n" ""
 printf "foo ; 'a' == 'b'\nbar ; os_name == sys_platform\nbaz ; python_version > 'x'\n" >meaningless
 run check meaningless E final
-wants "comparisons that mean nothing" 0 "bar none${n}baz none${n}foo 2.0rc1$n" ""
+wants "comparisons that mean nothing" 0 "bar none${n}baz none${n}foo 1.0$n" ""
 run check R E C dev Other_Extra
 wants "two extras" 0 "foo-bar 1.19$n" ""
 # (where the system gives a program 64 MiB of stack, as nearly all do that are asked)
@@ -187,6 +193,8 @@ run same pinned again
 wants "two lists that require the same" 0 "yes$n" ""
 run same pinned wider
 wants "two lists that don't" 1 "no${n}baz${n}os_name != 'nt'$n" ""
+run same any early
+wants "two lists of which one names a pre-release" 1 "no${n}foo${n}all environments$n" ""
 run same wider lower --limit 1
 wants "two lists that differ everywhere" 1 "no${n}baz${n}all environments$n" ""
 run same --limit 1 pinned again
@@ -200,6 +208,9 @@ wants "same on 4096 cases" 0 "yes$n" ""
 printf 'foo-bar>=2 ; os_name == "nt"\nbaz\nfoo-bar<2\n' >apart
 run conflicts apart
 wants "lines that contradict each other" 0 "foo-bar 1,3$n" ""
+printf 'foo-bar>=2.0a1\nbaz\nfoo-bar<2.0a1\n' >early_apart
+run conflicts early_apart
+wants "lines that contradict each other, and name a pre-release" 0 "foo-bar 1,3 pre$n" ""
 run conflicts R
 wants "no conflict" 0 "" ""
 run conflicts --limit 1 apart

@@ -6,21 +6,22 @@
 
 A round is a list of up to 8 lines, made at random, and a second one that is made of it by an edit. Some edits keep what
 the list requires: lines in another order, a line split in two by a marker and its opposite, a line that never applies,
-names and extras in another spelling and order, a specifier doubled, a blank line. Others change it: a version that the
-lines of a package take is taken no more, an extra is asked for besides, a package that no other line names is left out
-where its line sometimes applies, or asked for besides. `same` has to say yes or no accordingly, the lists in either
+names and extras in another spelling and order, a specifier doubled, a blank line, another pre-release where one is named.
+Others change it: a version that the lines of a package take is taken no more, a pre-release is named elsewhere or no more,
+an extra is asked for besides, a package that no other line names is left out where its line sometimes applies, or asked for
+besides. `same` has to say yes or no accordingly, the lists in either
 order; and yes for each list beside itself in another order, and beside its normal text where it has one. Where it says
 no, environments in which the marker holds are looked for among some: in each of them the one list asks for the package
 as the other doesn't, in the words of `check`, or in what it takes of the package's candidates, where its range tells
-of them.
+of them and pre-releases are ones for both or for neither.
 
 The rounds of a seed are the same on each machine. The second form runs the one round of that number, shows what is said,
 and leaves its inputs in the folder. PROGRAM is ../crates/reqs_cli/out/reqs_cli where none is named. The last line is
 `pairs: N passed, M failed`, a round each. It fails too where an edit never came, where no list or each had a normal text,
-or where in no environment of a difference the two lists had different rows.
+or where in no environment of a difference the two lists had different rows, also where they name pre-releases differently
+and nothing else.
 """
 
-import argparse
 import json
 import multiprocessing
 import os
@@ -49,6 +50,9 @@ OPPOSITES = (
 )
 NEVER = ("os_name == 'a' and os_name == 'b'", "python_full_version < '3.8' and python_full_version >= '3.9'",
          "extra == 'x' and extra != 'X'", "sys_platform < 'a' and 'b' < sys_platform")
+# Specifiers, and others beside them that exclude nothing more and name a pre-release.
+NAMING = ((">=1.0", "!=0.9.dev0"), (">=1.0", ">=0.5a1"), ("<2", "!=2.0rc1"), ("<2", "<=3.0b1"), ("==1.*", ">=1.dev0"), ("~=1.4", "!=1.4.dev3"),
+          ("!=1.5.*", "!=1.5rc1"))
 # Packages that no line of a list names but by an edit.
 OTHERS = ("alone", "zz.top", "Base_9")
 
@@ -149,7 +153,18 @@ def with_specifiers_apart(draw, lines):
     return [*lines[:at], Line(it.name, it.extras, [], it.marker), *lines[at + 1:], *apart]
 
 
-# ---- edits that change it: where some package is asked for with other extras or points
+def with_another_prerelease(draw, lines):
+    """One more pre-release where one is named: on the line that names it, or on one of its own."""
+    name, (base, early), place = draw.one(OTHERS), draw.one(NAMING), draw.one(("", *draw.one(OPPOSITES)))
+    first, named = Line(name, draw.some(EXTRAS, 1), [base], place), Line(name, [], [">=0.1.dev1"], place)
+    if draw.is_in(50):
+        more = [named, Line(name, [], [early], place).with_marker(draw.one(draw.one(OPPOSITES)))]
+    else:
+        more = [Line(name, [], draw.shuffled([*named.specifiers, early]), place)]
+    return [*lines, first, named], [*lines, first, *more]
+
+
+# ---- edits that change it: where some package is asked for with other extras, points or pre-releases
 
 def with_another_package(draw, lines):
     pair = draw.one(OPPOSITES)
@@ -171,6 +186,14 @@ def with_a_bound_moved(draw, lines):
     return [*lines, Line(name, extras, [old], place)], [*lines, Line(name, extras, [new], place)]
 
 
+def with_a_prerelease_elsewhere(draw, lines):
+    """A package of one line that always applies, and beside it perhaps one that names a pre-release and excludes nothing."""
+    name, (base, early), extras = draw.one(OTHERS), draw.one(NAMING), draw.some(EXTRAS, 1)
+    places = draw.shuffled([None, "", *draw.one(OPPOSITES)])[:2]
+    left, right = ([] if it is None else [Line(name, [], [early], it)] for it in places)
+    return [*lines, Line(name, extras, [base], ""), *left], [*lines, Line(name, extras, [base], ""), *right]
+
+
 # Specifiers that don't take the same versions.
 BOUNDS = ((">=1", ">1"), (">=1.0", ">=1.0.1"), ("<2", "<=2"), ("==1.*", "==1.0.*"), ("==1.0", "==1.0.1"), ("!=1.5", "!=1.5.*"),
           ("~=1.4", "~=1.4.2"), (">=1", ">=1.0a1"), ("<2.0.dev0", "<2.0a1"), ("==1!1.0", "==1.0"))
@@ -188,8 +211,11 @@ def has_sometimes(lines):
 
 
 KEEPING = (in_another_order, split_in_two, with_one_that_never_applies, with_a_specifier_doubled, with_extras_apart,
-           with_specifiers_apart)
-CHANGING = (with_another_package, with_an_extra, with_a_bound_moved)
+           with_specifiers_apart, with_another_prerelease)
+CHANGING = (with_another_package, with_an_extra, with_a_bound_moved, with_a_prerelease_elsewhere)
+# Edits that ask nothing of the lines that there are.
+BESIDE = (in_another_order, with_one_that_never_applies, with_another_prerelease, with_another_package, with_a_bound_moved,
+          with_a_prerelease_elsewhere)
 
 
 class Round:
@@ -200,10 +226,8 @@ class Round:
         lines = list_of_lines(draw)
         self.is_kept = draw.is_in(50)
         edits = KEEPING if self.is_kept else CHANGING
-        if not lines:
-            edits = (in_another_order, with_one_that_never_applies) if self.is_kept else (with_another_package, with_a_bound_moved)
-        elif not self.is_kept and not has_sometimes(lines):
-            edits = (with_another_package, with_a_bound_moved)
+        if not lines or not self.is_kept and not has_sometimes(lines):
+            edits = [it for it in edits if it in BESIDE]
         self.edit = draw.one(edits)
         found = self.edit(draw, lines)
         left, right = found if isinstance(found, tuple) else (lines, found)
@@ -215,7 +239,7 @@ class Round:
         self.environments = [alike.members(draw) for _ in range(6)]
         self.extras = [draw.some(EXTRAS, 3) for _ in self.environments]
         names = {normal_name(it.name) for it in (*left, *right)}
-        plain = ("0.5", "1.0", "1.0.1", "1.4", "1.4.2", "1.5", "1.5.1", "2", "2.0.1", "3.1", "1!1.0")
+        plain = ("0.5", "1.0", "1.0.1", "1.4", "1.4.2", "1.5", "1.5.1", "1.9rc2", "2", "2.0.1", "3.1", "3.2a1", "1!1.0", "1!1.1.dev4")
         self.texts["C"] = "".join(f"{name} {version}\n" for name in sorted(names) for version in plain)
         for at, it in enumerate(self.environments):
             self.texts[f"E{at}"] = json.dumps(it)
@@ -292,6 +316,8 @@ class Play:
             self.seen["environments of a difference"] += 1
             rows = [self.row(package, self.ask("check", it, *inputs)[1]) for it in ("LEFT", "RIGHT")]
             self.seen["differing"] += rows[0] != rows[1]
+            if self.made.edit is with_a_prerelease_elsewhere:
+                self.seen["differing by pre-releases"] += rows[0] != rows[1]
             # (lists that take other versions may take the same candidate)
             if rows == [None, None]:
                 return f"in E{at} with {extras} neither list asks for {package}, and same says {said[0]}"
@@ -324,7 +350,7 @@ def played(task):
 
 
 # What has to come at least once, beside each edit.
-WANTED = ("normal texts", "without a normal text", "environments of a difference", "differing")
+WANTED = ("normal texts", "without a normal text", "environments of a difference", "differing", "differing by pre-releases")
 
 
 def play_all(words):
@@ -347,28 +373,5 @@ def play_all(words):
     return words.count - len(faults), len(faults) + len(lacking)
 
 
-def main():
-    words = argparse.ArgumentParser(description=__doc__, formatter_class=argparse.RawDescriptionHelpFormatter)
-    words.add_argument("count", metavar="COUNT", type=int, nargs="?")
-    words.add_argument("--round", metavar="N", type=int)
-    words.add_argument("--seed", metavar="N", type=int, default=1)
-    words.add_argument("--program", metavar="PATH", default=os.path.normpath(alike.PROGRAM))
-    words.add_argument("--folder", metavar="FOLDER", help="of one round")
-    given = words.parse_args()
-    given.program = os.path.abspath(given.program)
-    if (given.count is None) == (given.round is None):
-        words.error("either COUNT or --round is needed")
-    if given.round is not None:
-        folder = os.path.abspath(given.folder or tempfile.mkdtemp(prefix="pairs-"))
-        os.makedirs(folder, exist_ok=True)
-        print(f"the inputs are in {folder}")
-        fault = played((given.program, given.seed, given.round, folder))[1]
-        print(fault or "as it has to be")
-        return 1 if fault else 0
-    passed, failed = play_all(given)
-    print(f"pairs: {passed} passed, {failed} failed")
-    return 1 if failed else 0
-
-
 if __name__ == "__main__":
-    sys.exit(main())
+    sys.exit(alike.command(__doc__, "pairs", played, play_all, "as it has to be"))

@@ -183,7 +183,7 @@ def commands_on_lists(room):
         "OTHER": b"foo-bar>=1,<2 ; python_version >= '3.8'\n",
         "URL": b"foo-bar @ https://e.example/foo.whl\n",
         "REQS": b"",
-        "APART": b"foo>=2\nbar>1,<1\nfoo<1 ; os_name == 'nt'\n",
+        "APART": b"foo>=2\nbar>1,<1,!=0.5a1\nfoo<1 ; os_name == 'nt'\n",
     }
     for name, text in texts.items():
         with open(os.path.join(room, name), "wb") as file:
@@ -194,7 +194,7 @@ def commands_on_lists(room):
     cases = b"reqs: RIGHT: more than 1 cases for foo-bar\n"
     yield "same, too many cases:", ["same", "REQS", "RIGHT", "--limit", "1"], room, (2, b"", cases)
     yield "same, a URL:", ["same", "LEFT", "URL"], room, (2, b"", b"reqs: URL: line 1: URL\n")
-    yield "conflicts:", ["conflicts", "APART"], room, (0, b"bar 2\nfoo 1,3\n", b"")
+    yield "conflicts:", ["conflicts", "APART"], room, (0, b"bar 2 pre\nfoo 1,3\n", b"")
     yield "conflicts, too many cases:", ["conflicts", "APART", "--limit", "1"], room, (
         2, b"", b"reqs: APART: more than 1 cases for foo\n")
     normal = (b"foo-bar[b,a]>=1,<2 ; python_full_version >= '3.8'\n"

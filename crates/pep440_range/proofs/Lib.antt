@@ -1,4 +1,3 @@
-mod Raised
 mod Answered
 mod Halves
 pub mod Orderings

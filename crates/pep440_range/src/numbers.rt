@@ -5,13 +5,14 @@ ghost use Rattle.pep440_text.specs.Releases.{raised, last_raised};
 ghost use Rattle.pep440_range.specs.Numbers.{Raises};
 
 use crate::RangeError;
+use pep440_text::release;
 use std::alloc::Global;
 
 /// One more, where 64 bits hold it.
 pub(crate) fn raised(number: u64) -> Result<u64, RangeError>
     ensures { Raises (λ next. next) result (raised number) }
 {
-    number.checked_add(1).ok_or(RangeError::NumberAtEnd)
+    release::raised(number).ok_or(RangeError::NumberAtEnd)
 }
 
 /// The numbers, the last of them raised. Takes memory for them.
@@ -21,14 +22,6 @@ pub(crate) fn last_raised(alloc: Global, numbers: &[u64]) -> Result<Vec<u64>, Ra
     ensures some { IfOk result (λ raised. 0 < length raised.items) }
 {
     let mut copy = Vec::with_capacity(alloc, numbers.len())?;
-    let Some((last, front)) = numbers.split_last() else {
-        return Ok(copy);
-    };
-    let next = match raised(*last) {
-        Ok(next) => next,
-        Err(error) => return Err(error),
-    };
-    copy.extend_from_slice(front)?;
-    copy.push(next)?;
-    Ok(copy)
+    copy.extend_from_slice(numbers)?;
+    release::with_last_raised(copy).ok_or(RangeError::NumberAtEnd)
 }

@@ -8,13 +8,9 @@ use Rattle.std.specs.Ordering.{ordering_then, nat_cmp, is_eq}
 use Rattle.std.specs.Cmp.Lexicographic.{slice_cmp}
 use Rattle.pep440_version.specs.Record.{VersionRecord, release_record}
 use Rattle.pep440_version.specs.Order.{key_of, stripped, version_eq, padded_cmp, zeros_beside}
+use Rattle.pep440_version.proofs.Stripped.{then_equal_last}
 use Rattle.pep440_specifier.specs.Matching.{begins_padded}
 use Rattle.pep440_specifier.specs.Bounds.{IsReleaseVersion, next_minor, equals_release, is_next_minor}
-
-then_equal_last : (o : Ordering) → ordering_then o Equal ≡ o
-then_equal_last Less = refl
-then_equal_last Equal = refl
-then_equal_last Greater = refl
 
 releases_decide : (a b : List ℕ) → version_eq (release_record a) (release_record b) ≡ is_eq (slice_cmp nat_cmp (stripped a) (stripped b))
 unfolding key_of

@@ -9,7 +9,8 @@ use Rattle.std.specs.Cmp.Lexicographic.{slice_cmp, lists_total, nat_list_cmp_tot
 use Rattle.std.specs.declared.cmp.Ordering.TheVariants.{Equal}
 use Rattle.std.specs.Ordering.{nat_cmp, is_eq, as_partial_cmp}
 use Rattle.pep440_version.specs.Order.{key_of, key_cmp, fed_key}
-use Rattle.pep440_version.specs.OrderLaws.{same_key, then_equal}
+use Rattle.version_ranges.specs.HashingLaws.{then_equal}
+use Rattle.pep440_version.specs.OrderLaws.{same_key}
 use Rattle.pep440_specifier.specs.Matching.{SpecifierRecord}
 use Rattle.pep440_specifier.specs.SpecifierOrder.{operator_rank, specifier_key, specifier_cmp, specifier_eq}
 use Rattle.pep440_specifier.specs.SpecifierHash.{fed_specifier}

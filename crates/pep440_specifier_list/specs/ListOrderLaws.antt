@@ -8,7 +8,7 @@ use Rattle.std.specs.Cmp.{partial_equiv_from_equiv, eq_by_cmp_equiv, partial_ord
 use Rattle.std.specs.Cmp.Lexicographic.{lists_total}
 use Rattle.std.specs.declared.cmp.Ordering.TheVariants.{Equal}
 use Rattle.std.specs.Ordering.{is_eq, as_partial_cmp}
-use Rattle.pep440_version.specs.OrderLaws.{then_equal}
+use Rattle.version_ranges.specs.HashingLaws.{then_equal}
 use Rattle.pep440_specifier.specs.Matching.{SpecifierRecord}
 use Rattle.pep440_specifier.specs.SpecifierOrder.{specifier_cmp}
 use Rattle.pep440_specifier.specs.SpecifierHash.{fed_specifier}

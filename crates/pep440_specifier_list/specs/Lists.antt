@@ -1,8 +1,9 @@
 -- Lists of specifiers: their order, which versions they take, and how many members are asked for that.
 use Rattle.std.specs.Prelude.{ℕ, ◌+◌, ◌-◌, ◌^◌, Bool, nat_lt, if◌then◌else◌, List, [], ◌∷◌}
-use Rattle.std.specs.List.{list_all}
+use Rattle.std.specs.List.{list_any, list_all}
 use Rattle.std.specs.List.Sorted.{IsSortedByKey, IsStableByKey}
 use Rattle.pep440_version.specs.Record.{VersionRecord}
+use Rattle.pep440_version.specs.Changes.{is_prerelease}
 use Rattle.pep440_version.specs.Order.{version_cmp}
 use Rattle.pep440_specifier.specs.Matching.{SpecifierRecord, takes}
 
@@ -18,6 +19,10 @@ pub record IsInOrder (given : List SpecifierRecord) (members : List SpecifierRec
 -- a list takes what each member takes (PEP 440, "Version specifiers")
 abbrev pub matches_all : List SpecifierRecord → VersionRecord → Bool
 matches_all members candidate = list_all (takes candidate) members
+
+-- some member has a pre-release or a developmental release (PEP 440, "Handling of pre-releases")
+abbrev pub any_prerelease : List SpecifierRecord → Bool
+any_prerelease members = list_any (λ s. is_prerelease s.version) members
 
 -- how many members are asked: up to the first that refuses, and it too
 abbrev pub asked : List SpecifierRecord → VersionRecord → ℕ

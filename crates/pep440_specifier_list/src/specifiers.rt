@@ -5,7 +5,7 @@ ghost use Rattle.std.specs.Iterator.Runs.{EveryRun, ItemsMapTo, ItemsAre, ItemsA
 ghost use Rattle.std.specs.Slice.Iter.{iter_rest, iter_steps};
 ghost use Rattle.std.specs.Vec.Iter.{into_iter_items, into_iter_len, into_iter_steps};
 ghost use Rattle.pep440_operator.specs.declared.operator.Operator.TheVariants.{ExactEqual};
-ghost use Rattle.pep440_specifier_list.specs.Lists.{IsByVersion, IsInOrder, matches_all};
+ghost use Rattle.pep440_specifier_list.specs.Lists.{IsByVersion, IsInOrder, matches_all, any_prerelease};
 
 use crate::asking::ask;
 use pep440_specifier::VersionSpecifier;
@@ -111,6 +111,14 @@ impl VersionSpecifiers {
         ensures memory { All (λ s. s.operator ≢ ExactEqual) self.now → IsOk result }
     {
         ask(alloc, &self.members, version).answer
+    }
+
+    /// Whether some member's version is a pre-release or a developmental release, whatever its operator
+    /// (PEP 440, "Handling of pre-releases"). Looks at each member at most once.
+    pub fn any_prerelease(&self) -> bool
+        ensures { result ≡ any_prerelease self.now }
+    {
+        self.members.iter().any(|member| member.any_prerelease())
     }
 
     /// A copy, in memory of its own.

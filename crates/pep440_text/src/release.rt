@@ -112,14 +112,14 @@ impl Release {
 }
 
 /// One more, where 64 bits hold it.
-fn raised(number: u64) -> Option<u64>
+pub fn raised(number: u64) -> Option<u64>
     ensures { result ≡ raised number }
 {
     number.checked_add(1)
 }
 
 /// The numbers with the last raised by one, where 64 bits hold that.
-fn with_last_raised(mut numbers: Vec<u64>) -> Option<Vec<u64>>
+pub fn with_last_raised(mut numbers: Vec<u64>) -> Option<Vec<u64>>
     ensures raised { option_map (λ raised. raised.items) result ≡ last_raised numbers.items }
     ensures some { IfSome result (λ raised. 0 < length raised.items) }
 {

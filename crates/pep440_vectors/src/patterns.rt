@@ -1,111 +1,80 @@
 //! Answers on patterns.
 
-use crate::answers::{hash_of, refused};
-use crate::specifiers;
+use crate::answers::{REFUSED, Told, hash_of};
 use pep440_version::{Version, VersionPattern, VersionPatternParseError};
 use std::alloc::{AllocError, Global};
+use std::fmt::Write;
 
-/// The answer to a question on patterns, or to one of another kind.
-pub fn answer(
-    alloc: Global,
-    kind: &str,
-    first: &str,
-    second: &str,
-    third: &str,
-) -> Result<String, AllocError> {
-    match kind {
-        "pattern" | "pattern copy" | "patterns" => of_pattern(alloc, kind, first, second),
-        "pattern of 1.2" => made(alloc),
-        _ => specifiers::answer(alloc, kind, first, second, third),
-    }
-}
-
-fn of_pattern(alloc: Global, kind: &str, text: &str, other: &str) -> Result<String, AllocError> {
+/// The answer to a question on a pattern's text, and perhaps another one.
+pub fn of_text(alloc: Global, answer: &mut String, kind: &str, text: &str, other: &str) -> Told {
     match VersionPattern::from_str(alloc, text) {
-        Ok(pattern) => told(alloc, kind, &pattern, other),
-        Err(error) => unread(alloc, kind, &error),
+        Ok(pattern) => told(alloc, answer, kind, &pattern, other),
+        Err(error) => unread(answer, kind, &error),
     }
 }
 
 fn told(
     alloc: Global,
+    answer: &mut String,
     kind: &str,
     pattern: &VersionPattern,
     other: &str,
-) -> Result<String, AllocError> {
+) -> Told {
     match kind {
-        "pattern" => shown(alloc, pattern),
-        "pattern copy" => copied(alloc, pattern),
-        _ => beside(alloc, pattern, other),
+        "pattern" => {
+            let (version, is_starred) = (pattern.version(), pattern.is_wildcard());
+            let has = if is_starred { "with" } else { "without" };
+            write!(answer, "{version} {has} a star")
+        }
+        "pattern copy" => copied(answer, &pattern.try_clone(alloc)?, pattern),
+        _ => beside(alloc, answer, pattern, other),
     }
 }
 
 /// What is answered where a text is no pattern.
-fn unread(
-    alloc: Global,
-    kind: &str,
-    error: &VersionPatternParseError,
-) -> Result<String, AllocError> {
+pub fn unread(answer: &mut String, kind: &str, error: &VersionPatternParseError) -> Told {
     match error {
         VersionPatternParseError::Memory => Err(AllocError),
-        error if kind == "pattern" => format!(in alloc; "refused: {error}"),
-        _ => refused(alloc),
-    }
-}
-
-/// A pattern's version, and whether a star follows it.
-fn shown(alloc: Global, pattern: &VersionPattern) -> Result<String, AllocError> {
-    let version = pattern.version();
-    if pattern.is_wildcard() {
-        format!(in alloc; "{version} with a star")
-    } else {
-        format!(in alloc; "{version} without a star")
+        error => match kind {
+            "pattern" => write!(answer, "refused: {error}"),
+            "of pattern" => write!(answer, "{error}"),
+            _ => answer.push_str(REFUSED),
+        },
     }
 }
 
 /// A pattern's copy for programmers, and whether it is equal and has one hash.
-fn copied(alloc: Global, pattern: &VersionPattern) -> Result<String, AllocError> {
-    let copy = pattern.try_clone(alloc)?;
-    compared(alloc, &copy, pattern)
+fn copied(answer: &mut String, copy: &VersionPattern, pattern: &VersionPattern) -> Told {
+    write!(answer, "{copy:?}, ")?;
+    same(answer, copy, pattern)
 }
 
-fn compared(
-    alloc: Global,
-    copy: &VersionPattern,
-    pattern: &VersionPattern,
-) -> Result<String, AllocError> {
-    let is_equal = copy == pattern;
-    let is_one = hash_of(copy) == hash_of(pattern);
-    format!(in alloc; "{copy:?}, equal {is_equal}, one hash {is_one}")
-}
-
-fn beside(alloc: Global, left: &VersionPattern, right: &str) -> Result<String, AllocError> {
+fn beside(alloc: Global, answer: &mut String, left: &VersionPattern, right: &str) -> Told {
     match VersionPattern::from_str(alloc, right) {
-        Ok(right) => same(alloc, left, &right),
-        Err(error) => unread(alloc, "patterns", &error),
+        Ok(right) => same(answer, left, &right),
+        Err(error) => unread(answer, "patterns", &error),
     }
 }
 
 /// Whether two patterns are equal and have one hash.
-fn same(
-    alloc: Global,
-    left: &VersionPattern,
-    right: &VersionPattern,
-) -> Result<String, AllocError> {
+fn same(answer: &mut String, left: &VersionPattern, right: &VersionPattern) -> Told {
     let is_equal = left == right;
     let is_one = hash_of(left) == hash_of(right);
-    format!(in alloc; "equal {is_equal}, one hash {is_one}")
+    write!(answer, "equal {is_equal}, one hash {is_one}")
 }
 
 /// `1.2` as a pattern with a star, then without one.
-fn made(alloc: Global) -> Result<String, AllocError> {
+pub fn made(alloc: Global, answer: &mut String) -> Told {
     let star = VersionPattern::wildcard(Version::new(alloc, &[1, 2])?);
     let has_star = star.is_wildcard();
     let plain = VersionPattern::verbatim(star.into_version());
-    made_shown(alloc, has_star, &plain)
+    made_shown(answer, has_star, &plain)
 }
 
-fn made_shown(alloc: Global, has_star: bool, plain: &VersionPattern) -> Result<String, AllocError> {
+fn made_shown(answer: &mut String, has_star: bool, plain: &VersionPattern) -> Told {
     let (keeps_star, version) = (plain.is_wildcard(), plain.version());
-    format!(in alloc; "star {has_star}, then star {keeps_star} of {version}")
+    write!(
+        answer,
+        "star {has_star}, then star {keeps_star} of {version}"
+    )
 }

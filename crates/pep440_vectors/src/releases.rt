@@ -3,8 +3,7 @@
 ghost use Rattle.std.specs.Prelude.{IfOk, IfSome};
 ghost use Rattle.pep440_specifier.specs.Bounds.{IsReleaseVersion, IsReleaseBound, lent_bound};
 
-use crate::answers::refused;
-use crate::lists;
+use crate::answers::{REFUSED, Told, shown};
 use pep440_specifier::{BoundError, VersionSpecifier};
 use pep440_specifier_list::VersionSpecifiers;
 use pep440_version::{Version, VersionParseError};
@@ -12,54 +11,40 @@ use std::alloc::{AllocError, Global};
 use std::fmt::Write;
 use std::ops::Bound;
 
-/// The answer to a question on the releases between bounds, or to one of another kind.
-pub fn answer(
-    alloc: Global,
-    kind: &str,
-    first: &str,
-    second: &str,
-    third: &str,
-) -> Result<String, AllocError> {
-    match kind {
-        "below" | "up to" | "but from" | "but up to" => of_two(alloc, kind, first, second),
-        "around" => around(alloc, first, second, third),
-        "no intervals" => no_intervals(alloc),
-        _ => lists::answer(alloc, kind, first, second, third),
-    }
-}
-
 /// What is said of a bound as a lower one, then as an upper one.
-pub fn bounds(alloc: Global, kind: &str, version: &Version) -> Result<String, AllocError> {
+pub fn bounds(alloc: Global, answer: &mut String, kind: &str, version: &Version) -> Told {
     let bound = match kind {
         "included" => Bound::Included(version),
         "excluded" => Bound::Excluded(version),
         _ => Bound::Unbounded,
     };
-    let mut answer = String::new(alloc);
-    push_bounds(alloc, &mut answer, bound)?;
-    Ok(answer)
-}
-
-fn push_bounds(
-    alloc: Global,
-    answer: &mut String,
-    bound: Bound<&Version>,
-) -> Result<(), AllocError> {
     push_bound(answer, VersionSpecifier::from_lower_bound(alloc, bound))?;
     answer.push_str("; ")?;
     push_bound(answer, VersionSpecifier::from_upper_bound(alloc, bound))
 }
 
 /// The print of what a bound gives.
-fn push_bound(
-    answer: &mut String,
-    found: Result<Option<VersionSpecifier>, BoundError>,
-) -> Result<(), AllocError> {
+fn push_bound(answer: &mut String, found: Result<Option<VersionSpecifier>, BoundError>) -> Told {
     match found {
-        Ok(Some(specifier)) => write!(answer, "{specifier}"),
+        Ok(Some(specifier)) => shown(answer, &specifier),
         Ok(None) => answer.push_str("nothing"),
         Err(BoundError::Memory) => Err(AllocError),
-        Err(error) => write!(answer, "{error}"),
+        Err(error) => shown(answer, &error),
+    }
+}
+
+/// The answer to a question on the releases between two versions, all but those, or all between but one.
+pub fn of_texts(
+    alloc: Global,
+    answer: &mut String,
+    kind: &str,
+    first: &str,
+    second: &str,
+    third: &str,
+) -> Told {
+    match release(alloc, first)? {
+        Some(first) => beside(alloc, answer, kind, &first, second, third),
+        None => answer.push_str(REFUSED),
     }
 }
 
@@ -79,114 +64,110 @@ fn release(alloc: Global, text: &str) -> Result<Option<Version>, AllocError>
     }
 }
 
-fn of_two(alloc: Global, kind: &str, first: &str, second: &str) -> Result<String, AllocError> {
-    match release(alloc, first)? {
-        Some(first) => beside(alloc, kind, &first, second),
-        None => refused(alloc),
-    }
-}
-
-fn beside(alloc: Global, kind: &str, first: &Version, second: &str) -> Result<String, AllocError>
+fn beside(
+    alloc: Global,
+    answer: &mut String,
+    kind: &str,
+    first: &Version,
+    second: &str,
+    third: &str,
+) -> Told
     requires { IsReleaseVersion first.now }
 {
     match release(alloc, second)? {
-        Some(second) => between(alloc, kind, first, &second),
-        None => refused(alloc),
+        Some(second) => between(alloc, answer, kind, first, &second, third),
+        None => answer.push_str(REFUSED),
     }
 }
 
-/// The specifiers of all releases from a version to below or up to another one; or of all but those.
+/// The specifiers of all releases from a version to below or up to another one; or of all but those; or of
+/// those up to below a third one, but for the second.
 fn between(
     alloc: Global,
+    answer: &mut String,
     kind: &str,
     first: &Version,
     second: &Version,
-) -> Result<String, AllocError>
+    third: &str,
+) -> Told
     requires first { IsReleaseVersion first.now }
     requires second { IsReleaseVersion second.now }
 {
     match kind {
-        "below" => from_bounds(alloc, first, Bound::Excluded(second)),
-        "up to" => from_bounds(alloc, first, Bound::Included(second)),
-        "but from" => without(alloc, Bound::Excluded(first), Bound::Included(second)),
-        _ => without(alloc, Bound::Excluded(first), Bound::Excluded(second)),
+        "below" => from_bounds(alloc, answer, first, Bound::Excluded(second)),
+        "up to" => from_bounds(alloc, answer, first, Bound::Included(second)),
+        "but from" => without(
+            alloc,
+            answer,
+            Bound::Excluded(first),
+            Bound::Included(second),
+        ),
+        "but up to" => without(
+            alloc,
+            answer,
+            Bound::Excluded(first),
+            Bound::Excluded(second),
+        ),
+        _ => around(alloc, answer, first, second, third),
     }
 }
 
-fn from_bounds(alloc: Global, lower: &Version, upper: Bound<&Version>) -> Result<String, AllocError>
+fn from_bounds(alloc: Global, answer: &mut String, lower: &Version, upper: Bound<&Version>) -> Told
     requires lower { IsReleaseVersion lower.now }
     requires upper { IsReleaseBound (lent_bound upper) }
 {
     let bounds = (Bound::Included(lower), upper);
     let made = VersionSpecifier::from_release_only_bounds(alloc, bounds)?;
-    printed(alloc, &made)
+    printed(answer, &made)
 }
 
 /// The prints, with a blank behind each.
-fn printed(alloc: Global, specifiers: &[VersionSpecifier]) -> Result<String, AllocError> {
-    let mut text = String::new(alloc);
+fn printed(answer: &mut String, specifiers: &[VersionSpecifier]) -> Told {
     for specifier in specifiers {
-        write!(text, "{specifier} ")?;
+        write!(answer, "{specifier} ")?;
     }
-    Ok(text)
+    Ok(())
 }
 
 /// All releases but those between two bounds.
 fn without(
     alloc: Global,
+    answer: &mut String,
     upper: Bound<&Version>,
     lower: Bound<&Version>,
-) -> Result<String, AllocError>
+) -> Told
     requires upper { IsReleaseBound (lent_bound upper) }
     requires lower { IsReleaseBound (lent_bound lower) }
 {
     let bounds = [(Bound::Unbounded, upper), (lower, Bound::Unbounded)];
-    VersionSpecifiers::from_release_only_bounds(alloc, &bounds)?.to_string(alloc)
+    let made = VersionSpecifiers::from_release_only_bounds(alloc, &bounds)?;
+    shown(answer, &made)
 }
 
-/// The list of a lower version up to below an upper one, but for one between.
-fn around(alloc: Global, lower: &str, middle: &str, upper: &str) -> Result<String, AllocError> {
-    match release(alloc, lower)? {
-        Some(lower) => around_from(alloc, &lower, middle, upper),
-        None => refused(alloc),
-    }
-}
-
-fn around_from(
+fn around(
     alloc: Global,
-    lower: &Version,
-    middle: &str,
-    upper: &str,
-) -> Result<String, AllocError>
-    requires { IsReleaseVersion lower.now }
-{
-    match release(alloc, middle)? {
-        Some(middle) => around_between(alloc, lower, &middle, upper),
-        None => refused(alloc),
-    }
-}
-
-fn around_between(
-    alloc: Global,
+    answer: &mut String,
     lower: &Version,
     middle: &Version,
     upper: &str,
-) -> Result<String, AllocError>
+) -> Told
     requires lower { IsReleaseVersion lower.now }
     requires middle { IsReleaseVersion middle.now }
 {
     match release(alloc, upper)? {
-        Some(upper) => around_one(alloc, lower, middle, &upper),
-        None => refused(alloc),
+        Some(upper) => around_one(alloc, answer, lower, middle, &upper),
+        None => answer.push_str(REFUSED),
     }
 }
 
+/// The list of a lower version up to below an upper one, but for one between.
 fn around_one<'a>(
     alloc: Global,
+    answer: &mut String,
     lower: &'a Version,
     middle: &'a Version,
     upper: &'a Version,
-) -> Result<String, AllocError>
+) -> Told
     requires lower { IsReleaseVersion lower.now }
     requires middle { IsReleaseVersion middle.now }
     requires upper { IsReleaseVersion upper.now }
@@ -195,12 +176,13 @@ fn around_one<'a>(
         (Bound::Included(lower), Bound::Excluded(middle)),
         (Bound::Excluded(middle), Bound::Excluded(upper)),
     ];
-    VersionSpecifiers::from_release_only_bounds(alloc, &bounds)?.to_string(alloc)
+    let made = VersionSpecifiers::from_release_only_bounds(alloc, &bounds)?;
+    shown(answer, &made)
 }
 
 /// The list of no intervals.
-fn no_intervals(alloc: Global) -> Result<String, AllocError> {
+pub fn no_intervals(alloc: Global, answer: &mut String) -> Told {
     let list = VersionSpecifiers::from_release_only_bounds(alloc, &[])?;
     let is_empty = list.is_empty();
-    format!(in alloc; "empty {is_empty}")
+    write!(answer, "empty {is_empty}")
 }

@@ -1,12 +1,8 @@
 //! Answers on the sets of versions that specifiers and lists take.
 
-use crate::answers::{refused, yes_or_no};
+use crate::answers::{REFUSED, Told};
 use crate::versions;
-use pep440_range::{
-    RangeError, release_specifier_to_range, release_specifiers_to_ranges, specifier_to_range,
-    specifiers_to_range,
-};
-use pep440_specifier::VersionSpecifier;
+use pep440_range::{RangeError, specifiers_to_range};
 use pep440_specifier_list::{VersionSpecifiers, VersionSpecifiersParseError};
 use pep440_version::Version;
 use std::alloc::{AllocError, Global};
@@ -16,186 +12,131 @@ use version_ranges::Ranges;
 
 type Range = Ranges<Version>;
 
-/// A specifier's set, among all versions or among releases; or what no print shows of its end.
-pub fn of_specifier(
-    alloc: Global,
+/// What is asked of a set, or whether it holds a version.
+pub fn of_range(
+    answer: &mut String,
     kind: &str,
-    specifier: &VersionSpecifier,
-) -> Result<String, AllocError> {
-    match kind {
-        "set" => told(alloc, specifier_to_range(alloc, specifier)),
-        "release set" => told(alloc, release_specifier_to_range(alloc, specifier)),
-        _ => end(alloc, specifier_to_range(alloc, specifier)),
-    }
-}
-
-/// A list's set, among all versions or among releases; or how many intervals it has.
-pub fn of_list(alloc: Global, kind: &str, list: &VersionSpecifiers) -> Result<String, AllocError> {
-    match kind {
-        "list set" => told(alloc, specifiers_to_range(alloc, list)),
-        "release list set" => told(alloc, release_specifiers_to_ranges(alloc, list)),
-        _ => count(alloc, specifiers_to_range(alloc, list)),
-    }
-}
-
-fn told(alloc: Global, range: Result<Range, RangeError>) -> Result<String, AllocError> {
+    range: Result<Range, RangeError>,
+    candidate: Option<&Version>,
+) -> Told {
     match range {
-        Ok(range) => shown(alloc, &range),
-        Err(RangeError::Memory) => Err(AllocError),
-        Err(error) => format!(in alloc; "refused: {error}"),
-    }
-}
-
-/// The intervals, with brackets for bounds that are held, as `[1.2.dev0, 1.3.dev0)`.
-fn shown(alloc: Global, range: &Range) -> Result<String, AllocError> {
-    let mut text = String::new(alloc);
-    for (lower, upper) in range.iter() {
-        push_lower(&mut text, lower)?;
-        push_upper(&mut text, upper)?;
-    }
-    Ok(text)
-}
-
-fn push_lower(text: &mut String, lower: Bound<&Version>) -> Result<(), AllocError> {
-    match lower {
-        Bound::Included(version) => write!(text, "[{version}, "),
-        Bound::Excluded(version) => write!(text, "({version}, "),
-        Bound::Unbounded => text.push_str("(, "),
-    }
-}
-
-fn push_upper(text: &mut String, upper: Bound<&Version>) -> Result<(), AllocError> {
-    match upper {
-        Bound::Included(version) => write!(text, "{version}]"),
-        Bound::Excluded(version) => write!(text, "{version})"),
-        Bound::Unbounded => text.push(')'),
+        Ok(range) => told(answer, kind, &range, candidate),
+        Err(error) => at_end(answer, kind, &error),
     }
 }
 
 /// What is answered where a number can't be raised.
-fn at_end(alloc: Global, error: RangeError) -> Result<String, AllocError> {
+fn at_end(answer: &mut String, kind: &str, error: &RangeError) -> Told {
     match error {
         RangeError::Memory => Err(AllocError),
-        RangeError::NumberAtEnd => refused(alloc),
+        error if kind.ends_with("set") => write!(answer, "refused: {error}"),
+        _ => answer.push_str(REFUSED),
     }
 }
 
-fn count(alloc: Global, range: Result<Range, RangeError>) -> Result<String, AllocError> {
-    match range {
-        Ok(range) => counted(alloc, range.iter().count()),
-        Err(error) => at_end(alloc, error),
+fn told(answer: &mut String, kind: &str, range: &Range, candidate: Option<&Version>) -> Told {
+    if let Some(candidate) = candidate {
+        return write!(answer, "{}", range.contains(candidate));
+    }
+    match kind {
+        "intervals" => write!(answer, "{}", range.iter().count()),
+        "end" => end(answer, range),
+        _ => intervals(answer, range),
     }
 }
 
-fn counted(alloc: Global, count: usize) -> Result<String, AllocError> {
-    format!(in alloc; "{count}")
+/// The intervals, with brackets for bounds that are held, as `[1.2.dev0, 1.3.dev0)`.
+fn intervals(answer: &mut String, range: &Range) -> Told {
+    for (lower, upper) in range.iter() {
+        push_lower(answer, lower)?;
+        push_upper(answer, upper)?;
+    }
+    Ok(())
+}
+
+fn push_lower(answer: &mut String, lower: Bound<&Version>) -> Told {
+    match lower {
+        Bound::Included(version) => write!(answer, "[{version}, "),
+        Bound::Excluded(version) => write!(answer, "({version}, "),
+        Bound::Unbounded => answer.push_str("(, "),
+    }
+}
+
+fn push_upper(answer: &mut String, upper: Bound<&Version>) -> Told {
+    match upper {
+        Bound::Included(version) => write!(answer, "{version}]"),
+        Bound::Excluded(version) => write!(answer, "{version})"),
+        Bound::Unbounded => answer.push(')'),
+    }
 }
 
 /// What no print shows of the version below which a set ends: its least bound, beside its development
 /// number.
-fn end(alloc: Global, range: Result<Range, RangeError>) -> Result<String, AllocError> {
-    match range {
-        Ok(range) => marks(alloc, &range),
-        Err(error) => at_end(alloc, error),
-    }
-}
-
-fn marks(alloc: Global, range: &Range) -> Result<String, AllocError> {
+fn end(answer: &mut String, range: &Range) -> Told {
     match range.bounding_range() {
-        Some((_, Bound::Excluded(end))) => end_shown(alloc, end),
-        _ => String::from_str(alloc, "no end"),
-    }
-}
-
-fn end_shown(alloc: Global, end: &Version) -> Result<String, AllocError> {
-    let mut answer = String::new(alloc);
-    push_end(&mut answer, end)?;
-    Ok(answer)
-}
-
-fn push_end(answer: &mut String, end: &Version) -> Result<(), AllocError> {
-    write!(answer, "{end}")?;
-    versions::number(answer, "least", end.min())?;
-    versions::number(answer, "dev", end.dev())
-}
-
-/// Whether a list's set holds a version.
-pub fn holds(
-    alloc: Global,
-    list: &VersionSpecifiers,
-    candidate: &Version,
-) -> Result<String, AllocError> {
-    match specifiers_to_range(alloc, list) {
-        Ok(range) => yes_or_no(alloc, Ok(range.contains(candidate))),
-        Err(error) => at_end(alloc, error),
+        Some((_, Bound::Excluded(end))) => {
+            write!(answer, "{end}")?;
+            versions::number(answer, "least", end.min())?;
+            versions::number(answer, "dev", end.dev())
+        }
+        _ => answer.push_str("no end"),
     }
 }
 
 /// Whether the union or the intersection of two lists' sets holds a version.
 pub fn of_two(
     alloc: Global,
+    answer: &mut String,
     kind: &str,
     left: &str,
     right: &str,
     candidate: &str,
-) -> Result<String, AllocError> {
-    match range(alloc, left)? {
-        Some(left) => beside(alloc, kind, &left, right, candidate),
-        None => refused(alloc),
+) -> Told {
+    match range(alloc, left) {
+        Ok(left) => beside(alloc, answer, kind, &left, right, candidate),
+        Err(error) => at_end(answer, kind, &error),
     }
 }
 
-/// The set of versions that a list takes; none where the text isn't a list, or a number can't be
-/// raised.
-fn range(alloc: Global, text: &str) -> Result<Option<Range>, AllocError> {
+/// The set of versions that a list takes; a text that isn't a list is refused as a number at its end is.
+fn range(alloc: Global, text: &str) -> Result<Range, RangeError> {
     match VersionSpecifiers::from_str(alloc, text) {
-        Ok(list) => found(specifiers_to_range(alloc, &list)),
-        Err(VersionSpecifiersParseError::Memory) => Err(AllocError),
-        Err(_) => Ok(None),
-    }
-}
-
-fn found(range: Result<Range, RangeError>) -> Result<Option<Range>, AllocError> {
-    match range {
-        Ok(range) => Ok(Some(range)),
-        Err(RangeError::Memory) => Err(AllocError),
-        Err(RangeError::NumberAtEnd) => Ok(None),
+        Ok(list) => specifiers_to_range(alloc, &list),
+        Err(VersionSpecifiersParseError::Memory) => Err(RangeError::Memory),
+        Err(_) => Err(RangeError::NumberAtEnd),
     }
 }
 
 fn beside(
     alloc: Global,
+    answer: &mut String,
     kind: &str,
     left: &Range,
     right: &str,
     candidate: &str,
-) -> Result<String, AllocError> {
-    match range(alloc, right)? {
-        Some(right) => both(alloc, kind, (left, &right), candidate),
-        None => refused(alloc),
+) -> Told {
+    match range(alloc, right) {
+        Ok(right) => both(alloc, answer, kind, (left, &right), candidate),
+        Err(error) => at_end(answer, kind, &error),
     }
 }
 
 fn both(
     alloc: Global,
+    answer: &mut String,
     kind: &str,
     (left, right): (&Range, &Range),
     candidate: &str,
-) -> Result<String, AllocError> {
-    if kind == "union" {
-        held(alloc, left.union(alloc, right)?, candidate)
-    } else {
-        held(alloc, left.intersection(alloc, right)?, candidate)
+) -> Told {
+    match kind {
+        "union" => held(alloc, answer, &left.union(alloc, right)?, candidate),
+        _ => held(alloc, answer, &left.intersection(alloc, right)?, candidate),
     }
 }
 
-fn held(alloc: Global, range: Range, candidate: &str) -> Result<String, AllocError> {
-    has_text(alloc, &range, candidate)
-}
-
-fn has_text(alloc: Global, range: &Range, candidate: &str) -> Result<String, AllocError> {
+fn held(alloc: Global, answer: &mut String, range: &Range, candidate: &str) -> Told {
     match Version::from_str(alloc, candidate) {
-        Ok(candidate) => yes_or_no(alloc, Ok(range.contains(&candidate))),
-        Err(error) => versions::unread(alloc, "range", &error),
+        Ok(candidate) => told(answer, "range", range, Some(&candidate)),
+        Err(error) => versions::unread(answer, "range", &error),
     }
 }

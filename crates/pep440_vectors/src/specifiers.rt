@@ -1,21 +1,19 @@
 //! Answers on specifiers and their operators.
 
-ghost use Rattle.std.specs.Prelude.{◌≡◌, ◌∷◌, []};
-ghost use Rattle.pep440_text.specs.Record.{release_record};
-
-use crate::answers::{hash_of, refused, sign, yes_or_no};
-use crate::{built, lists, releases, sets, versions};
+use crate::answers::{REFUSED, Told, hash_of, shown, sign, yes_or_no};
+use crate::{lists, sets, versions};
 use pep440_operator::{Operator, OperatorParseError};
+use pep440_range::{release_specifier_to_range, specifier_to_range};
 use pep440_specifier::{
     BoundError, VersionSpecifier, VersionSpecifierBuildError, VersionSpecifierParseError,
 };
-use pep440_specifier_list::VersionSpecifiersParseError;
+use pep440_specifier_list::{VersionSpecifiers, VersionSpecifiersParseError};
 use pep440_version::{Version, VersionParseError, VersionPatternParseError};
 use std::alloc::{AllocError, Global};
 use std::fmt::Write;
 
 /// What is asked of a specifier and another text.
-const KINDS: [&str; 9] = [
+pub const KINDS: [&str; 9] = [
     "specifier",
     "specifier copy",
     "specifier parts",
@@ -27,161 +25,122 @@ const KINDS: [&str; 9] = [
     "specifiers",
 ];
 
-/// The answer to a question on specifiers, or to one of another kind.
-pub fn answer(
-    alloc: Global,
-    kind: &str,
-    first: &str,
-    second: &str,
-    third: &str,
-) -> Result<String, AllocError> {
-    if KINDS.contains(&kind) {
-        return of_specifier(alloc, kind, first, second);
-    }
-    match kind {
-        "operators" => operators(alloc),
-        "operator" => operator(alloc, first),
-        "of pattern" | "of version" => built::answer(alloc, kind, first, second),
-        "specifiers of 1" => made_of_operators(alloc),
-        "want of memory" => want_of_memory(alloc, first),
-        _ => releases::answer(alloc, kind, first, second, third),
-    }
-}
-
-fn of_specifier(alloc: Global, kind: &str, text: &str, other: &str) -> Result<String, AllocError> {
+/// The answer to a question on a specifier's text, and perhaps another one.
+pub fn of_text(alloc: Global, answer: &mut String, kind: &str, text: &str, other: &str) -> Told {
     match VersionSpecifier::from_str(alloc, text) {
-        Ok(specifier) => told(alloc, kind, &specifier, other),
-        Err(error) => unread(alloc, kind, &error),
+        Ok(specifier) => told(alloc, answer, kind, &specifier, other),
+        Err(error) => unread(answer, kind, &error),
     }
 }
 
 /// What is answered where a text is no specifier.
-pub fn unread(
-    alloc: Global,
-    kind: &str,
-    error: &VersionSpecifierParseError,
-) -> Result<String, AllocError> {
+pub fn unread(answer: &mut String, kind: &str, error: &VersionSpecifierParseError) -> Told {
     match error {
         VersionSpecifierParseError::Memory => Err(AllocError),
         error => match kind {
-            "specifier" | "specifier value" => format!(in alloc; "refused: {error}"),
-            _ => refused(alloc),
+            "specifier" | "specifier value" => write!(answer, "refused: {error}"),
+            _ => answer.push_str(REFUSED),
         },
     }
 }
 
 fn told(
     alloc: Global,
+    answer: &mut String,
     kind: &str,
     specifier: &VersionSpecifier,
     other: &str,
-) -> Result<String, AllocError> {
+) -> Told {
     match kind {
-        "specifier" => specifier.to_string(alloc),
-        "specifier copy" => copied(alloc, specifier),
-        "specifier parts" => parts(alloc, specifier),
-        "list of one" => lists::of_member(alloc, specifier),
-        "takes" => takes(alloc, specifier, other),
-        "specifiers" => beside(alloc, specifier, other),
-        _ => sets::of_specifier(alloc, kind, specifier),
+        "specifier" => shown(answer, specifier),
+        "specifier copy" => prints(answer, &specifier.try_clone(alloc)?),
+        "specifier parts" => {
+            let (operator, version) = specifier.try_clone(alloc)?.into_parts();
+            parts(alloc, answer, operator, &version, specifier)
+        }
+        "list of one" => {
+            let list = VersionSpecifiers::from_specifier(alloc, specifier.try_clone(alloc)?)?;
+            lists::of_member(answer, list)
+        }
+        "takes" => takes(alloc, answer, specifier, other),
+        "specifiers" => beside(alloc, answer, specifier, other),
+        "release set" => {
+            let range = release_specifier_to_range(alloc, specifier);
+            sets::of_range(answer, kind, range, None)
+        }
+        _ => sets::of_range(answer, kind, specifier_to_range(alloc, specifier), None),
     }
 }
 
-/// A copy's print, and that for programmers.
-fn copied(alloc: Global, specifier: &VersionSpecifier) -> Result<String, AllocError> {
-    let copy = specifier.try_clone(alloc)?;
-    prints(alloc, &copy)
-}
-
-fn prints(alloc: Global, specifier: &VersionSpecifier) -> Result<String, AllocError> {
-    format!(in alloc; "{specifier}, {specifier:?}")
+/// A specifier's print, and that for programmers.
+fn prints(answer: &mut String, specifier: &VersionSpecifier) -> Told {
+    write!(answer, "{specifier}, {specifier:?}")
 }
 
 /// A specifier's parts, and what holds of it.
-fn parts(alloc: Global, specifier: &VersionSpecifier) -> Result<String, AllocError> {
-    let is_pre = specifier.any_prerelease();
-    let is_bounded = specifier.has_lower_bound();
-    let (operator, version) = specifier.try_clone(alloc)?.into_parts();
-    parts_shown(alloc, operator, &version, is_pre, is_bounded)
-}
-
-fn parts_shown(
+fn parts(
     alloc: Global,
+    answer: &mut String,
     operator: Operator,
     version: &Version,
-    is_pre: bool,
-    is_bounded: bool,
-) -> Result<String, AllocError> {
-    let release = version.only_release(alloc)?;
-    let parts = (version, &release);
-    release_shown(alloc, operator, parts, is_pre, is_bounded)
-}
-
-fn release_shown(
-    alloc: Global,
-    operator: Operator,
-    (version, release): (&Version, &Version),
-    is_pre: bool,
-    is_bounded: bool,
-) -> Result<String, AllocError> {
-    format!(in alloc;
-        "{operator:?} {version}, release {release}, any pre-release {is_pre}, lower bound {is_bounded}"
+    specifier: &VersionSpecifier,
+) -> Told {
+    let (is_pre, is_bounded) = (specifier.any_prerelease(), specifier.has_lower_bound());
+    write!(answer, "{operator:?} {version}, release ")?;
+    shown(answer, &version.only_release(alloc)?)?;
+    write!(
+        answer,
+        ", any pre-release {is_pre}, lower bound {is_bounded}"
     )
 }
 
 /// Whether a specifier takes a version.
 fn takes(
     alloc: Global,
+    answer: &mut String,
     specifier: &VersionSpecifier,
     candidate: &str,
-) -> Result<String, AllocError> {
+) -> Told {
     match Version::from_str(alloc, candidate) {
-        Ok(candidate) => yes_or_no(alloc, specifier.contains(alloc, &candidate)),
-        Err(error) => versions::unread(alloc, "takes", &error),
+        Ok(candidate) => yes_or_no(answer, specifier.contains(alloc, &candidate)),
+        Err(error) => versions::unread(answer, "takes", &error),
     }
 }
 
-fn beside(alloc: Global, left: &VersionSpecifier, right: &str) -> Result<String, AllocError> {
+fn beside(alloc: Global, answer: &mut String, left: &VersionSpecifier, right: &str) -> Told {
     match VersionSpecifier::from_str(alloc, right) {
-        Ok(right) => compared(alloc, left, &right),
-        Err(error) => unread(alloc, "specifiers", &error),
+        Ok(right) => compared(answer, left, &right),
+        Err(error) => unread(answer, "specifiers", &error),
     }
 }
 
 /// The order of two specifiers, and whether they are equal and have one hash.
-fn compared(
-    alloc: Global,
-    left: &VersionSpecifier,
-    right: &VersionSpecifier,
-) -> Result<String, AllocError> {
+fn compared(answer: &mut String, left: &VersionSpecifier, right: &VersionSpecifier) -> Told {
     let order = sign(left.cmp(right));
     let is_equal = left == right;
     let is_one = hash_of(left) == hash_of(right);
-    format!(in alloc; "{order}, equal {is_equal}, one hash {is_one}")
+    write!(answer, "{order}, equal {is_equal}, one hash {is_one}")
 }
 
 /// What an error says of want of memory.
-fn want_of_memory(alloc: Global, what: &str) -> Result<String, AllocError> {
+pub fn want_of_memory(answer: &mut String, what: &str) -> Told {
     match what {
-        "version" => VersionParseError::Memory.to_string(alloc),
-        "pattern" => VersionPatternParseError::Memory.to_string(alloc),
-        "operator" => OperatorParseError::Memory.to_string(alloc),
-        "built specifier" => VersionSpecifierBuildError::Memory.to_string(alloc),
-        "specifier" => VersionSpecifierParseError::Memory.to_string(alloc),
-        "bound" => BoundError::Memory.to_string(alloc),
-        "list" => list_memory(alloc, &VersionSpecifiersParseError::Memory),
-        _ => String::from_str(alloc, "no question"),
+        "version" => shown(answer, &VersionParseError::Memory),
+        "pattern" => shown(answer, &VersionPatternParseError::Memory),
+        "operator" => shown(answer, &OperatorParseError::Memory),
+        "built specifier" => shown(answer, &VersionSpecifierBuildError::Memory),
+        "specifier" => shown(answer, &VersionSpecifierParseError::Memory),
+        "bound" => shown(answer, &BoundError::Memory),
+        "list" => {
+            let error = VersionSpecifiersParseError::Memory;
+            write!(answer, "{error} at `{}`", error.line())
+        }
+        _ => answer.push_str("no question"),
     }
 }
 
-fn list_memory(alloc: Global, error: &VersionSpecifiersParseError) -> Result<String, AllocError> {
-    let line = error.line();
-    format!(in alloc; "{error} at `{line}`")
-}
-
 /// Each operator: its print, its negation, and what its print is read as.
-fn operators(alloc: Global) -> Result<String, AllocError> {
-    let mut answer = String::new(alloc);
+pub fn operators(alloc: Global, answer: &mut String) -> Told {
     for operator in [
         Operator::Equal,
         Operator::EqualStar,
@@ -194,28 +153,22 @@ fn operators(alloc: Global) -> Result<String, AllocError> {
         Operator::GreaterThan,
         Operator::GreaterThanEqual,
     ] {
-        push_operator(alloc, &mut answer, operator)?;
+        push_operator(alloc, answer, operator)?;
     }
-    Ok(answer)
+    Ok(())
 }
 
-fn push_operator(alloc: Global, answer: &mut String, operator: Operator) -> Result<(), AllocError> {
-    let again = is_read_again(alloc, operator)?;
+fn push_operator(alloc: Global, answer: &mut String, operator: Operator) -> Told {
     let negated = operator.negate();
-    write!(
-        answer,
-        "{operator:?} {operator} not {negated:?} again {again}; "
-    )
+    write!(answer, "{operator:?} {operator} not {negated:?} again ")?;
+    yes_or_no(answer, is_read_again(alloc, operator))?;
+    answer.push_str("; ")
 }
 
 /// Whether an operator's print is read as the operator.
 fn is_read_again(alloc: Global, operator: Operator) -> Result<bool, AllocError> {
     let text = operator.to_string(alloc)?;
-    is_read_as(alloc, &text, operator)
-}
-
-fn is_read_as(alloc: Global, text: &str, operator: Operator) -> Result<bool, AllocError> {
-    match Operator::from_str(alloc, text) {
+    match Operator::from_str(alloc, &text) {
         Ok(again) => Ok(again == operator),
         Err(OperatorParseError::Memory) => Err(AllocError),
         Err(_) => Ok(false),
@@ -223,53 +176,51 @@ fn is_read_as(alloc: Global, text: &str, operator: Operator) -> Result<bool, All
 }
 
 /// The operator of a text.
-fn operator(alloc: Global, text: &str) -> Result<String, AllocError> {
+pub fn operator(alloc: Global, answer: &mut String, text: &str) -> Told {
     match Operator::from_str(alloc, text) {
-        Ok(operator) => format!(in alloc; "{operator:?}"),
+        Ok(operator) => write!(answer, "{operator:?}"),
         Err(OperatorParseError::Memory) => Err(AllocError),
-        Err(OperatorParseError::Unknown(text)) => format!(in alloc; "unknown: {text}"),
-    }
-}
-
-/// The specifier of `1` by this operator, where it has a call of its own.
-fn made(operator: Operator, version: Version) -> Option<VersionSpecifier>
-    requires { version ≡ release_record (1 ∷ []) }
-{
-    Some(match operator {
-        Operator::Equal => VersionSpecifier::equals_version(version),
-        Operator::EqualStar => VersionSpecifier::equals_star_version(version),
-        Operator::NotEqual => VersionSpecifier::not_equals_version(version),
-        Operator::NotEqualStar => VersionSpecifier::not_equals_star_version(version),
-        Operator::GreaterThan => VersionSpecifier::greater_than_version(version),
-        Operator::GreaterThanEqual => VersionSpecifier::greater_than_equal_version(version),
-        Operator::LessThan => VersionSpecifier::less_than_version(version),
-        Operator::LessThanEqual => VersionSpecifier::less_than_equal_version(version),
-        Operator::TildeEqual | Operator::ExactEqual => return None,
-    })
-}
-
-/// The print of `1` by this operator.
-fn push_made(alloc: Global, answer: &mut String, operator: Operator) -> Result<(), AllocError> {
-    match made(operator, Version::new(alloc, &[1])?) {
-        Some(specifier) => write!(answer, "{specifier} "),
-        None => Ok(()),
+        Err(OperatorParseError::Unknown(text)) => write!(answer, "unknown: {text}"),
     }
 }
 
 /// The specifiers of `1` by each operator that has a call of its own.
-fn made_of_operators(alloc: Global) -> Result<String, AllocError> {
-    let mut answer = String::new(alloc);
-    for operator in [
-        Operator::Equal,
-        Operator::EqualStar,
-        Operator::NotEqual,
-        Operator::NotEqualStar,
-        Operator::GreaterThan,
-        Operator::GreaterThanEqual,
-        Operator::LessThan,
-        Operator::LessThanEqual,
-    ] {
-        push_made(alloc, &mut answer, operator)?;
-    }
-    Ok(answer)
+pub fn made_of_operators(alloc: Global, answer: &mut String) -> Told {
+    let one = [1];
+    push_made(
+        answer,
+        VersionSpecifier::equals_version(Version::new(alloc, &one)?),
+    )?;
+    push_made(
+        answer,
+        VersionSpecifier::equals_star_version(Version::new(alloc, &one)?),
+    )?;
+    push_made(
+        answer,
+        VersionSpecifier::not_equals_version(Version::new(alloc, &one)?),
+    )?;
+    push_made(
+        answer,
+        VersionSpecifier::not_equals_star_version(Version::new(alloc, &one)?),
+    )?;
+    push_made(
+        answer,
+        VersionSpecifier::greater_than_version(Version::new(alloc, &one)?),
+    )?;
+    push_made(
+        answer,
+        VersionSpecifier::greater_than_equal_version(Version::new(alloc, &one)?),
+    )?;
+    push_made(
+        answer,
+        VersionSpecifier::less_than_version(Version::new(alloc, &one)?),
+    )?;
+    push_made(
+        answer,
+        VersionSpecifier::less_than_equal_version(Version::new(alloc, &one)?),
+    )
+}
+
+fn push_made(answer: &mut String, specifier: VersionSpecifier) -> Told {
+    write!(answer, "{specifier} ")
 }

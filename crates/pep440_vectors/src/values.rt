@@ -1,6 +1,6 @@
 //! Answers on JSON values.
 
-use crate::answers::no_json;
+use crate::answers::{Told, no_json, shown};
 use crate::{lists, specifiers, versions};
 use pep440_specifier::VersionSpecifier;
 use pep440_specifier_list::VersionSpecifiers;
@@ -8,56 +8,49 @@ use pep440_version::{FromValueError, Version};
 use serde_json::Value;
 use std::alloc::{AllocError, Global};
 
-/// The answer to a question on a JSON value, `no question` for another kind.
-pub fn answer(alloc: Global, kind: &str, text: &str) -> Result<String, AllocError> {
-    match kind {
-        "value" | "specifier value" | "list value" => of_text(alloc, kind, text),
-        _ => String::from_str(alloc, "no question"),
-    }
-}
-
-fn of_text(alloc: Global, kind: &str, text: &str) -> Result<String, AllocError> {
+/// The answer to a question on the text of a JSON value.
+pub fn of_text(alloc: Global, answer: &mut String, kind: &str, text: &str) -> Told {
     match Value::from_str(alloc, text) {
-        Ok(value) => of_value(alloc, kind, &value),
-        Err(error) => no_json(alloc, "no JSON", &error),
+        Ok(value) => told(alloc, answer, kind, &value),
+        Err(error) => no_json(answer, "no JSON", &error),
     }
 }
 
-fn of_value(alloc: Global, kind: &str, value: &Value) -> Result<String, AllocError> {
+fn told(alloc: Global, answer: &mut String, kind: &str, value: &Value) -> Told {
     match kind {
-        "value" => version(alloc, value),
-        "specifier value" => specifier(alloc, value),
-        _ => list(alloc, value),
+        "value" => version(alloc, answer, value),
+        "specifier value" => specifier(alloc, answer, value),
+        _ => list(alloc, answer, value),
     }
 }
 
 /// The version that a JSON value is, and its value.
-fn version(alloc: Global, value: &Value) -> Result<String, AllocError> {
+fn version(alloc: Global, answer: &mut String, value: &Value) -> Told {
     match Version::from_value(alloc, value) {
-        Ok(version) => shown(alloc, version.to_value(alloc)),
-        Err(FromValueError::Shape) => String::from_str(alloc, "shape"),
-        Err(FromValueError::Text(error)) => versions::unread(alloc, "value", &error),
+        Ok(version) => again(answer, version.to_value(alloc)),
+        Err(FromValueError::Shape) => answer.push_str("shape"),
+        Err(FromValueError::Text(error)) => versions::unread(answer, "value", &error),
     }
 }
 
 /// The specifier that a JSON value is, and its value.
-fn specifier(alloc: Global, value: &Value) -> Result<String, AllocError> {
+fn specifier(alloc: Global, answer: &mut String, value: &Value) -> Told {
     match VersionSpecifier::from_value(alloc, value) {
-        Ok(specifier) => shown(alloc, specifier.to_value(alloc)),
-        Err(FromValueError::Shape) => String::from_str(alloc, "shape"),
-        Err(FromValueError::Text(error)) => specifiers::unread(alloc, "specifier value", &error),
+        Ok(specifier) => again(answer, specifier.to_value(alloc)),
+        Err(FromValueError::Shape) => answer.push_str("shape"),
+        Err(FromValueError::Text(error)) => specifiers::unread(answer, "specifier value", &error),
     }
 }
 
-fn shown(alloc: Global, value: Result<Value, AllocError>) -> Result<String, AllocError> {
-    value?.to_string(alloc)
+fn again(answer: &mut String, value: Result<Value, AllocError>) -> Told {
+    shown(answer, &value?)
 }
 
 /// The list that a JSON value is.
-fn list(alloc: Global, value: &Value) -> Result<String, AllocError> {
+fn list(alloc: Global, answer: &mut String, value: &Value) -> Told {
     match VersionSpecifiers::from_value(alloc, value) {
-        Ok(list) => list.to_string(alloc),
-        Err(FromValueError::Shape) => String::from_str(alloc, "shape"),
-        Err(FromValueError::Text(error)) => lists::unread(alloc, "list value", &error),
+        Ok(list) => shown(answer, &list),
+        Err(FromValueError::Shape) => answer.push_str("shape"),
+        Err(FromValueError::Text(error)) => lists::unread(answer, "list value", &error),
     }
 }

@@ -1,13 +1,14 @@
 //! Answers on versions.
 
-use crate::answers::{hash_of, refused, sign};
-use crate::{lists, patterns, releases};
+use crate::answers::{REFUSED, Told, hash_of, shown, sign};
+use crate::{lists, releases};
+use pep440_specifier_list::VersionSpecifiers;
 use pep440_version::{LocalSegment, Prerelease, PrereleaseKind, Version, VersionParseError};
 use std::alloc::{AllocError, Global};
 use std::fmt::Write;
 
 /// What is asked of a version, or of two.
-const KINDS: [&str; 18] = [
+pub const KINDS: [&str; 18] = [
     "print",
     "version fault",
     "parts",
@@ -28,147 +29,102 @@ const KINDS: [&str; 18] = [
     "compare",
 ];
 
-/// The answer to a question on versions, or to one of another kind.
-pub fn answer(
-    alloc: Global,
-    kind: &str,
-    first: &str,
-    second: &str,
-    third: &str,
-) -> Result<String, AllocError> {
-    if KINDS.contains(&kind) {
-        of_version(alloc, kind, first, second)
-    } else if kind == "changed" {
-        changed(alloc)
-    } else {
-        patterns::answer(alloc, kind, first, second, third)
-    }
-}
-
-fn of_version(alloc: Global, kind: &str, text: &str, other: &str) -> Result<String, AllocError> {
+/// The answer to a question on a version's text, and perhaps another one.
+pub fn of_text(alloc: Global, answer: &mut String, kind: &str, text: &str, other: &str) -> Told {
     match Version::from_str(alloc, text) {
-        Ok(version) => told(alloc, kind, &version, other),
-        Err(error) => unread(alloc, kind, &error),
+        Ok(version) => told(alloc, answer, kind, &version, other),
+        Err(error) => unread(answer, kind, &error),
     }
 }
 
 /// What is answered where a text is no version.
-pub fn unread(alloc: Global, kind: &str, error: &VersionParseError) -> Result<String, AllocError> {
+pub fn unread(answer: &mut String, kind: &str, error: &VersionParseError) -> Told {
     match error {
         VersionParseError::Memory => Err(AllocError),
         error => match kind {
-            "version fault" => error.to_string(alloc),
-            "value" => format!(in alloc; "refused: {error}"),
-            _ => refused(alloc),
+            "version fault" => shown(answer, error),
+            "value" => write!(answer, "refused: {error}"),
+            _ => answer.push_str(REFUSED),
         },
     }
 }
 
-fn told(alloc: Global, kind: &str, version: &Version, other: &str) -> Result<String, AllocError> {
+fn told(alloc: Global, answer: &mut String, kind: &str, version: &Version, other: &str) -> Told {
     match kind {
-        "print" => version.to_string(alloc),
-        "version fault" => read(alloc, version),
-        "parts" => parts(alloc, version),
-        "traits" => traits(alloc, version),
-        "raised" => raised(alloc, version),
-        "early" => early(alloc, version),
-        "low" | "high" => marked(alloc, kind, version),
-        "included" | "excluded" | "unbounded" => releases::bounds(alloc, kind, version),
-        "empty list" => lists::empty(alloc, version),
-        "order" | "compare" => beside(alloc, kind, version, other),
-        _ => made(alloc, kind, version)?.to_string(alloc),
+        "print" => shown(answer, version),
+        "version fault" => write!(answer, "read {version}"),
+        "parts" => parts(answer, version),
+        "traits" => traits(answer, version),
+        "order" | "compare" => beside(alloc, answer, kind, version, other),
+        "early" => ordered(answer, &Version::min_version(alloc)?, version),
+        "low" => marks(
+            answer,
+            &Version::new(alloc, &[1])?.with_min(Some(0)),
+            version,
+        ),
+        "high" => marks(
+            answer,
+            &Version::new(alloc, &[1])?.with_max(Some(0)),
+            version,
+        ),
+        "empty list" => lists::empty(alloc, answer, &VersionSpecifiers::empty(alloc), version),
+        "included" | "excluded" | "unbounded" => releases::bounds(alloc, answer, kind, version),
+        _ => made(alloc, answer, kind, version),
     }
 }
 
-fn read(alloc: Global, version: &Version) -> Result<String, AllocError> {
-    format!(in alloc; "read {version}")
-}
-
-/// What a version is made into.
-fn made(alloc: Global, kind: &str, version: &Version) -> Result<Version, AllocError> {
+/// What is made of a version.
+fn made(alloc: Global, answer: &mut String, kind: &str, version: &Version) -> Told {
     match kind {
-        "copy" => version.try_clone(alloc),
-        "release" => version.only_release(alloc),
-        "trimmed" => Ok(version.try_clone(alloc)?.without_end_zeros()),
-        _ => Ok(version.try_clone(alloc)?.without_local()),
+        "copy" => shown(answer, &version.try_clone(alloc)?),
+        "release" => shown(answer, &version.only_release(alloc)?),
+        "trimmed" => shown(answer, &version.try_clone(alloc)?.without_end_zeros()),
+        "public" => shown(answer, &version.try_clone(alloc)?.without_local()),
+        _ => match version.try_clone(alloc)?.with_last_raised() {
+            Some(next) => shown(answer, &next),
+            None => answer.push_str("at the end"),
+        },
     }
 }
 
-/// The version with its last number raised.
-fn raised(alloc: Global, version: &Version) -> Result<String, AllocError> {
-    match version.try_clone(alloc)?.with_last_raised() {
-        Some(next) => next.to_string(alloc),
-        None => String::from_str(alloc, "at the end"),
-    }
-}
-
-fn parts(alloc: Global, version: &Version) -> Result<String, AllocError> {
-    let mut answer = String::new(alloc);
-    push_parts(&mut answer, version)?;
-    Ok(answer)
-}
-
-fn push_parts(answer: &mut String, version: &Version) -> Result<(), AllocError> {
-    push_release(answer, version)?;
-    push_pre(answer, version.pre())?;
-    number(answer, "post", version.post())?;
-    number(answer, "dev", version.dev())?;
-    local(answer, version.local())
-}
-
-fn push_release(answer: &mut String, version: &Version) -> Result<(), AllocError> {
+fn parts(answer: &mut String, version: &Version) -> Told {
     write!(answer, "epoch {}, release ", version.epoch())?;
     let mut dot = "";
     for number in version.release() {
         write!(answer, "{dot}{number}")?;
         dot = ".";
     }
-    Ok(())
-}
-
-fn push_pre(answer: &mut String, pre: Option<Prerelease>) -> Result<(), AllocError> {
-    match pre {
-        Some(pre) => write!(answer, ", pre {pre}"),
-        None => answer.push_str(", pre -"),
+    match version.pre() {
+        Some(pre) => write!(answer, ", pre {pre}")?,
+        None => answer.push_str(", pre -")?,
     }
+    number(answer, "post", version.post())?;
+    number(answer, "dev", version.dev())?;
+    local(answer, version.local())
 }
 
-pub fn number(answer: &mut String, name: &str, number: Option<u64>) -> Result<(), AllocError> {
+pub fn number(answer: &mut String, name: &str, number: Option<u64>) -> Told {
     match number {
         Some(number) => write!(answer, ", {name} {number}"),
         None => write!(answer, ", {name} -"),
     }
 }
 
-fn local(answer: &mut String, segments: &[LocalSegment]) -> Result<(), AllocError> {
+fn local(answer: &mut String, segments: &[LocalSegment]) -> Told {
     answer.push_str(", local [")?;
     let mut comma = "";
     for segment in segments {
-        push_segment(answer, comma, segment)?;
+        match segment {
+            LocalSegment::String(text) => write!(answer, "{comma}text {text}")?,
+            LocalSegment::Number(number) => write!(answer, "{comma}number {number}")?,
+        }
         comma = ", ";
     }
     answer.push(']')
 }
 
-fn push_segment(
-    answer: &mut String,
-    comma: &str,
-    segment: &LocalSegment,
-) -> Result<(), AllocError> {
-    match segment {
-        LocalSegment::String(text) => write!(answer, "{comma}text {text}"),
-        LocalSegment::Number(number) => write!(answer, "{comma}number {number}"),
-    }
-}
-
 /// What holds of a version, and its print for programmers.
-fn traits(alloc: Global, version: &Version) -> Result<String, AllocError> {
-    let mut answer = String::new(alloc);
-    push_traits(&mut answer, version)?;
-    Ok(answer)
-}
-
-fn push_traits(answer: &mut String, version: &Version) -> Result<(), AllocError> {
+fn traits(answer: &mut String, version: &Version) -> Told {
     write!(answer, "{version:?}")?;
     for (name, holds) in [
         (", any pre-release", version.any_prerelease()),
@@ -186,62 +142,43 @@ fn push_traits(answer: &mut String, version: &Version) -> Result<(), AllocError>
     Ok(())
 }
 
-/// The early version, and its order to another one.
-fn early(alloc: Global, version: &Version) -> Result<String, AllocError> {
-    let early = Version::min_version(alloc)?;
-    ordered(alloc, &early, version)
-}
-
-fn ordered(alloc: Global, left: &Version, right: &Version) -> Result<String, AllocError> {
+/// A version, and its order to another one.
+fn ordered(answer: &mut String, left: &Version, right: &Version) -> Told {
     let order = sign(left.cmp(right));
-    format!(in alloc; "{left} {order}")
-}
-
-/// `1`, marked as a lower or an upper end.
-fn marked(alloc: Global, kind: &str, version: &Version) -> Result<String, AllocError> {
-    let one = Version::new(alloc, &[1])?;
-    let end = if kind == "low" {
-        one.with_min(Some(0))
-    } else {
-        one.with_max(Some(0))
-    };
-    marks(alloc, &end, version)
+    write!(answer, "{left} {order}")
 }
 
 /// An end's marks, its order to a version, and whether it is a release alone.
-fn marks(alloc: Global, end: &Version, version: &Version) -> Result<String, AllocError> {
+fn marks(answer: &mut String, end: &Version, version: &Version) -> Told {
     let order = sign(end.cmp(version));
     let is_alone = end.is_only_release();
     let (min, max) = (Version::min(end), Version::max(end));
-    format!(in alloc; "{min:?} {max:?} {order}, a release alone {is_alone}")
+    write!(
+        answer,
+        "{min:?} {max:?} {order}, a release alone {is_alone}"
+    )
 }
 
-fn beside(alloc: Global, kind: &str, left: &Version, right: &str) -> Result<String, AllocError> {
+fn beside(alloc: Global, answer: &mut String, kind: &str, left: &Version, right: &str) -> Told {
     match Version::from_str(alloc, right) {
-        Ok(right) => both(alloc, kind, left, &right),
-        Err(error) => unread(alloc, kind, &error),
+        Ok(right) => compared(answer, kind, left, &right),
+        Err(error) => unread(answer, kind, &error),
     }
 }
 
-fn both(alloc: Global, kind: &str, left: &Version, right: &Version) -> Result<String, AllocError> {
-    if kind == "order" {
-        String::from_str(alloc, sign(left.cmp(right)))
-    } else {
-        compared(alloc, left, right)
-    }
-}
-
-/// The order of versions, of their public parts and of their releases, and whether they are equal and
-/// have one hash.
-fn compared(alloc: Global, left: &Version, right: &Version) -> Result<String, AllocError> {
+/// The order of versions; or with it the order of their public parts and of their releases, and whether they
+/// are equal and have one hash.
+fn compared(answer: &mut String, kind: &str, left: &Version, right: &Version) -> Told {
     let order = sign(left.cmp(right));
+    if kind == "order" {
+        return answer.push_str(order);
+    }
     let public = sign(left.cmp_public(right));
     let release = sign(left.cmp_release(right));
     let is_equal = left == right;
     let is_one = hash_of(left) == hash_of(right);
-    format!(in alloc;
-        "{order}, public {public}, release {release}, equal {is_equal}, one hash {is_one}"
-    )
+    write!(answer, "{order}, public {public}, release {release}, ")?;
+    write!(answer, "equal {is_equal}, one hash {is_one}")
 }
 
 /// `ubuntu.7`
@@ -253,25 +190,21 @@ fn segments(alloc: Global) -> Result<Vec<LocalSegment>, AllocError> {
 }
 
 /// `9`, of which each part is set anew.
-fn changed(alloc: Global) -> Result<String, AllocError> {
+pub fn changed(alloc: Global, answer: &mut String) -> Told {
     let version = Version::new(alloc, &[9])?.with_release(alloc, &[1, 2])?;
-    changed_parts(alloc, version, segments(alloc)?)
+    changed_parts(answer, version, segments(alloc)?)
 }
 
-fn changed_parts(
-    alloc: Global,
-    version: Version,
-    local: Vec<LocalSegment>,
-) -> Result<String, AllocError> {
+fn changed_parts(answer: &mut String, version: Version, local: Vec<LocalSegment>) -> Told {
     let beta2 = Prerelease {
         kind: PrereleaseKind::Beta,
         number: 2,
     };
-    version
+    let changed = version
         .with_epoch(3)
         .with_pre(Some(beta2))
         .with_post(Some(4))
         .with_dev(Some(5))
-        .with_local(local)
-        .to_string(alloc)
+        .with_local(local);
+    shown(answer, &changed)
 }

@@ -5,14 +5,14 @@ use Rattle.std.proofs.Common.{ap, sym, ◌∙◌}
 use Rattle.std.proofs.lemmas.Bool.{and_parts}
 use Rattle.std.proofs.lemmas.Map.Lookups.{exact_bytes}
 use Rattle.std.specs.Bool.{beq}
-use Rattle.std.specs.declared.cmp.Ordering.{Ordering}
-use Rattle.std.specs.declared.cmp.Ordering.TheVariants.{Less, Equal, Greater}
-use Rattle.std.specs.Ordering.{ordering_then, nat_cmp, as_partial_cmp, is_eq}
+use Rattle.std.specs.declared.cmp.Ordering.TheVariants.{Equal}
+use Rattle.std.specs.Ordering.{nat_cmp, as_partial_cmp, is_eq}
 use Rattle.std.specs.Cmp.{Equal-is, tied_itself, IsTotalOrder, IsEquivalence, IsPartialEquivalence}
 use Rattle.std.specs.Cmp.{IsPartialOrder, partial_equiv_from_equiv, eq_by_cmp_equiv}
 use Rattle.std.specs.Cmp.{partial_order_from_agreeing_total, on_total, and_equiv, on_equiv, bool_eq_equiv}
 use Rattle.std.specs.Cmp.{booleans_Decides}
 use Rattle.std.specs.Cmp.Lexicographic.{slice_cmp, lists_total, nat_list_cmp_total}
+use Rattle.version_ranges.specs.HashingLaws.{then_equal}
 use Rattle.pep440_text.specs.Record.{VersionRecord, PatternRecord}
 use Rattle.pep440_version.specs.Order.{key_of, key_cmp, version_cmp, version_eq, fed_key}
 use Rattle.pep440_version.specs.PatternOrder.{pattern_eq, fed_pattern}
@@ -32,12 +32,6 @@ version_eq_partial = partial_equiv_from_equiv version_eq_equiv
 pub version_partial_order : IsPartialOrder version_eq (as_partial_cmp version_cmp)
 version_partial_order =
     partial_order_from_agreeing_total version_cmp version_cmp_total (λ x y. refl) (λ x y. refl)
-
--- one that follows another ties where both do
-pub then_equal : (o p : Ordering) → ordering_then o p ≡ Equal → (o ≡ Equal) × (p ≡ Equal)
-then_equal Less p h = absurd (cc)
-then_equal Equal p h = (refl, h)
-then_equal Greater p h = absurd (cc)
 
 keys_exact : (a b : List (List ℕ)) → key_cmp a b ≡ Equal → a ≡ b
 keys_exact [] [] h = refl

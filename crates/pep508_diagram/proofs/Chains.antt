@@ -19,7 +19,8 @@ use Rattle.pep508_diagram.specs.Chains.{chain}
 use Rattle.pep508_diagram.specs.Children.{RootBehind, NeighboursApart, AreSameBranches}
 use Rattle.pep508_diagram.specs.Question.{Question, VersionBelow, TextBelow, IsSet, Valuation, version_rank, text_rank, flag_place, place_of, version_boundaries, text_boundaries, question_cmp, shares_variable, answer, marker, truth, AreOne, IsCanonical}
 use Rattle.pep508_diagram.proofs.Pairing.{weaker_branches}
-use Rattle.pep508_diagram.proofs.Places.{both_equal, less_from, texts_same}
+use Rattle.pep508_diagram.proofs.Places.{less_from, texts_same}
+use Rattle.version_ranges.specs.HashingLaws.{then_equal}
 use Rattle.pep508_diagram.proofs.Questions.{asks, versions_order, texts_order, versions_share, texts_share, places_share, no_mixed, version_keys, text_keys, flags_shared}
 use Rattle.pep508_diagram.proofs.Keyed.{IsKey, IsAboveAll, truth_chain, canonical_test, canonical_chain, chain_one}
 pub use Rattle.pep508_diagram.proofs.Branching.{all_children, branch_at_child, branch_at_below, branch_at_own, child_point}
@@ -80,7 +81,7 @@ pub one_place : (q r : Question) (low high other_low other_high : Diagram Questi
     AreOne (Test q low high) (Test r other_low other_high) → place_of q ≡ place_of r
 unfolding question_cmp
 one_place q r low high other_low other_high a =
-    texts_same (place_of q) (place_of r) (both_equal (text_cmp (place_of q) (place_of r))
+    texts_same (place_of q) (place_of r) (then_equal (text_cmp (place_of q) (place_of r))
     (ordering_then (slice_cmp (boundary_cmp version_cmp) (version_boundaries q) (version_boundaries r))
     (slice_cmp (boundary_cmp text_cmp) (text_boundaries q) (text_boundaries r))) a.0).0
 

@@ -1,6 +1,7 @@
 -- The variables of questions: what two orderings joined say, and which variables have one place.
 use Rattle.std.proofs.Common.{◌≡◌, ℕ, ◌<◌, ◌==◌, true, false, cond, List, [], ◌∷◌, refl, sym, ap, ap₂, ◌∙◌, true≢false, arith, Ordering, Less, Equal, Greater, is_eq, is_lt, is_gt, nat_cmp}
 use Rattle.std.specs.Ordering.{ordering_then, then_cmp, eq_by_cmp}
+use Rattle.version_ranges.specs.HashingLaws.{then_equal}
 use Rattle.std.specs.Cmp.{IsTotalOrder, alike_right}
 use Rattle.std.proofs.lemmas.Cmp.{ranked}
 use Rattle.pep508_marker.specs.declared.keys.MarkerValueString.{MarkerValueString}
@@ -18,16 +19,6 @@ use Rattle.pep508_diagram.specs.Question.{version_rank, flag_rank, flag_text, fl
 
 pub not_less : Equal ≡ Less → ⊥
 not_less e = true≢false (ap is_eq e)
-
-pub both_equal : (o p : Ordering) → ordering_then o p ≡ Equal → (o ≡ Equal) × (p ≡ Equal)
-both_equal Less p e = absurd (not_less (sym e))
-both_equal Equal p e = (refl, e)
-both_equal Greater p e = absurd (true≢false (ap is_gt e))
-
-pub then_equal : (o : Ordering) → ordering_then o Equal ≡ o
-then_equal Less = refl
-then_equal Equal = refl
-then_equal Greater = refl
 
 pub apart_then : (o p : Ordering) → is_eq o ≡ false → is_eq (ordering_then o p) ≡ false
 apart_then Less p free = refl
@@ -68,7 +59,7 @@ texts_same [] [] e = refl
 texts_same [] (y ∷ ys) e = absurd (not_less (sym e))
 texts_same (x ∷ xs) [] e = absurd (true≢false (ap is_gt e))
 texts_same (x ∷ xs) (y ∷ ys) e =
-    let parts = both_equal (nat_cmp x y) (text_cmp xs ys) e in
+    let parts = then_equal (nat_cmp x y) (text_cmp xs ys) e in
     ap₂ (λ n ns. n ∷ ns) (numbers_same x y parts.0) (texts_same xs ys parts.1)
 
 -- ---- keys and flags
@@ -134,6 +125,6 @@ flags_same (Arbitrary t) (Arbitrary u) e same = ap Arbitrary same
 
 pub flag_from_place : (f g : Flag) → text_cmp (flag_place f) (flag_place g) ≡ Equal → f ≡ g
 flag_from_place f g e =
-    let parts = both_equal (nat_cmp (flag_rank f) (flag_rank g)) (text_cmp (flag_text f) (flag_text g)) e in
+    let parts = then_equal (nat_cmp (flag_rank f) (flag_rank g)) (text_cmp (flag_text f) (flag_text g)) e in
     flags_same f g (numbers_same (flag_rank f) (flag_rank g) parts.0)
     (texts_same (flag_text f) (flag_text g) parts.1)

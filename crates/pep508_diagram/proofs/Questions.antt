@@ -19,7 +19,9 @@ use Rattle.pep508_diagram.specs.declared.variable.Flag.{Flag}
 use Rattle.pep508_diagram.specs.Text.{text_cmp}
 use Rattle.pep508_diagram.specs.Diagram.{IsAsking}
 use Rattle.pep508_diagram.specs.Question.{Question, VersionBelow, TextBelow, IsSet, Valuation, version_rank, text_rank, flag_rank, flag_text, flag_place, place_of, version_boundaries, text_boundaries, question_cmp, shares_variable, lies_below, answer, below_all, at_place, marker, OneDiagram}
-use Rattle.pep508_diagram.proofs.Places.{both_equal, not_less, then_equal, apart_then, equal_from, neighbours, versions_same, text_keys_same, version_rank_below, rank_below, flag_rank_from, flag_from_place}
+use Rattle.pep508_diagram.proofs.Places.{not_less, apart_then, equal_from, neighbours, versions_same, text_keys_same, version_rank_below, rank_below, flag_rank_from, flag_from_place}
+use Rattle.version_ranges.specs.HashingLaws.{then_equal}
+use Rattle.pep440_version.proofs.Stripped.{then_equal_last}
 use Rattle.pep508_diagram.proofs.Canonical.{one_diagram}
 
 -- ---- points and boundaries of one variable
@@ -70,7 +72,7 @@ module _ {T : Type 0} {cmp : T → T → Ordering} (total : IsTotalOrder cmp) wh
 -- ---- which questions share a variable
 
 pub numbers_tied : (a b : ℕ) → is_eq (ordering_then (nat_cmp a b) Equal) ≡ (a == b)
-numbers_tied a b = ap is_eq (then_equal (nat_cmp a b)) ∙ unsigned_tied a b
+numbers_tied a b = ap is_eq (then_equal_last (nat_cmp a b)) ∙ unsigned_tied a b
 
 pub tied_numbers : (a b : ℕ) → (a == b) ≡ true → nat_cmp a b ≡ Equal
 tied_numbers a b e = equal_from (nat_cmp a b) (unsigned_tied a b ∙ e)
@@ -140,7 +142,7 @@ questions_total =
     (on_total text_boundaries (lists_total (boundaries_total text_cmp nat_list_cmp_total))))
 
 pub level : (o : Ordering) → ordering_then (ordering_then o Equal) Equal ≡ o
-level o = then_equal (ordering_then o Equal) ∙ then_equal o
+level o = then_equal_last (ordering_then o Equal) ∙ then_equal_last o
 
 -- questions about one key stand as their boundaries do
 pub versions_order : (k j : VersionVariable) (b c : Boundary VersionRecord) →
@@ -159,11 +161,11 @@ unfolding question_cmp
 texts_order k j b c e =
     ap (λ o. ordering_then (ordering_then o Equal) (ordering_then (boundary_cmp text_cmp b c) Equal))
     (tied_numbers (text_rank k) (text_rank j) (two_more (text_key_rank k) (text_key_rank j) ∙ e))
-    ∙ then_equal (boundary_cmp text_cmp b c)
+    ∙ then_equal_last (boundary_cmp text_cmp b c)
 
 pub places_share : (q r : Question) → question_cmp q r ≡ Equal → shares_variable q r ≡ true
 unfolding question_cmp shares_variable
-places_share q r e = ap is_eq (both_equal (text_cmp (place_of q) (place_of r)) _ e).0
+places_share q r e = ap is_eq (then_equal (text_cmp (place_of q) (place_of r)) _ e).0
 
 pub share_equiv : IsEquivalence shares_variable
 unfolding shares_variable

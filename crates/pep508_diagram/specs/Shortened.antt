@@ -8,8 +8,9 @@ use Rattle.pep440_text.specs.Record.{VersionRecord}
 use Rattle.pep440_version.specs.Changes.{or_zero}
 use Rattle.pep440_version.specs.Order.{stripped}
 use Rattle.pep508_diagram.specs.declared.branch.Branch.{Branch}
-use Rattle.pep508_diagram.specs.Diagram.{Diagram, Leaf, Test}
+use Rattle.pep508_diagram.specs.Diagram.{Diagram}
 use Rattle.pep508_diagram.specs.Question.{Question, VersionBelow, TextBelow, IsSet}
+use Rattle.pep508_diagram.specs.Questions.{AllQuestions}
 
 -- a post-release beside `most`, above which it can't stand: none where `most` is there
 abbrev pub post_beside : Option ℕ → Option ℕ → Option ℕ
@@ -47,5 +48,4 @@ AsksOfShort (IsSet flag) = Unit {0}
 
 -- no other version stands in a question of the diagram
 abbrev pub HasShortVersions : Diagram Question → Type 0
-HasShortVersions (Leaf b) = Unit {0}
-HasShortVersions (Test q low high) = AsksOfShort q × HasShortVersions low × HasShortVersions high
+HasShortVersions = AllQuestions AsksOfShort

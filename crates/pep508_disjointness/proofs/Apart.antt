@@ -1,5 +1,6 @@
 -- The pairs of what stands in two trees tell whether these are disjoint.
-use Rattle.std.proofs.Common.{◌≡◌, ℕ, ◌+◌, ◌<◌, ◌≤◌, Bool, ◌&&◌, List, [], ◌∷◌, map, ap, ap₂, sym, subst, ◌∙◌, arith}
+use Rattle.std.proofs.Common.{◌≡◌, ℕ, ◌+◌, ◌<◌, ◌≤◌, Bool, ◌&&◌, List, [], ◌∷◌, map, ap, ap₂, sym, subst, ◌∙◌}
+use Rattle.std.proofs.Common.{arith}
 use Rattle.std.specs.List.{AllByRecursion}
 use Rattle.version_ranges.specs.Turns.{flips}
 use Rattle.pep508_diagram.specs.declared.branch.Branch.{Branch}
@@ -7,7 +8,8 @@ use Rattle.pep508_diagram.specs.Branches.{AllBranches}
 use Rattle.pep508_diagram.specs.Question.{Valuation}
 use Rattle.pep508_tree.specs.Tree.{Tree}
 use Rattle.pep508_tree.specs.Meaning.{NodeOf, NodeRecord, Versions, Texts, Flagged, holds, IsTree}
-use Rattle.pep508_tree.specs.Nodes.{AllChildren, IsChildIn, Above, AreSound, Paired, chosen, node_place, turned}
+use Rattle.pep508_tree.specs.Nodes.{AllChildren, IsChildIn, Above, AreSound, Paired, chosen, node_place}
+use Rattle.pep508_tree.specs.Nodes.{turned}
 use Rattle.pep508_tree.specs.Joining.{children}
 use Rattle.pep508_tree.specs.Disjoint.{AreDisjoint}
 use Rattle.pep508_tree.proofs.Conjoining.{children_list}

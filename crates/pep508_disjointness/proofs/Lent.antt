@@ -1,5 +1,6 @@
 -- What is known of a tree by the node that stands in it, and the pairs of what stands in two trees.
-use Rattle.std.proofs.Common.{◌≡◌, ℕ, ◌<◌, Bool, true, false, List, [], ◌∷◌, map, refl, ap, sym, subst, ◌∙◌, arith, Less, Equal, Greater}
+use Rattle.std.proofs.Common.{◌≡◌, ℕ, ◌<◌, Bool, true, false, List, [], ◌∷◌, map, refl, ap, sym, subst, ◌∙◌}
+use Rattle.std.proofs.Common.{arith, Less, Equal, Greater}
 use Rattle.std.specs.Ordering.{ordering_reverse}
 use Rattle.std.specs.Cmp.Lexicographic.{nat_list_cmp_total}
 use Rattle.version_ranges.specs.Boundaries.{boundary_cmp}
@@ -11,7 +12,8 @@ use Rattle.pep508_diagram.specs.Text.{text_cmp}
 use Rattle.pep508_diagram.proofs.Places.{texts_same}
 use Rattle.pep508_tree.specs.Tree.{Tree, negation}
 use Rattle.pep508_tree.specs.Meaning.{NodeRecord, Versions, Texts, Flagged, holds, IsTree}
-use Rattle.pep508_tree.specs.Nodes.{AllChildren, IsChildIn, IsRising, Above, AreSound, counterpart, first_place, node_place, signed, turned_branch}
+use Rattle.pep508_tree.specs.Nodes.{AllChildren, IsChildIn, IsRising, Above, AreSound, counterpart}
+use Rattle.pep508_tree.specs.Nodes.{first_place, node_place, signed, turned_branch}
 use Rattle.pep508_tree.specs.Roots.{IsRoot}
 use Rattle.pep508_tree.proofs.Meanings.{each_child, chosen_child}
 use Rattle.pep508_tree.proofs.Splitting.{above_later, alone_in}

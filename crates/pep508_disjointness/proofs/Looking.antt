@@ -5,15 +5,15 @@ use Rattle.std.specs.List.{AllByRecursion, All}
 use Rattle.pep508_tree.specs.Tree.{Tree}
 use Rattle.pep508_tree.specs.Meaning.{NodeRecord}
 use Rattle.pep508_tree.specs.Disjoint.{AreDisjoint}
-use Rattle.pep508_disjointness.specs.declared.asked.Asked.{Asked}
-use Rattle.pep508_disjointness.specs.Asked.{asked_cmp}
+use Rattle.pep508_tree.specs.declared.tree_pair.TreePair.{TreePair}
+use Rattle.pep508_tree.specs.PairOrder.{pair_cmp}
 use Rattle.pep508_disjointness.specs.Pairs.{ArePaired}
 use Rattle.pep508_disjointness.specs.Left.{IsAsked, IsApart, Replaced, with_pairs}
 use Rattle.pep508_disjointness.proofs.Ranks.{less_places, top, top_last, top_below}
 use Rattle.pep508_disjointness.proofs.Putting.{with_all, from_with, before_last, to_last, all_to}
 
 -- a pair that is disjoint, in whose place nothing is put
-pub replaced_by_none : (nodes : List NodeRecord) (asked : Asked) (left : List Asked) → IsApart nodes asked →
+pub replaced_by_none : (nodes : List NodeRecord) (asked : TreePair) (left : List TreePair) → IsApart nodes asked →
     Replaced nodes asked left left
 replaced_by_none nodes asked left apart = record {
   made = λ all. all;
@@ -22,7 +22,7 @@ replaced_by_none nodes asked left apart = record {
 }
 
 -- a pair in whose place stands what stands in it
-pub replaced_by_pairs : (nodes : List NodeRecord) (asked : Asked) (old new : List Asked) (pairs : List (Tree × Tree)) →
+pub replaced_by_pairs : (nodes : List NodeRecord) (asked : TreePair) (old new : List TreePair) (pairs : List (Tree × Tree)) →
     ArePaired nodes asked.first asked.second pairs → new ≡ with_pairs old pairs → Replaced nodes asked old new
 replaced_by_pairs nodes asked old new pairs paired e = subst (Replaced nodes asked old) (sym e) (record {
   made = λ all. with_all (IsAsked nodes) old pairs all paired.made;
@@ -31,17 +31,17 @@ replaced_by_pairs nodes asked old new pairs paired e = subst (Replaced nodes ask
     λ all. let parts = from_with (IsApart nodes) old pairs all in (paired.apart.1 parts.1, parts.0),
   );
   below = λ all.
-      with_all (λ other. asked_cmp other asked ≡ Less) old pairs all
+      with_all (λ other. pair_cmp other asked ≡ Less) old pairs all
       (all_to (λ pair less. less_places (record { first = pair.0; second = pair.1 }) asked less) pairs
       paired.falls);
 })
 
 -- what is left to look at of two trees: they are disjoint exactly where all that is left is
-pub record AreLeft (nodes : List NodeRecord) (a b : Tree) (left : List Asked) : Type 0 where
+pub record AreLeft (nodes : List NodeRecord) (a b : Tree) (left : List TreePair) : Type 0 where
   pub made : AllByRecursion (IsAsked nodes) left
   pub apart : AreDisjoint nodes a b ↔ AllByRecursion (IsApart nodes) left
 
-module _ (nodes : List NodeRecord) (a b : Tree) (whole left : List Asked) (asked : Asked)
+module _ (nodes : List NodeRecord) (a b : Tree) (whole left : List TreePair) (asked : TreePair)
     (last : whole ≡ left ++ asked ∷ []) (are : AreLeft nodes a b whole) where
   made_parts : AllByRecursion (IsAsked nodes) left × IsAsked nodes asked
   made_parts = before_last (IsAsked nodes) left asked (subst (AllByRecursion (IsAsked nodes)) last are.made)
@@ -53,7 +53,7 @@ module _ (nodes : List NodeRecord) (a b : Tree) (whole left : List Asked) (asked
   last_apart d =
       (before_last (IsApart nodes) left asked (subst (AllByRecursion (IsApart nodes)) last (are.apart.0 d))).1
 
-  pub left_on : (new : List Asked) → Replaced nodes asked left new → AreLeft nodes a b new
+  pub left_on : (new : List TreePair) → Replaced nodes asked left new → AreLeft nodes a b new
   left_on new replaced = record {
     made = replaced.made made_parts.0;
     apart = (
@@ -68,7 +68,7 @@ module _ (nodes : List NodeRecord) (a b : Tree) (whole left : List Asked) (asked
     );
   }
 
-  pub left_falls : AllByRecursion (λ other. asked_cmp other asked ≡ Less) left → (new : List Asked) →
+  pub left_falls : AllByRecursion (λ other. pair_cmp other asked ≡ Less) left → (new : List TreePair) →
       Replaced nodes asked left new → top (length nodes) new < top (length nodes) whole
   left_falls below new replaced =
       let inside = all_to {Q = λ other. other.first.place ≤ length nodes} (λ other made. made.0) new
@@ -78,7 +78,7 @@ module _ (nodes : List NodeRecord) (a b : Tree) (whole left : List Asked) (asked
       let is = ap (top (length nodes)) last in
       omega (arith, less, end, is)
 
-pub all_by_index : (P : Asked → Type 0) (xs : List Asked) → All P xs → AllByRecursion P xs
+pub all_by_index : (P : TreePair → Type 0) (xs : List TreePair) → All P xs → AllByRecursion P xs
 all_by_index P [] all = tt
 all_by_index P (x ∷ xs) all = (
   all 0 x (omega arith),

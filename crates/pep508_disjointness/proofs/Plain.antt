@@ -1,5 +1,6 @@
 -- Whether trees are disjoint of which one is constant, or that are one tree or its negation.
-use Rattle.std.proofs.Common.{◌≡◌, ◌↔◌, IsTrue, Bool, true, false, not, List, refl, sym, subst, true≢false, ap}
+use Rattle.std.proofs.Common.{◌≡◌, ◌↔◌, IsTrue, Bool, true, false, not, List, refl, sym, subst, true≢false}
+use Rattle.std.proofs.Common.{ap}
 use mathlib.Core.Bool.{beq}
 use Rattle.pep508_tree.specs.Tree.{Tree, always, never, negation}
 use Rattle.pep508_tree.specs.Meaning.{NodeRecord, IsTree}
@@ -7,7 +8,8 @@ use Rattle.pep508_tree.specs.Nodes.{AreSound}
 use Rattle.pep508_tree.specs.Disjoint.{AreDisjoint}
 use Rattle.pep508_tree.proofs.OneTree.{tree_is}
 use Rattle.pep508_tree.proofs.Same.{bools_alike, bools_apart}
-use Rattle.pep508_tree.proofs.Disjoint.{disjoint_back, disjoint_negation, disjoint_never, disjoint_itself, disjoint_always}
+use Rattle.pep508_tree.proofs.Disjoint.{disjoint_back, disjoint_negation, disjoint_never, disjoint_itself}
+use Rattle.pep508_tree.proofs.Disjoint.{disjoint_always}
 
 module _ (nodes : List NodeRecord) (sound : AreSound nodes) (a b : Tree) where
   -- the first never holds

@@ -1,5 +1,6 @@
 -- What stands in a node and in a side, and the nodes of their pairs.
-use Rattle.std.proofs.Common.{◌≡◌, ◌∙◌, inl, inr, ℕ, Bool, true, false, cond, List, [], ◌∷◌, map, refl, ap, Equal}
+use Rattle.std.proofs.Common.{◌≡◌, ◌∙◌, inl, inr, ℕ, Bool, true, false, cond, List, [], ◌∷◌, map, refl, ap}
+use Rattle.std.proofs.Common.{Equal}
 use Rattle.pep440_text.specs.Record.{VersionRecord}
 use Rattle.pep440_version.specs.Order.{version_cmp}
 use Rattle.pep508_marker.specs.declared.keys.MarkerValueString.{MarkerValueString}
@@ -11,7 +12,8 @@ use Rattle.pep508_diagram.specs.Branches.{RisingBranches}
 use Rattle.pep508_diagram.specs.Pairing.{AreChildPairs}
 use Rattle.pep508_tree.specs.Tree.{Tree}
 use Rattle.pep508_tree.specs.Meaning.{NodeRecord, Versions, Texts, Flagged}
-use Rattle.pep508_tree.specs.Nodes.{IsRising, counterpart, node_place, signed, first_child, second_child, version_branches, text_branches}
+use Rattle.pep508_tree.specs.Nodes.{IsRising, counterpart, node_place, signed, first_child, second_child}
+use Rattle.pep508_tree.specs.Nodes.{version_branches, text_branches}
 use Rattle.pep508_tree.specs.Roots.{IsRoot}
 use Rattle.pep508_tree.proofs.Pairs.{versions_paired, texts_paired, counterpart_same}
 use Rattle.pep508_disjointness.specs.declared.pairing.Side.{Side}

@@ -7,9 +7,8 @@ ghost use Rattle.pep508_tree.specs.Nodes.{AreSound};
 ghost use Rattle.pep508_tree.specs.Disjoint.{AreDisjoint};
 ghost use Rattle.pep508_disjointness.specs.Left.{IsAsked, IsApart, Replaced, with_pairs};
 
-use crate::asked::Asked;
 use crate::pairing::{Pair, pairs};
-use pep508_tree::{Interner, MarkerTree};
+use pep508_tree::{Interner, MarkerTree, TreePair};
 use std::alloc::{AllocError, Global};
 use std::collections::BTreeSet;
 
@@ -31,11 +30,11 @@ fn plain_disjointness(a: MarkerTree, b: MarkerTree) -> Option<bool>
 }
 
 /// Puts pairs among those that are left.
-fn add_pairs(left: &mut BTreeSet<Asked>, pairs: &[Pair]) -> Result<(), AllocError>
+fn add_pairs(left: &mut BTreeSet<TreePair>, pairs: &[Pair]) -> Result<(), AllocError>
     ensures { OnOk result (left.new.keys ≡ with_pairs left.old.keys pairs.now) }
 {
     for pair in pairs {
-        left.insert(Asked::new(pair.0, pair.1))?;
+        left.insert(TreePair::new(pair.0, pair.1))?;
     }
     Ok(())
 }
@@ -44,8 +43,8 @@ fn add_pairs(left: &mut BTreeSet<Asked>, pairs: &[Pair]) -> Result<(), AllocErro
 fn look_at(
     alloc: Global,
     interner: &Interner,
-    left: &mut BTreeSet<Asked>,
-    asked: Asked,
+    left: &mut BTreeSet<TreePair>,
+    asked: TreePair,
 ) -> Result<bool, AllocError>
     requires made { IsAsked interner.now.nodes asked }
     ensures on { IfOk result (λ may. IsTrue may →
@@ -76,7 +75,7 @@ fn are_disjoint(
     ensures { IfOk result (λ apart. IsTrue apart ↔ AreDisjoint interner.now.nodes a b) }
 {
     let mut left = BTreeSet::new(alloc);
-    left.insert(Asked::new(a, b))?;
+    left.insert(TreePair::new(a, b))?;
     while let Some(asked) = left.pop_last() {
         if !look_at(alloc, interner, &mut left, asked)? {
             return Ok(false);

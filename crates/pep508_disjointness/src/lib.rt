@@ -1,7 +1,6 @@
 //! Whether two marker trees of one interner (PEP 508, "Environment Markers") never hold together.
 #![tactic(auto)]
 
-mod asked;
 mod disjointness;
 mod pairing;
 

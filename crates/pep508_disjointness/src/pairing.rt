@@ -5,7 +5,7 @@ ghost use Rattle.pep440_version.specs.Order.{version_cmp};
 ghost use Rattle.pep508_diagram.specs.Text.{text_cmp};
 ghost use Rattle.pep508_diagram.specs.Branches.{RisingBranches};
 ghost use Rattle.pep508_tree.specs.Meaning.{IsTree};
-ghost use Rattle.pep508_tree.specs.Nodes.{turned, first_place};
+ghost use Rattle.pep508_tree.specs.Nodes.{first_place};
 ghost use Rattle.pep508_disjointness.specs.Sides.{ShowsNode, AreSidePairs};
 ghost use Rattle.pep508_disjointness.specs.Pairs.{turned_pair, ArePaired};
 
@@ -18,18 +18,11 @@ use std::cmp::Ordering;
 /// What stands in two trees for one answer.
 pub(crate) type Pair = (MarkerTree, MarkerTree);
 
-/// The tree, negated where the flag is set.
-fn turned(tree: MarkerTree, turns: bool) -> MarkerTree
-    ensures { result ≡ turned turns tree }
-{
-    if turns { tree.negate() } else { tree }
-}
-
 fn turn_pairs(pairs: &mut [Pair], first: bool, second: bool)
     ensures { pairs.new ≡ map (turned_pair first second) pairs.old }
 {
     for pair in pairs.iter_mut() {
-        *pair = (turned(pair.0, first), turned(pair.1, second));
+        *pair = (pair.0.turned(first), pair.1.turned(second));
     }
 }
 

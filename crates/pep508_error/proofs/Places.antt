@@ -1,18 +1,23 @@
 -- Where the characters of a text begin.
-use Rattle.std.proofs.Common.{◌≡◌, ℕ, ◌+◌, ◌-◌, ◌<◌, ◌≤◌, true, false, cond, List, [], ◌∷◌, ◌++◌, length, take, drop, append_assoc, length-append, refl, sym, ap, subst, ◌∙◌, arith, chars, Option, Some, None, MatchOption, IfSome, IfNone, zero-add, ⊎_elim}
+use Rattle.std.proofs.Common.{◌≡◌, ℕ, ◌+◌, ◌-◌, ◌<◌, ◌≤◌, true, false, cond, List, [], ◌∷◌, ◌++◌, length}
+use Rattle.std.proofs.Common.{take, drop, append_assoc, length-append, refl, sym, ap, subst, ◌∙◌, arith}
+use Rattle.std.proofs.Common.{chars, Option, Some, None, MatchOption, IfSome, IfNone, zero-add, ⊎_elim}
 use Rattle.std.proofs.lemmas.Bool.{cases_lt, and_parts}
 use Rattle.std.proofs.lemmas.List.{drop-drop, length-drop, length-take-le, take-append-drop}
 use Rattle.std.proofs.Math.Seq.{drop-length, drop-append_seam}
 use Rattle.std.proofs.Math.ListN.{drop_of_length-le}
-use Rattle.std.proofs.lemmas.Str.{scalars-chars, chars-encodes, chars-nil, IsCharBoundary-from_drop, IsCharBoundary-past_char, chars_past_char, drop_past_char, length-encode, IsUtf8-append, IsUtf8-encode, IsUtf8-drop, IsCharBoundary-at_seam}
+use Rattle.std.proofs.lemmas.Str.{scalars-chars, chars-encodes, chars-nil, IsCharBoundary-from_drop}
+use Rattle.std.proofs.lemmas.Str.{IsCharBoundary-past_char, chars_past_char, drop_past_char, length-encode}
+use Rattle.std.proofs.lemmas.Str.{IsUtf8-append, IsUtf8-encode, IsUtf8-drop, IsCharBoundary-at_seam}
 use Rattle.std.specs.Char.{is_whitespace, encode_utf8, len_utf8, IsScalar}
-use Rattle.std.specs.Str.{IsUtf8, IsCharBoundary, IsTrimStart, trim_start, all_scalars, skip_leading_whitespace}
+use Rattle.std.specs.Str.{IsUtf8, IsCharBoundary, IsTrimStart, trim_start, all_scalars}
+use Rattle.std.specs.Str.{skip_leading_whitespace}
 use Rattle.pep508_error.specs.Spans.{IsSpan}
 
 -- ---- behind white space
 
 -- the place at which the end of a text begins
-end_begins : (n : ℕ) (text : List ℕ) → drop (length text - length (drop n text)) text ≡ drop n text
+pub end_begins : (n : ℕ) (text : List ℕ) → drop (length text - length (drop n text)) text ≡ drop n text
 end_begins n text =
     ⊎_elim
     (λ (over : length text < n).

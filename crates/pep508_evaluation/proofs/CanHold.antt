@@ -1,32 +1,28 @@
 -- When some valuation with just some extras makes a tree hold: a constant that holds, and a tree of which some
 -- child can hold, unless the tree asks first for an extra.
-use Rattle.std.proofs.Common.{◌≡◌, ◌↔◌, inl, inr, ℕ, zero, suc, ◌<◌, ◌≤◌, Bool, true, false, cond, List, [], ◌∷◌, map, length, refl, sym, ap, subst, ◌∙◌, true≢false, arith, IsTrue, Option, Some, None}
+use Rattle.std.proofs.Common.{◌≡◌, ◌↔◌, inl, inr, ℕ, zero, suc, ◌<◌, ◌≤◌, Bool, true, false, List, []}
+use Rattle.std.proofs.Common.{◌∷◌, map, length, refl, sym, ap, subst, ◌∙◌, true≢false, arith, IsTrue, Option}
+use Rattle.std.proofs.Common.{Some, None}
 use Rattle.std.specs.Prelude.{IfSome, MatchOption, not, if◌then◌else◌, ◌-◌, ◌==◌}
 use Rattle.std.specs.Cmp.{unsigned_Decides}
 use Rattle.std.proofs.lemmas.Bool.{cases_Bool}
 use Rattle.std.specs.List.{slice_get}
-use Rattle.std.specs.Cmp.Lexicographic.{nat_list_cmp_total}
 use Rattle.version_ranges.specs.Point.{BelowAll}
-use Rattle.pep440_version.specs.OrderLaws.{version_cmp_total}
-use Rattle.pep440_version.specs.Order.{version_cmp}
 use Rattle.pep508_diagram.specs.declared.branch.Branch.{Branch}
 use Rattle.pep508_diagram.specs.declared.variable.Flag.{Flag}
 use Rattle.pep508_diagram.specs.declared.variable.Flag.TheVariants.{In, Contains, Extra, Arbitrary}
-use Rattle.pep508_diagram.specs.Text.{text_cmp}
-use Rattle.pep508_diagram.specs.Branches.{branch_at}
 use Rattle.pep508_diagram.specs.Chains.{IsChild}
-use Rattle.pep508_diagram.specs.Question.{VersionBelow, TextBelow, IsSet, Valuation, with_version, with_text, with_flag, flag_rank, flag_text}
-use Rattle.pep508_diagram.proofs.Chains.{child_point}
+use Rattle.pep508_diagram.specs.Question.{Valuation}
+use Rattle.pep508_diagram.specs.Question.{flag_rank}
 use Rattle.pep508_diagram.proofs.Places.{rank_below}
-use Rattle.pep508_diagram.proofs.Questions.{before_differs}
 use Rattle.pep508_tree.specs.Tree.{Tree, always}
 use Rattle.pep508_tree.specs.Meaning.{NodeRecord, Versions, Texts, Flagged, holds, IsTree}
-use Rattle.pep508_tree.specs.Nodes.{IsChildIn, IsRising, Above, AreSound, chosen, node_at, node_place, signed}
+use Rattle.pep508_tree.specs.Nodes.{IsChildIn, Above, AreSound, chosen, node_at, node_place, signed}
 use Rattle.pep508_tree.specs.Joining.{children}
-use Rattle.pep508_tree.proofs.Meanings.{chosen_all, chosen_child, each_child, unmoved}
+use Rattle.pep508_tree.proofs.Meanings.{chosen_all, chosen_child, each_child}
 use Rattle.pep508_tree.proofs.OneTree.{top_or_node, tree_is}
 use Rattle.pep508_tree.proofs.Roots.{root_is, constant_is}
-use Rattle.pep508_tree.proofs.Moving.{version_differs, text_differs, flag_differs, version_given, text_given, flag_given}
+use Rattle.pep508_tree.proofs.Moving.{IsLaterFlag, StandsAt, moved_to}
 use Rattle.pep508_tree.specs.Roots.{root_of, IsConstant, IsRoot}
 use Rattle.pep508_evaluation.specs.Steps.{AsksNoExtra, GoesPast, children_of}
 use Rattle.pep508_evaluation.specs.Valuations.{is_listed, HasJust, CanHold}
@@ -55,96 +51,36 @@ constant_holds nodes extras tree truth is = (
 
 -- ---- a valuation that is moved to a child
 
--- a flag of a later kind stays
-kept_flag : (v : Valuation) (flag other : Flag) (set : Bool) → flag_rank flag < flag_rank other →
-    (with_flag v flag set).flag other ≡ v.flag other
-kept_flag v flag other set low =
-    ap (λ same. cond same set (v.flag other))
-    (before_differs (flag_rank flag) (flag_rank other) (text_cmp (flag_text flag) (flag_text other)) low)
-
-kept_extras : (extras : List (List ℕ)) (v : Valuation) → HasJust extras v → (flag : Flag) (set : Bool) →
-    flag_rank flag < 44 → HasJust extras (with_flag v flag set)
-kept_extras extras v has flag set low = record {
-  listed = λ name. kept_flag v flag (Extra name) set low ∙ has.listed name;
-  no_other = λ text. kept_flag v flag (Arbitrary text) set (omega arith) ∙ has.no_other text;
-}
+-- extras come behind all that a node asks for that asks for none
+extras_later : (n : NodeRecord) → AsksNoExtra n → (other : Flag) → 44 ≤ flag_rank other → IsLaterFlag n other
+extras_later (Versions key first later) free other low = tt
+extras_later (Texts key first later) free other low = tt
+extras_later (Flagged (In key text) set unset) free other low = omega (arith, rank_below key, low)
+extras_later (Flagged (Contains key text) set unset) free other low = omega (arith, rank_below key, low)
+extras_later (Flagged (Extra name) set unset) free other low = absurd free
+extras_later (Flagged (Arbitrary text) set unset) free other low = absurd free
 
 module _ (nodes : List NodeRecord) (sound : AreSound nodes) (extras : List (List ℕ)) where
-  -- a valuation with just the extras, at which the child stands in the node, and at which all trees behind the
-  -- node's variable hold as they do at v
-  record MovesTo (v : Valuation) (n : NodeRecord) (c : Tree) (w : Valuation) : Type 0 where
-    just : HasJust extras w
-    stands : chosen n w ≡ c
-    still : (t : Tree) → IsTree nodes t → Above nodes (node_place n) t → holds nodes t w ≡ holds nodes t v
-
-  flag_moved : (v : Valuation) → HasJust extras v → (flag : Flag) (set unset : Tree) → flag_rank flag < 44 →
-      (side : Bool) (c : Tree) → cond side set unset ≡ c →
-      (w : Valuation) × MovesTo v (Flagged flag set unset) c w
-  flag_moved v has flag set unset low side c e = (
-    with_flag v flag side,
-    record {
-      just = kept_extras extras v has flag side low;
-      stands = ap (λ b. cond b set unset) (flag_given v flag side) ∙ e;
-      still = λ t made above.
-          unmoved nodes sound (IsSet flag) t made above v (with_flag v flag side)
-          (flag_differs v flag side);
-    },
-  )
-
-  flag_moved_to : (v : Valuation) → HasJust extras v → (flag : Flag) (set unset : Tree) → flag_rank flag < 44 →
-      (c : Tree) → IsChildIn c (Flagged flag set unset) →
-      (w : Valuation) × MovesTo v (Flagged flag set unset) c w
-  flag_moved_to v has flag set unset low c (inl is) = flag_moved v has flag set unset low true c (sym is)
-  flag_moved_to v has flag set unset low c (inr is) = flag_moved v has flag set unset low false c (sym is)
-
-  moved_to : (v : Valuation) → HasJust extras v → (n : NodeRecord) → IsRising n → AsksNoExtra n →
-      (c : Tree) → IsChildIn c n → (w : Valuation) × MovesTo v n c w
-  moved_to v has (Versions key first []) rising free c is =
-      (v, record { just = has; stands = sym is; still = λ t made above. refl })
-  moved_to v has (Versions key first (branch ∷ later)) rising free c is =
-      let point = child_point version_cmp_total first (branch ∷ later) c rising is in
-      let w = with_version v key point.0 in (
-        w,
-        record {
-          just = record { listed = has.listed; no_other = has.no_other };
-          stands = ap (branch_at version_cmp first (branch ∷ later)) (version_given v key point.0) ∙ point.1;
-          still = λ t made above.
-              unmoved nodes sound (VersionBelow key branch.boundary) t made above v w
-              (version_differs v key point.0 branch.boundary);
-        },
-      )
-  moved_to v has (Texts key first []) rising free c is =
-      (v, record { just = has; stands = sym is; still = λ t made above. refl })
-  moved_to v has (Texts key first (branch ∷ later)) rising free c is =
-      let point = child_point nat_list_cmp_total first (branch ∷ later) c rising is in
-      let w = with_text v key point.0 in (
-        w,
-        record {
-          just = record { listed = has.listed; no_other = has.no_other };
-          stands = ap (branch_at text_cmp first (branch ∷ later)) (text_given v key point.0) ∙ point.1;
-          still = λ t made above.
-              unmoved nodes sound (TextBelow key branch.boundary) t made above v w
-              (text_differs v key point.0 branch.boundary);
-        },
-      )
-  moved_to v has (Flagged (In key text) set unset) rising free c is =
-      flag_moved_to v has (In key text) set unset (omega (arith, rank_below key)) c is
-  moved_to v has (Flagged (Contains key text) set unset) rising free c is =
-      flag_moved_to v has (Contains key text) set unset (omega (arith, rank_below key)) c is
-  moved_to v has (Flagged (Extra name) set unset) rising free c is = absurd free
-  moved_to v has (Flagged (Arbitrary text) set unset) rising free c is = absurd free
+  kept_extras : (v : Valuation) → HasJust extras v → (n : NodeRecord) → AsksNoExtra n → (c : Tree)
+      (w : Valuation) → StandsAt nodes sound v n c w → HasJust extras w
+  kept_extras v has n free c w moved = record {
+    listed = λ name.
+        moved.flags (Extra name) (extras_later n free (Extra name) (omega arith)) ∙ has.listed name;
+    no_other = λ text.
+        moved.flags (Arbitrary text) (extras_later n free (Arbitrary text) (omega arith)) ∙ has.no_other text;
+  }
 
   -- ---- a tree and its children
 
   pub holds_by_child : (tree : Tree) (n : NodeRecord) → IsRoot nodes tree n → AsksNoExtra n → (c : Tree) →
       IsChildIn c n → CanHold nodes c extras → CanHold nodes tree extras
   holds_by_child tree n root free c is can =
-      let moved = moved_to can.0 can.1 n root.rises free c is in
+      let moved = moved_to nodes sound can.0 n root.rises c is in
       let w = moved.0 in
       let made = each_child (IsTree nodes) n c root.made is in
       let above = each_child (Above nodes (node_place n)) n c root.above is in (
         w,
-        moved.1.just,
+        kept_extras can.0 can.1 n free c w moved.1,
         root.holds_is w ∙ ap (λ t. holds nodes t w) moved.1.stands ∙ moved.1.still c made above ∙ can.2,
       )
 

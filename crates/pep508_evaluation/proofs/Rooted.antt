@@ -1,5 +1,8 @@
 -- The diagram of a tree by the node at its root.
-use Rattle.std.proofs.Common.{◌≡◌, ℕ, zero, suc, ◌+◌, ◌-◌, ◌<◌, ◌≤◌, ◌==◌, Bool, true, false, not, List, [], ◌∷◌, ◌++◌, map, length, get_or, refl, sym, ap, ap₂, ◌∙◌, arith, take, add-one, append-nil, append_assoc, Option, Some, None, inl, inr, cond, if◌then◌else◌, true≢false}
+use Rattle.std.proofs.Common.{◌≡◌, ℕ, zero, suc, ◌+◌, ◌-◌, ◌<◌, ◌≤◌, ◌==◌, Bool, true, false, not, List, []}
+use Rattle.std.proofs.Common.{◌∷◌, ◌++◌, map, length, get_or, refl, sym, ap, ap₂, ◌∙◌, arith, take, add-one}
+use Rattle.std.proofs.Common.{append-nil, append_assoc, Option, Some, None, inl, inr, cond, if◌then◌else◌}
+use Rattle.std.proofs.Common.{true≢false}
 use Rattle.std.proofs.lemmas.Bool.{cases_Bool}
 use Rattle.std.specs.List.{flat_map, slice_get}
 use Rattle.std.specs.Prelude.{IfSome}
@@ -18,7 +21,8 @@ use Rattle.pep508_diagram.specs.Text.{text_cmp}
 use Rattle.pep508_diagram.proofs.Turned.{turned_not}
 use Rattle.pep508_diagram.proofs.Questions.{not_not}
 use Rattle.pep508_tree.specs.Tree.{Tree, negation}
-use Rattle.pep508_tree.specs.Meaning.{NodeRecord, Versions, Texts, Flagged, node_diagram, diagrams, diagram_of, IsTree}
+use Rattle.pep508_tree.specs.Meaning.{NodeRecord, Versions, Texts, Flagged, node_diagram, diagrams}
+use Rattle.pep508_tree.specs.Meaning.{diagram_of, IsTree}
 use Rattle.pep508_tree.specs.Nodes.{Above, AreSound, chosen, node_at, node_place, signed, turned_branch}
 use Rattle.pep508_tree.proofs.NodeChildren.{weaker_children, both_children}
 use Rattle.pep508_tree.proofs.Diagrams.{diagram_top}

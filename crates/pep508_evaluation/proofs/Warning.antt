@@ -1,5 +1,6 @@
 -- What a node of a diagram gives of what is warned of.
-use Rattle.std.proofs.Common.{◌≡◌, ℕ, Bool, true, false, not, cond, List, [], ◌∷◌, ◌++◌, map, refl, sym, ap, ap₂, subst, ◌∙◌, append_assoc, append-nil, Option, Some, None}
+use Rattle.std.proofs.Common.{◌≡◌, ℕ, Bool, true, false, not, cond, List, [], ◌∷◌, ◌++◌, map, refl, sym, ap}
+use Rattle.std.proofs.Common.{ap₂, subst, ◌∙◌, append_assoc, append-nil, Option, Some, None}
 use Rattle.std.specs.List.{FoldsTo, flat_map}
 use Rattle.std.specs.declared.cmp.Ordering.{Ordering}
 use Rattle.version_ranges.specs.declared.boundary.Boundary.{Boundary}
@@ -15,7 +16,9 @@ use Rattle.pep508_diagram.specs.Diagram.{Diagram, Leaf, Test}
 use Rattle.pep508_diagram.specs.Branches.{branch_at, AllBranches}
 use Rattle.pep508_diagram.specs.Chains.{chain}
 use Rattle.pep508_diagram.specs.Children.{RootBehind}
-use Rattle.pep508_diagram.specs.Question.{Question, IsSet, Valuation, version_rank, text_rank, text_boundaries, shares_variable, answer, lies_below, marker, place_of}
+use Rattle.pep508_diagram.specs.Question.{Question, IsSet, Valuation, version_rank, text_rank}
+use Rattle.pep508_diagram.specs.Question.{text_boundaries, shares_variable, answer, lies_below, marker}
+use Rattle.pep508_diagram.specs.Question.{place_of}
 use Rattle.pep508_diagram.proofs.Keyed.{IsKey}
 use Rattle.pep508_diagram.proofs.Chains.{versions_key, texts_key, behind_above}
 use Rattle.pep508_tree.specs.Tree.{Tree}

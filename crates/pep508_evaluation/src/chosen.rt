@@ -46,23 +46,13 @@ fn branch_at_text(
     }
 }
 
-/// The tree, negated where the flag is set.
-pub(crate) fn turned(tree: MarkerTree, turns: bool) -> MarkerTree
-    ensures { result ≡ turned turns tree }
-{
-    if turns { tree.negate() } else { tree }
-}
-
 /// The child at a version.
 fn version_child(children: Children<Version>, version: &Version) -> MarkerTree
     requires { RisingBranches version_cmp children.later.now }
     ensures { result ≡ turned children.entry.negated
         (branch_at version_cmp children.entry.first children.entry.later.now (At version.now)) }
 {
-    turned(
-        branch_at(children.first, children.later, version),
-        children.negated,
-    )
+    branch_at(children.first, children.later, version).turned(children.negated)
 }
 
 /// The child at a text.
@@ -71,10 +61,7 @@ fn text_child(children: Children<MarkerText>, text: &str) -> MarkerTree
     ensures { result ≡ turned children.entry.negated
         (branch_at text_cmp children.entry.first children.entry.later.now (At text.now)) }
 {
-    turned(
-        branch_at_text(children.first, children.later, text),
-        children.negated,
-    )
+    branch_at_text(children.first, children.later, text).turned(children.negated)
 }
 
 /// The version of a variable.

@@ -10,7 +10,6 @@ ghost use Rattle.pep508_tree.specs.Roots.{root_of};
 ghost use Rattle.pep508_evaluation.specs.Steps.{AsksNoExtra, GoesPast, children_of};
 ghost use Rattle.pep508_evaluation.specs.Valuations.{HasJust, CanHold};
 
-use crate::chosen::turned;
 use pep508_diagram::Flag;
 use pep508_name::ExtraName;
 use pep508_tree::{Children, Interner, MarkerTree, TreeNode};
@@ -75,10 +74,10 @@ fn child_between<T>(children: Children<T>, index: usize) -> Option<MarkerTree>
         (slice_get (children.entry.first ∷ map (λ branch. branch.child) children.entry.later.now) index) }
 {
     if index == 0 {
-        return Some(turned(children.first, children.negated));
+        return Some(children.first.turned(children.negated));
     }
     match children.later.get(index - 1) {
-        Some(branch) => Some(turned(branch.child, children.negated)),
+        Some(branch) => Some(branch.child.turned(children.negated)),
         None => None,
     }
 }

@@ -1,12 +1,12 @@
 -- What the tree of a comparison is, and when there is none.
-use Rattle.std.specs.Prelude.{◌≡◌, Bool, true, false, List, Result, Ok, Err}
+use Rattle.std.specs.Prelude.{◌≡◌, true, false, List, Result, Ok, Err}
 use Rattle.pep440_range.specs.declared.RangeError.{RangeError}
 use Rattle.pep440_range.specs.declared.RangeError.TheVariants.{NumberAtEnd, Memory}
 use Rattle.pep508_marker.specs.declared.operators.MarkerOperator.TheVariants.{TildeEqual}
 use Rattle.pep508_marker.specs.Expression.{ExpressionRecord, Version, VersionIn, String, Extra}
-use Rattle.pep508_diagram.specs.Question.{Valuation}
 use Rattle.pep508_tree.specs.Tree.{Tree}
-use Rattle.pep508_tree.specs.Meaning.{NodeRecord, IsTree, holds}
+use Rattle.pep508_tree.specs.Meaning.{NodeRecord}
+use Rattle.pep508_tree.specs.Truths.{IsTreeOf}
 use Rattle.pep508_expression.specs.Expressions.{has_points, expression_holds}
 
 -- texts are not compared by `~=`
@@ -15,10 +15,6 @@ IsComparison (Version key specifier) = Unit {0}
 IsComparison (VersionIn key versions negated) = Unit {0}
 IsComparison (String key operator text) = operator ≡ TildeEqual → ⊥
 IsComparison (Extra operator asked) = Unit {0}
-
--- a tree of these nodes that holds where this does
-abbrev pub IsTreeOf : List NodeRecord → (Valuation → Bool) → Tree → Type 0
-IsTreeOf nodes says tree = IsTree nodes tree × ((v : Valuation) → holds nodes tree v ≡ says v)
 
 -- the tree holds where the comparison does; there is none where a number can't be raised; only want of memory
 -- leaves both open

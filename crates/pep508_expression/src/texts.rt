@@ -10,7 +10,7 @@ ghost use Rattle.pep508_marker.specs.Values.{extra_of};
 ghost use Rattle.pep508_diagram.specs.Text.{text_cmp};
 ghost use Rattle.pep508_tree.specs.Meaning.{Extends};
 ghost use Rattle.pep508_expression.specs.Expressions.{text_holds, extra_flag, extra_holds};
-ghost use Rattle.pep508_expression.specs.Trees.{IsTreeOf};
+ghost use Rattle.pep508_tree.specs.Truths.{IsTreeOf};
 
 use pep508_diagram::{Flag, MarkerText, NodeValue};
 use pep508_marker::{ExtraOperator, MarkerOperator, MarkerValueExtra, MarkerValueString};

@@ -1,10 +1,13 @@
 //! Who takes warnings: a closure, or a log.
 
-ghost use Rattle.std.specs.Prelude.{◌≡◌, Ok};
+ghost use Rattle.std.specs.Prelude.{◌≡◌, Ok, IfSome};
+ghost use Rattle.std.specs.Bool.{OnFalse};
 ghost use Rattle.std.specs.String.{string_bytes};
+ghost use Rattle.log.specs.declared.level.Level.TheVariants.{Warn};
+ghost use Rattle.pep508_marker.specs.Warnings.{Warning, named_target};
 
 use crate::{MarkerWarningKind, Reporter};
-use log::{Log, warn};
+use log::{Level, Log, log_enabled, warn};
 use std::alloc::AllocError;
 
 /// Passes each warning to a closure. Where the closure answers that memory ran out, so does `report`.
@@ -35,7 +38,8 @@ impl<F: FnMut(MarkerWarningKind, String) -> Result<(), AllocError>> Reporter
     }
 }
 
-/// Passes each warning to a log, at level warn. What the log makes of it no clause says.
+/// Passes each warning to a log, at level warn. What the log makes of it no clause says. It wants warnings
+/// where the log takes that level, so that no text is made in vain.
 #[derive(Clone, Copy)]
 pub struct TracingReporter<'a, L> {
     log: &'a L,
@@ -57,5 +61,14 @@ impl<L: Log> Reporter for TracingReporter<'_, L> {
         let log = self.log;
         warn!(log; "{text}");
         Ok(())
+    }
+
+    fn wants(&self) -> bool
+        ensures left_out { OnFalse result ((warning : Warning) → self.now ≡ self.now) }
+        ensures asked { IfSome (L.target_of self.now.log.now) (λ target.
+            IfSome (L.enables self.now.log.now Warn (named_target target)) (λ enabled. result ≡ enabled)) }
+    {
+        let log = self.log;
+        log_enabled!(log; Level::Warn)
     }
 }

@@ -1,4 +1,3 @@
-pub mod Cuts
 pub mod Tellings
 pub mod Warned
 pub mod Runs

@@ -1,5 +1,6 @@
 -- The runs of characters between white space, one after another.
-use Rattle.std.proofs.Common.{◌≡◌, ℕ, Bool, true, false, cond, List, [], ◌∷◌, ◌++◌, map, drop, take, refl, ap, sym, ◌∙◌, Some, None}
+use Rattle.std.proofs.Common.{◌≡◌, ℕ, Bool, true, false, cond, List, [], ◌∷◌, ◌++◌, map, drop, take, refl, ap}
+use Rattle.std.proofs.Common.{sym, ◌∙◌, Some, None}
 use Rattle.std.proofs.Common.{append_assoc, not, ◌+◌, ◌==◌, suc, length, arith}
 use Rattle.std.proofs.lemmas.Bool.Decides.{nat_tests}
 use Rattle.std.proofs.lemmas.Str.{chars-nil, encodes-chars}
@@ -11,8 +12,8 @@ use Rattle.std.specs.Str.{chars, encode_utf8_all, skip_leading_whitespace, IsUtf
 use Rattle.pep440_text.specs.Record.{VersionRecord}
 use Rattle.pep440_text.specs.Reading.{version_of}
 use Rattle.pep508_name.specs.Name.{is_part}
-use Rattle.pep508_marker_comparison.specs.SideReading.{begins_by}
-use Rattle.pep508_marker_comparison.specs.Stops.{encoded_cut}
+use Rattle.pep508_error.specs.Cuts.{begins_by, encoded_cut}
+use Rattle.pep508_error.proofs.Spaces.{spaces_found}
 use Rattle.pep508_marker_comparison.specs.Compared.{runs_of, versions_of, with_version}
 
 abbrev split_at_spaces : List ℕ → List (List ℕ)
@@ -89,25 +90,13 @@ run_first (c ∷ cs) run rest some h cut =
     run_by c cs h
     ∙ ap (λ (p : List ℕ × List ℕ). p.0 ∷ runs_in p.1) (sym cut)
 
-unspaced_by : (c : ℕ) (cs : List ℕ) (t : Bool) → is_whitespace c ≡ t
-    → begins_by is_whitespace (skip_leading_whitespace cs) ≡ false
-    → begins_by is_whitespace (skip_leading_whitespace (c ∷ cs)) ≡ false
-unspaced_by c cs true e h =
-    ap (λ t. begins_by is_whitespace (cond t (skip_leading_whitespace cs) (c ∷ cs))) e ∙ h
-unspaced_by c cs false e h =
-    ap (λ t. begins_by is_whitespace (cond t (skip_leading_whitespace cs) (c ∷ cs))) e ∙ e
-
-unspaced : (cs : List ℕ) → begins_by is_whitespace (skip_leading_whitespace cs) ≡ false
-unspaced [] = refl
-unspaced (c ∷ cs) = unspaced_by c cs (is_whitespace c) refl (unspaced cs)
-
 -- the same of texts
 pub run_next : (text trimmed run rest : List ℕ) → chars trimmed ≡ skip_leading_whitespace (chars text)
     → (chars trimmed ≡ [] → ⊥) → (run, chars rest) ≡ encoded_cut is_whitespace (chars trimmed)
     → runs_of text ≡ run ∷ runs_of rest
 run_next text trimmed run rest e some cut =
     sym (runs_skipped (chars text)) ∙ ap runs_in (sym e)
-    ∙ run_first (chars trimmed) run (chars rest) some (ap (begins_by is_whitespace) e ∙ unspaced (chars text)) cut
+    ∙ run_first (chars trimmed) run (chars rest) some (ap (begins_by is_whitespace) e ∙ (spaces_found (chars text)).unspaced) cut
 
 pub run_none : (text trimmed : List ℕ) → chars trimmed ≡ skip_leading_whitespace (chars text) → chars trimmed ≡ []
     → runs_of text ≡ []

@@ -1,5 +1,6 @@
 -- Warnings that a reporter has taken.
-use Rattle.std.proofs.Common.{◌≡◌, ℕ, Bool, true, false, List, [], ◌∷◌, ◌++◌, map, Some, None, Ok, Err, refl, ap, sym, subst, ◌∙◌}
+use Rattle.std.proofs.Common.{◌≡◌, ℕ, Bool, true, false, List, [], ◌∷◌, ◌++◌, map, Some, None, Ok, Err, refl}
+use Rattle.std.proofs.Common.{ap, sym, subst, ◌∙◌}
 use Rattle.std.specs.Prelude.{Option, OnOk, IfOk, Result, option_map}
 use Rattle.std.specs.Result.{result_ok}
 use Rattle.std.specs.Bool.{OnFalse}

@@ -1,7 +1,6 @@
 -- What the readers of a comparison return, by what there is to read.
-use Rattle.std.specs.Prelude.{◌≡◌, ℕ, List, [], ◌++◌, map, option_map, Option, Some, None, Result, Ok, Err}
+use Rattle.std.specs.Prelude.{◌≡◌, ℕ, List, [], map, option_map, Option, Some, None, Result, Ok, Err}
 use Rattle.std.specs.List.{FoldsTo}
-use Rattle.std.specs.Str.{chars, IsUtf8}
 use Rattle.pep508_marker.specs.declared.expression.MarkerExpression.{MarkerExpression}
 use Rattle.pep508_marker.specs.declared.warnings.MarkerWarningKind.{MarkerWarningKind}
 use Rattle.pep508_marker.specs.Warnings.{Warning}
@@ -17,7 +16,7 @@ use Rattle.pep508_error.specs.declared.refusal.RefusalKind.TheVariants.{Unsuppor
 use Rattle.pep508_error.specs.declared.error.Pep508Error.{Pep508Error}
 use Rattle.pep508_error.specs.declared.error.Pep508ErrorSource.{Pep508ErrorSource}
 use Rattle.pep508_error.specs.declared.error.Pep508ErrorSource.TheVariants as sources
-use Rattle.pep508_error.specs.Cursors.{rest_of, IsBehind}
+use Rattle.pep508_error.specs.Cursors.{behind}
 use Rattle.pep508_error.specs.Errors.{Fault, told_error}
 use Rattle.pep508_marker_comparison.specs.Compared.{Compared, extra_of, warned_of_name}
 use Rattle.pep508_marker_comparison.specs.SideReading.{Refused, Malformed, AtEnd, TooDeep, Reading}
@@ -38,30 +37,11 @@ abbrev pub Tells : {Y : Type 0} → RefusalKind → Result Y Refused → Type 0
 Tells kind (Ok y) = kind ≡ Memory
 Tells kind (Err refused) = Fits kind refused
 
--- the characters behind a place
-abbrev pub behind : Cursor → List ℕ
-behind cursor = chars (rest_of cursor)
-
 -- what was returned is the reading: what is said, seen by `view`, and the place behind it; or a refusal for
 -- its reason
 abbrev pub Reads : {X Y : Type 0} → (X → Y) → Result (X × Cursor) Refusal → Reading Y → Type 0
 Reads view (Ok found) reading = reading ≡ Ok (view found.0, behind found.1)
 Reads view (Err refusal) reading = Tells refusal.kind reading
-
--- this text stands at the place
-pub record IsAt (cursor : Cursor) (text : List ℕ) : Type 0 where
-  pub rest : List ℕ
-  pub whole : rest_of cursor ≡ text ++ rest
-  pub rest_utf8 : IsUtf8 rest
-
--- a refusal is of the text of the place, unless it is want of memory
-abbrev pub IsOf : Cursor → Refusal → Type 0
-IsOf cursor refusal = (refusal.kind ≡ Memory → ⊥) → refusal.input.now ≡ cursor.input.now
-
--- where reading ends is behind the place in the same text, and what a refusal shows is of that text
-abbrev pub StaysIn : {X : Type 0} → Cursor → Result (X × Cursor) Refusal → Type 0
-StaysIn cursor (Ok found) = IsBehind cursor found.1
-StaysIn cursor (Err refusal) = IsOf cursor refusal
 
 -- a reporter has taken warnings of just these kinds, in their order
 pub record IsWarned {R : Type 0} (takes : R → Warning → R → Type 0) (old new : R)

@@ -1,10 +1,13 @@
 -- What there is to read of the sides of a comparison and of the operator between them (PEP 508, "Environment
 -- Markers").
-use Rattle.std.specs.Prelude.{ℕ, ◌==◌, ◌||◌, not, nat_lt, Bool, false, if◌then◌else◌, List, [], ◌∷◌, length}
-use Rattle.std.specs.Prelude.{drop, codes, eqb, Option, Some, None, Result, Ok, Err, encode_utf8_all}
+use Rattle.std.specs.Prelude.{ℕ, ◌==◌, ◌||◌, not, Bool, if◌then◌else◌, List, [], ◌∷◌, length, drop, codes}
+use Rattle.std.specs.Prelude.{eqb}
+use Rattle.std.specs.Prelude.{Option, Some, None, Result, Ok, Err, encode_utf8_all}
 use Rattle.std.specs.Char.{is_whitespace, is_ascii_alphabetic}
-use Rattle.std.specs.List.{before_first, after_first, position_or_len, starts_with}
+use Rattle.std.specs.List.{starts_with}
 use Rattle.std.specs.Str.{skip_leading_whitespace, bytes_eq}
+use Rattle.pep508_error.specs.Cuts.{cut_before, cut_around}
+use Rattle.pep508_error.specs.Steps.{◌>>=◌}
 use Rattle.pep508_marker.specs.declared.operators.MarkerOperator.{MarkerOperator}
 use Rattle.pep508_marker.specs.declared.operators.MarkerOperator.TheVariants.{NotIn}
 use Rattle.pep508_marker.specs.Operators.{marker_operator_of}
@@ -21,15 +24,6 @@ pub data Refused : Type 0 where
 -- what is read at the front of some characters, and the characters behind it
 abbrev pub Reading : Type 0 → Type 0
 Reading A = Result (A × List ℕ) Refused
-
-infixl 10 ◌>>=◌
-abbrev pub ◌>>=◌ : {A B : Type 0} → Result A Refused → (A → Result B Refused) → Result B Refused
-(Ok x) >>= next = next x
-(Err refused) >>= next = Err refused
-
--- the characters before the first that passes a test, and those from it on
-abbrev pub cut_before : (ℕ → Bool) → List ℕ → List ℕ × List ℕ
-cut_before test cs = (before_first test cs, drop (position_or_len test cs) cs)
 
 -- ---- sides and operators
 
@@ -52,17 +46,13 @@ if_side (Some side) rest = Ok (side, rest)
 abbrev pub is_quote : ℕ → Bool
 is_quote c = c == 39 || c == 34
 
--- whether the first character passes a test
-abbrev pub begins_by : (ℕ → Bool) → List ℕ → Bool
-begins_by test [] = false
-begins_by test (c ∷ cs) = test c
+abbrev pub if_quoted : Option (List ℕ × List ℕ) → Reading ValueRecord
+if_quoted None = Err Malformed
+if_quoted (Some parts) = Ok (Quoted parts.0, parts.1)
 
 -- a text up to a quote of its own kind
 abbrev pub quoted_at : ℕ → List ℕ → Reading ValueRecord
-quoted_at quote cs =
-    if nat_lt (position_or_len (λ c. c == quote) cs) (length cs)
-    then Ok (Quoted (encode_utf8_all (before_first (λ c. c == quote) cs)), after_first (λ c. c == quote) cs)
-    else Err Malformed
+quoted_at quote cs = if_quoted (cut_around quote cs)
 
 abbrev pub key_at : List ℕ × List ℕ → Reading ValueRecord
 key_at parts = if_side (key_of_text (encode_utf8_all parts.0)) parts.1

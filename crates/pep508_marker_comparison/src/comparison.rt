@@ -1,8 +1,10 @@
 //! Reading a comparison.
 
 ghost use Rattle.std.specs.Prelude.{◌≡◌};
+ghost use Rattle.pep508_error.specs.Cursors.{behind};
+ghost use Rattle.pep508_error.specs.Refusals.{StaysIn};
 ghost use Rattle.pep508_marker_comparison.specs.SideReading.{compared_at};
-ghost use Rattle.pep508_marker_comparison.specs.Outcome.{behind, ReadsComparison, StaysIn};
+ghost use Rattle.pep508_marker_comparison.specs.Outcome.{ReadsComparison};
 
 use crate::compare::compare;
 use crate::operator::read_operator;

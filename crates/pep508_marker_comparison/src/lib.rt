@@ -16,4 +16,4 @@ mod versions;
 
 pub use comparison::read_comparison;
 pub use parse::{parse_expression, parse_expression_reporter};
-pub use place::{expect, malformed, refuse_between, refuse_rest};
+pub use place::{expect, malformed, refuse_rest};

@@ -1,14 +1,16 @@
 //! Reading the operator of a comparison.
 
 ghost use Rattle.std.specs.Prelude.{◌≡◌};
-ghost use Rattle.pep508_error.specs.Cursors.{IsBehind};
+ghost use Rattle.pep508_error.specs.Cuts.{cut_before};
+ghost use Rattle.pep508_error.specs.Cursors.{behind, IsBehind};
+ghost use Rattle.pep508_error.specs.Refusals.{IsOf, StaysIn};
 ghost use Rattle.pep508_marker_comparison.specs.SideReading.{Malformed, operator_at, operator_in, behind_not};
-ghost use Rattle.pep508_marker_comparison.specs.SideReading.{in_at, cut_before};
+ghost use Rattle.pep508_marker_comparison.specs.SideReading.{in_at};
 ghost use Rattle.pep508_marker_comparison.specs.Stops.{stops_at};
-ghost use Rattle.pep508_marker_comparison.specs.Outcome.{behind, Fits, IsOf, Reads, StaysIn};
+ghost use Rattle.pep508_marker_comparison.specs.Outcome.{Fits, Reads};
 
-use crate::place::{cut, expect, malformed, refuse_between};
-use crate::stop::Stop;
+use crate::place::{expect, malformed};
+use crate::stop::PieceEnd;
 use pep508_error::{Cursor, Refusal};
 use pep508_marker::MarkerOperator;
 use std::alloc::Global;
@@ -25,9 +27,9 @@ pub(crate) fn read_operator<'a>(
         None => Err(refuse_operator(alloc, start, "", start)),
         Some(c) => {
             if c.is_ascii_alphabetic() {
-                read_up_to(alloc, start, Stop::Word)
+                read_up_to(alloc, start, PieceEnd::Word)
             } else {
-                read_up_to(alloc, start, Stop::Signs)
+                read_up_to(alloc, start, PieceEnd::Signs)
             }
         }
     }
@@ -39,8 +41,7 @@ fn refuse_operator<'a>(alloc: Global, start: Cursor<'a>, text: &str, end: Cursor
     ensures fits { Fits result.kind Malformed }
     ensures of { IsOf start.entry result }
 {
-    refuse_between(
-        start,
+    start.refuse_to(
         end,
         malformed(format!(in alloc;
             "Expected a valid marker operator (such as `>=` or `not in`), found `{text}`"
@@ -52,13 +53,13 @@ fn refuse_operator<'a>(alloc: Global, start: Cursor<'a>, text: &str, end: Cursor
 fn read_up_to<'a>(
     alloc: Global,
     start: Cursor<'a>,
-    stop: Stop,
+    end: PieceEnd,
 ) -> Result<(MarkerOperator, Cursor<'a>), Refusal<'a>>
     ensures read { Reads (λ operator. operator) result
-        (operator_in (cut_before (stops_at stop) (behind start.entry))) }
+        (operator_in (cut_before (stops_at end) (behind start.entry))) }
     ensures stays { StaysIn start.entry result }
 {
-    let (text, later) = cut(start, stop);
+    let (text, later) = start.cut(end);
     if text == "not" {
         return read_in(alloc, later);
     }

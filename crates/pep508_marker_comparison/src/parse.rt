@@ -3,7 +3,9 @@
 ghost use Rattle.std.specs.Prelude.{◌≡◌, IfErr};
 ghost use Rattle.std.specs.Str.{chars};
 ghost use Rattle.pep508_marker_comparison.specs.SideReading.{expression_at};
-ghost use Rattle.pep508_marker_comparison.specs.Outcome.{behind, IsOf, ReadsExpression, ReadsWhole};
+ghost use Rattle.pep508_error.specs.Cursors.{behind};
+ghost use Rattle.pep508_error.specs.Refusals.{IsOf};
+ghost use Rattle.pep508_marker_comparison.specs.Outcome.{ReadsExpression, ReadsWhole};
 ghost use Rattle.pep508_marker_comparison.specs.Outcome.{SaysExpression};
 
 use crate::comparison::read_comparison;

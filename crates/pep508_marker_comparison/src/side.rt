@@ -1,14 +1,15 @@
 //! Reading a side of a comparison.
 
 ghost use Rattle.std.specs.Prelude.{◌≡◌};
-ghost use Rattle.pep508_error.specs.Cursors.{IsBehind};
+ghost use Rattle.pep508_error.specs.Cuts.{cut_before};
+ghost use Rattle.pep508_error.specs.Cursors.{behind, IsBehind};
+ghost use Rattle.pep508_error.specs.Refusals.{StaysIn};
 ghost use Rattle.pep508_marker.specs.Values.{value_of};
-ghost use Rattle.pep508_marker_comparison.specs.SideReading.{side_at, quoted_at, key_at, cut_before};
-ghost use Rattle.pep508_marker_comparison.specs.SideReading.{ends_key};
-ghost use Rattle.pep508_marker_comparison.specs.Outcome.{behind, Reads, StaysIn};
+ghost use Rattle.pep508_marker_comparison.specs.SideReading.{side_at, quoted_at, key_at, ends_key};
+ghost use Rattle.pep508_marker_comparison.specs.Outcome.{Reads};
 
-use crate::place::{cut, malformed, refuse_between};
-use crate::stop::Stop;
+use crate::place::malformed;
+use crate::stop::PieceEnd;
 use pep508_error::{Cursor, Refusal};
 use pep508_marker::MarkerValue;
 use std::alloc::Global;
@@ -47,9 +48,8 @@ fn read_quoted<'a>(
     ensures read { Reads value_of result (quoted_at quote (behind inner.entry)) }
     ensures stays { StaysIn opening.entry result }
 {
-    let (text, end) = cut(inner, Stop::Quote(quote));
-    match end.split_first() {
-        Some((_, later)) => {
+    match inner.cut_around(quote) {
+        Some((text, later)) => {
             let text = String::from_str(alloc, text)?;
             Ok((MarkerValue::QuotedString(text), later))
         }
@@ -64,11 +64,10 @@ fn read_key<'a>(alloc: Global, start: Cursor<'a>) -> Result<(MarkerValue, Cursor
     ensures read { Reads value_of result (key_at (cut_before ends_key (behind start.entry))) }
     ensures stays { StaysIn start.entry result }
 {
-    let (text, later) = cut(start, Stop::Key);
+    let (text, later) = start.cut(PieceEnd::Key);
     match MarkerValue::from_str(alloc, text) {
         Ok(key) => Ok((key, later)),
-        Err(_) => Err(refuse_between(
-            start,
+        Err(_) => Err(start.refuse_to(
             later,
             malformed(format!(in alloc;
                 "Expected a quoted string or a valid marker name, found `{text}`"

@@ -5,8 +5,8 @@ ghost use Rattle.std.specs.Result.{result_ok};
 ghost use Rattle.pep440_text.specs.Reading.{version_of, pattern_of};
 ghost use Rattle.pep508_marker_comparison.specs.Compared.{runs_of, versions_of};
 
-use crate::stop::{Stop, split};
 use pep440_version::{Version, VersionParseError, VersionPattern, VersionPatternParseError};
+use pep508_error::{Space, split};
 use std::alloc::{AllocError, Global};
 
 /// The version that a text is, or why it is none.
@@ -69,5 +69,5 @@ fn next_run(text: &str) -> Option<(&str, &str)>
     if trimmed.is_empty() {
         return None;
     }
-    Some(split(trimmed, Stop::Space))
+    Some(split(trimmed, Space))
 }

@@ -1,5 +1,6 @@
 -- The walk through a chain of questions of one key: its edges are the branches between the boundaries.
-use Rattle.std.proofs.Common.{◌≡◌, ℕ, ◌+◌, ◌==◌, true, false, cond, List, [], ◌∷◌, map, inl, inr, refl, sym, ap, ◌∙◌, true≢false}
+use Rattle.std.proofs.Common.{◌≡◌, ℕ, ◌+◌, ◌==◌, true, false, cond, List, [], ◌∷◌, map, inl, inr, refl, sym}
+use Rattle.std.proofs.Common.{ap, ◌∙◌, true≢false}
 use Rattle.std.proofs.lemmas.Bool.{cases_Bool}
 use Rattle.std.specs.Cmp.{unsigned_Decides}
 use Rattle.std.specs.declared.cmp.Ordering.TheVariants.{Less, Equal}
@@ -15,7 +16,8 @@ use Rattle.pep508_diagram.specs.Children.{RootBehind}
 use Rattle.pep508_diagram.specs.Diagram.{Diagram, Leaf, Test}
 use Rattle.pep508_diagram.specs.Question.{Question, VersionBelow, TextBelow, IsSet, version_rank, text_rank}
 use Rattle.pep508_diagram.specs.Text.{text_cmp}
-use Rattle.pep508_marker_text.specs.Clauses.{Part, Versions, Texts, versions_from, texts_from, walk_of, clauses_of, edge_clauses, grouped_clauses}
+use Rattle.pep508_marker_text.specs.Clauses.{Part, Versions, Texts, versions_from, texts_from, walk_of}
+use Rattle.pep508_marker_text.specs.Clauses.{clauses_of, edge_clauses, grouped_clauses}
 use Rattle.pep508_marker_text.specs.Terms.{version_saying, text_saying}
 use Rattle.pep508_tree.proofs.OneNode.{tied_places}
 use Rattle.pep508_marker_dnf.proofs.Natural.{shown_branch}

@@ -1,11 +1,13 @@
 -- Texts of trees by whether they are constant.
-use Rattle.std.proofs.Common.{◌≡◌, Bool, true, false, List, [], ◌∷◌, Option, Some, None, refl, sym, ap, subst, ◌∙◌}
+use Rattle.std.proofs.Common.{◌≡◌, Bool, true, false, List, [], ◌∷◌, Option, Some, None, refl, sym, ap, subst}
+use Rattle.std.proofs.Common.{◌∙◌}
 use Rattle.std.specs.Prelude.{IfSome, codes}
 use Rattle.pep508_diagram.specs.Diagram.{Diagram, Leaf}
 use Rattle.pep508_diagram.specs.Question.{Question}
 use Rattle.pep508_marker_text.specs.MarkerText.{disjunction, clauses_text, marker_text}
 use Rattle.pep508_tree.specs.Tree.{Tree, always, never}
-use Rattle.pep508_tree.specs.Meaning.{NodeOf, NodeRecord, Versions, Texts, Flagged, node_diagram, diagram_of, IsTree}
+use Rattle.pep508_tree.specs.Meaning.{NodeOf, NodeRecord, Versions, Texts, Flagged, node_diagram, diagram_of}
+use Rattle.pep508_tree.specs.Meaning.{IsTree}
 use Rattle.pep508_tree.specs.Nodes.{AreSound, HasBoundary}
 use Rattle.pep508_tree.specs.Roots.{root_of, IsRoot}
 use Rattle.pep508_tree.proofs.Diagrams.{diagram_top}

@@ -1,10 +1,12 @@
 -- Versions that equal a release are releases alone.
-use Rattle.std.proofs.Common.{◌≡◌, ◌↔◌, ℕ, ◌&&◌, Bool, true, false, List, [], ◌∷◌, Option, Some, None, inl, inr, refl, sym, ap, ◌∙◌, true≢false}
+use Rattle.std.proofs.Common.{◌≡◌, ◌↔◌, ℕ, ◌&&◌, Bool, true, false, List, [], ◌∷◌, Option, Some, None, inl}
+use Rattle.std.proofs.Common.{inr, refl, sym, ap, ◌∙◌, true≢false}
 use Rattle.std.proofs.lemmas.Bool.{cases_Bool}
 use Rattle.std.specs.Prelude.{IsTrue}
 use Rattle.pep440_text.specs.declared.Prerelease.{Prerelease}
 use Rattle.pep440_text.specs.Record.{Segment, VersionRecord, release_record}
-use Rattle.pep440_version.specs.Order.{key_of, stripped, class_of, pre_key, post_key, absent_first, absent_last, local_key, version_eq}
+use Rattle.pep440_version.specs.Order.{key_of, stripped, class_of, pre_key, post_key, absent_first}
+use Rattle.pep440_version.specs.Order.{absent_last, local_key, version_eq}
 use Rattle.pep440_version.specs.OrderLaws.{same_key}
 use Rattle.pep440_specifier.specs.Bounds.{next_minor, equals_release}
 use Rattle.pep508_marker_text.specs.Terms.{is_minor_of}

@@ -1,5 +1,6 @@
 -- What is said of sets, by the intervals that they leave out.
-use Rattle.std.proofs.Common.{◌≡◌, Bool, true, false, cond, List, [], ◌∷◌, map, Option, Some, None, refl, sym, ap, ap₂, ◌∙◌}
+use Rattle.std.proofs.Common.{◌≡◌, Bool, true, false, cond, List, [], ◌∷◌, map, Option, Some, None, refl, sym}
+use Rattle.std.proofs.Common.{ap, ap₂, ◌∙◌}
 use Rattle.std.specs.Option.{option_or}
 use Rattle.std.specs.Prelude.{option_map}
 use Rattle.std.specs.Ordering.{eq_by_cmp}
@@ -9,7 +10,8 @@ use Rattle.version_ranges.specs.Boundaries.{point_of, turns_of}
 use Rattle.version_ranges.specs.Bounds.{intervals}
 use Rattle.pep508_diagram.specs.declared.branch.Branch.{Branch}
 use Rattle.pep508_marker_text.specs.Groups.{turning, points_where}
-use Rattle.pep508_marker_text.specs.Saying.{Clause, Saying, left_out, star_out, exclusion, interval_clause, one_or_intervals, set_clauses}
+use Rattle.pep508_marker_text.specs.Saying.{Clause, Saying, left_out, star_out, exclusion, interval_clause}
+use Rattle.pep508_marker_text.specs.Saying.{one_or_intervals, set_clauses}
 use Rattle.pep508_tree.specs.Tree.{Tree}
 use Rattle.pep508_marker_dnf.specs.Spans.{spans, differs_before, differs_from, star_from, left_out_by}
 use Rattle.pep508_marker_dnf.specs.Trees.{same_tree}

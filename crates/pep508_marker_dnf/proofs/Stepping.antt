@@ -1,5 +1,7 @@
 -- The steps of a node lead to the clauses of its diagram.
-use Rattle.std.proofs.Common.{◌≡◌, ℕ, ◌==◌, ◌&&◌, Bool, true, false, not, List, [], ◌∷◌, ◌++◌, map, Option, Some, None, inl, inr, refl, sym, ap, ap₂, subst, ◌<◌, ◌∙◌, append-nil, true≢false}
+use Rattle.std.proofs.Common.{◌≡◌, ℕ, ◌==◌, ◌&&◌, Bool, true, false, not, List, [], ◌∷◌, ◌++◌, map, Option}
+use Rattle.std.proofs.Common.{Some, None, inl, inr, refl, sym, ap, ap₂, subst, ◌<◌, ◌∙◌, append-nil}
+use Rattle.std.proofs.Common.{true≢false}
 use Rattle.std.proofs.lemmas.Bool.{cases_Bool}
 use Rattle.std.proofs.lemmas.Grind.{flat_map-append}
 use Rattle.std.proofs.lemmas.List.Folds.{flat_map-map}
@@ -14,7 +16,8 @@ use Rattle.pep508_diagram.specs.declared.variable.VersionVariable.{VersionVariab
 use Rattle.pep508_diagram.specs.Branches.{AllBranches}
 use Rattle.pep508_diagram.specs.Diagram.{Diagram}
 use Rattle.pep508_diagram.specs.Question.{Question}
-use Rattle.pep508_marker_text.specs.Clauses.{Part, followed_by, same_part, group_clauses, grouped_clauses, clauses_of}
+use Rattle.pep508_marker_text.specs.Clauses.{Part, followed_by, same_part, group_clauses, grouped_clauses}
+use Rattle.pep508_marker_text.specs.Clauses.{clauses_of}
 use Rattle.pep508_marker_text.specs.Groups.{firsts, standing, points_where}
 use Rattle.pep508_marker_text.specs.SameDiagrams.{same_diagram}
 use Rattle.pep508_marker_text.specs.Saying.{Clause, Saying, set_clauses}
@@ -33,7 +36,8 @@ use Rattle.pep508_tree.proofs.OneTree.{one_tree, tree_is}
 use Rattle.pep508_evaluation.proofs.CanHold.{known_root, known_constant}
 use Rattle.pep508_evaluation.proofs.Warning.{AllBehind}
 use Rattle.pep508_evaluation.proofs.Rooted.{root_diagram, root_children_behind}
-use Rattle.pep508_marker_dnf.specs.Steps.{StepRecord, turned_step, group_steps, branch_steps, node_steps, root_steps, clauses_by, behind}
+use Rattle.pep508_marker_dnf.specs.Steps.{StepRecord, turned_step, group_steps, branch_steps, node_steps}
+use Rattle.pep508_marker_dnf.specs.Steps.{root_steps, clauses_by, behind}
 use Rattle.pep508_marker_dnf.specs.Trees.{same_tree}
 use Rattle.pep508_marker_dnf.proofs.Chained.{part_of, version_clauses, text_clauses}
 use Rattle.pep508_marker_dnf.proofs.Grouping.{same_is_one, one_is_same}

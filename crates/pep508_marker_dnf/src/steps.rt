@@ -27,13 +27,6 @@ pub(crate) struct Step {
     pub tree: MarkerTree,
 }
 
-/// The tree, negated where the flag is set.
-fn turned(tree: MarkerTree, turns: bool) -> MarkerTree
-    ensures { result ≡ turned turns tree }
-{
-    if turns { tree.negate() } else { tree }
-}
-
 fn contains(trees: &[MarkerTree], tree: MarkerTree) -> bool
     ensures { result ≡ list_any (λ other. same_tree other tree) trees.now }
 {
@@ -102,7 +95,7 @@ fn branch_steps<T, S: Says<T>>(
     let mut steps = Vec::new(alloc);
     for tree in &trees {
         let clauses = set_clauses(alloc, says, *tree, first, later)?;
-        add_all(clauses, turned(*tree, negated), &mut steps)?;
+        add_all(clauses, tree.turned(negated), &mut steps)?;
     }
     Ok(steps)
 }

@@ -1,5 +1,6 @@
 -- Clauses are simplified alike before and after their terms are shown as others.
-use Rattle.std.proofs.Common.{◌≡◌, Bool, true, false, not, ◌&&◌, ◌||◌, cond, List, [], ◌∷◌, ◌++◌, map, refl, sym, ap, ◌∙◌}
+use Rattle.std.proofs.Common.{◌≡◌, Bool, true, false, not, ◌&&◌, ◌||◌, cond, List, [], ◌∷◌, ◌++◌, map, refl}
+use Rattle.std.proofs.Common.{sym, ap, ◌∙◌}
 use Rattle.std.specs.List.{list_all, list_any}
 use Rattle.std.proofs.lemmas.List.{map-append}
 use Rattle.std.specs.Prelude.{Vec}
@@ -7,7 +8,8 @@ use Rattle.pep508_marker.specs.declared.expression.MarkerExpression.{MarkerExpre
 use Rattle.pep508_marker.specs.Expression.{expression_of}
 use Rattle.pep508_marker_text.specs.SameTerms.{same_term, opposite_term}
 use Rattle.pep508_marker_print.specs.Terms.{clauses_shown, lists_of, same_expression, opposite_expression}
-use Rattle.pep508_marker_text.specs.Simplified.{sifted, has_some, spares, is_needless, is_covered, stands_in, shortened_behind, simplified}
+use Rattle.pep508_marker_text.specs.Simplified.{sifted, has_some, spares, is_needless, is_covered, stands_in}
+use Rattle.pep508_marker_text.specs.Simplified.{shortened_behind, simplified}
 
 module _ {A B : Type 0} (f : A → B) where
   any_shown : (p : B → Bool) (xs : List A) → list_any p (map f xs) ≡ list_any (λ x. p (f x)) xs

@@ -1,12 +1,14 @@
 -- Sifting a list step by step.
-use Rattle.std.proofs.Common.{◌≡◌, ℕ, suc, ◌==◌, Bool, true, false, not, ◌&&◌, ◌||◌, cond, List, [], ◌∷◌, ◌++◌, length, refl, sym, ap, ◌∙◌, arith}
+use Rattle.std.proofs.Common.{◌≡◌, ℕ, suc, ◌==◌, Bool, true, false, not, ◌&&◌, ◌||◌, cond, List, [], ◌∷◌}
+use Rattle.std.proofs.Common.{◌++◌, length, refl, sym, ap, ◌∙◌, arith}
 use Rattle.std.specs.Prelude.{reverse}
 use Rattle.std.specs.Cmp.{unsigned_Decides}
 use Rattle.std.specs.List.{list_any, list_all}
 use Rattle.std.proofs.lemmas.List.{reverse-append}
 use Rattle.std.proofs.lemmas.List.Folds.{list_any-append}
 use Rattle.std.proofs.lemmas.List.Sorted.{list_any-IsPermutation, IsPermutation-reverse}
-use Rattle.pep508_marker_text.specs.Simplified.{sifted, has_some, spares, is_needless, is_covered, stands_in, shortened_behind}
+use Rattle.pep508_marker_text.specs.Simplified.{sifted, has_some, spares, is_needless, is_covered, stands_in}
+use Rattle.pep508_marker_text.specs.Simplified.{shortened_behind}
 use Rattle.pep508_marker_print.specs.declared.strays.Strays.{Strays}
 use Rattle.pep508_marker_print.specs.Sparing.{are_at_most, is_needless_by}
 

@@ -1,5 +1,6 @@
 -- The trees of chains, and how they are joined.
-use Rattle.std.proofs.Common.{◌≡◌, Bool, true, false, List, [], ◌∷◌, ◌++◌, map, Some, None, refl, ap, sym, subst, ◌∙◌}
+use Rattle.std.proofs.Common.{◌≡◌, ◌==◌, length, true≢false, Bool, true, false, not, ◌&&◌, ◌||◌, List, [], ◌∷◌}
+use Rattle.std.proofs.Common.{◌++◌, map, Some, None, refl, ap, sym, subst, ◌∙◌}
 use Rattle.std.specs.Prelude.{Option, option_map, IfSome}
 use Rattle.std.specs.List.{AllByRecursion}
 use Rattle.pep508_marker.specs.Expression.{ExpressionRecord}
@@ -8,6 +9,9 @@ use Rattle.pep508_tree.specs.Tree.{Tree}
 use Rattle.pep508_tree.specs.Meaning.{NodeRecord, IsTree, Extends, holds}
 use Rattle.pep508_tree.proofs.Conjoining.{tree_kept}
 use Rattle.pep508_tree.proofs.Diagrams.{holds_kept}
+use Rattle.pep508_conjunctions.specs.Meets.{all_true}
+use Rattle.pep508_conjunctions.specs.Sources.{all_hold}
+use Rattle.pep508_conjunctions.proofs.Meets.{and_true}
 use Rattle.pep508_expression.specs.Expressions.{expression_holds}
 use Rattle.pep508_marker_read.specs.Formula.{Formula, joined, truth_in}
 use Rattle.pep508_marker_read.specs.MarkerReading.{Connective, And, Or, made_of}
@@ -82,46 +86,39 @@ all_listed : (P : Tree → Type 0) (tree : Option Tree) → IfSome tree P → Al
 all_listed P None h = tt
 all_listed P (Some t) h = (h, tt)
 
--- ---- halves
+-- ---- all trees of a chain
 
-all_front : (P : Tree → Type 0) (xs ys : List Tree) → AllByRecursion P (xs ++ ys) → AllByRecursion P xs
-all_front P [] ys h = tt
-all_front P (x ∷ xs) ys h = (h.0, all_front P xs ys h.1)
+and_chain : (b : Bool) (bs : List Bool) → Some (all_true (b ∷ bs)) ≡ chain_truth And (b ∷ bs)
+and_chain b [] = ap Some (and_true b)
+and_chain b (c ∷ bs) = ap (joined (joins And) (Some b)) (and_chain c bs)
 
-all_back : (P : Tree → Type 0) (xs ys : List Tree) → AllByRecursion P (xs ++ ys) → AllByRecursion P ys
-all_back P [] ys h = h
-all_back P (x ∷ xs) ys h = all_back P xs ys h.1
+not_both : (a b : Bool) → not (not a && b) ≡ (a || not b)
+not_both true b = refl
+not_both false b = refl
 
-pub front_made : (nodes : List NodeRecord) (front back trees : List Tree) → front ++ back ≡ trees
-    → AllByRecursion (IsTree nodes) trees → AllByRecursion (IsTree nodes) front
-front_made nodes front back trees e h =
-    all_front (IsTree nodes) front back (subst (AllByRecursion (IsTree nodes)) (sym e) h)
+or_chain : (b : Bool) (bs : List Bool) → Some (not (all_true (map not (b ∷ bs)))) ≡ chain_truth Or (b ∷ bs)
+or_chain true [] = refl
+or_chain false [] = refl
+or_chain b (c ∷ bs) =
+    ap Some (not_both b (all_true (map not (c ∷ bs)))) ∙ ap (joined (joins Or) (Some b)) (or_chain c bs)
 
-pub back_made : (nodes now : List NodeRecord) → Extends nodes now → (front back trees : List Tree)
-    → front ++ back ≡ trees → AllByRecursion (IsTree nodes) trees → AllByRecursion (IsTree now) back
-back_made nodes now more front back trees e h =
-    all_kept nodes now more back
-    (all_back (IsTree nodes) front back (subst (AllByRecursion (IsTree nodes)) (sym e) h))
+negations : (f : Tree → Bool) (trees : List Tree) → map (λ t. not (f t)) trees ≡ map not (map f trees)
+negations f [] = refl
+negations f (t ∷ trees) = ap (λ bs. not (f t) ∷ bs) (negations f trees)
 
--- the truth of a list, from those of two trees, each of one half
-pub halves_hold : (word : Connective) (nodes now later new : List NodeRecord) → Extends nodes now → Extends now later
-    → (front back trees : List Tree) → front ++ back ≡ trees → AllByRecursion (IsTree nodes) trees
-    → (first second tree : Option Tree) → IfSome first (IsTree now) → (v : Valuation)
-    → option_map (λ t. holds now t v) first ≡ chain_truth word (map (λ t. holds nodes t v) front)
-    → option_map (λ t. holds later t v) second ≡ chain_truth word (map (λ t. holds now t v) back)
-    → option_map (λ t. holds new t v) tree
-    ≡ joined (joins word) (option_map (λ t. holds later t v) first) (option_map (λ t. holds later t v) second)
-    → option_map (λ t. holds new t v) tree ≡ chain_truth word (map (λ t. holds nodes t v) trees)
-halves_hold word nodes now later new more again front back trees e made first second tree first_made v a b both =
-    let back_of_old = all_back (IsTree nodes) front back (subst (AllByRecursion (IsTree nodes)) (sym e) made) in
-    both
-    ∙ ap (λ x. joined (joins word) x (option_map (λ t. holds later t v) second))
-    (part_truth_kept now later again first first_made v ∙ a)
-    ∙ ap (joined (joins word) (chain_truth word (map (λ t. holds nodes t v) front)))
-    (b ∙ ap (chain_truth word) (truths_kept nodes now more back back_of_old v))
-    ∙ sym (chain_append word (map (λ t. holds nodes t v) front) (map (λ t. holds nodes t v) back))
-    ∙ ap (chain_truth word) (sym (mapped (λ t. holds nodes t v) front back))
-    ∙ ap (λ ts. chain_truth word (map (λ t. holds nodes t v) ts)) e
+-- all hold
+pub all_and : (nodes : List NodeRecord) (trees : List Tree) (v : Valuation) → (length trees == 0) ≡ false
+    → Some (all_hold nodes false trees v) ≡ chain_truth And (map (λ t. holds nodes t v) trees)
+all_and nodes [] v some = absurd (true≢false some)
+all_and nodes (t ∷ trees) v some = and_chain (holds nodes t v) (map (λ t. holds nodes t v) trees)
+
+-- one of all holds, if not all negations do
+pub one_or : (nodes : List NodeRecord) (trees : List Tree) (v : Valuation) → (length trees == 0) ≡ false
+    → Some (not (all_hold nodes true trees v)) ≡ chain_truth Or (map (λ t. holds nodes t v) trees)
+one_or nodes [] v some = absurd (true≢false some)
+one_or nodes (t ∷ trees) v some =
+    ap (λ bs. Some (not (all_true bs))) (negations (λ t. holds nodes t v) (t ∷ trees))
+    ∙ or_chain (holds nodes t v) (map (λ t. holds nodes t v) trees)
 
 -- ---- chains that are read
 

@@ -8,15 +8,20 @@ use Rattle.pep508_diagram.specs.Question.{Valuation}
 use Rattle.pep508_tree.specs.Tree.{Tree}
 use Rattle.pep508_tree.specs.Meaning.{NodeRecord, IsTree, Extends, holds}
 use Rattle.pep508_error.specs.declared.cursor.Cursor.{Cursor}
-use Rattle.pep508_error.specs.Cursors.{IsBehind}
+use Rattle.pep508_error.specs.Cursors.{IsBehind, behind}
 use Rattle.pep508_error.specs.declared.refusal.RefusalKind.{RefusalKind}
 use Rattle.pep508_error.specs.declared.refusal.RefusalKind.TheVariants.{Memory}
-use Rattle.pep508_marker_comparison.specs.SideReading.{Refused, Malformed, Reading, ◌>>=◌, begins_by, compared_at}
-use Rattle.pep508_marker_comparison.specs.Outcome.{Fits, Tells, IsWarned, behind}
+use Rattle.pep508_marker_comparison.specs.SideReading.{Refused, Malformed, Reading, compared_at}
+use Rattle.pep508_error.specs.Steps.{◌>>=◌}
+use Rattle.pep508_error.specs.Cuts.{begins_by}
+use Rattle.pep508_marker_comparison.specs.Outcome.{Fits, Tells, IsWarned}
 use Rattle.pep508_marker_comparison.proofs.Warned.{warned_both}
-use Rattle.pep508_marker_read.specs.MarkerReading.{Marker, Connective, And, Or, join_with, is_next, behind_run}
-use Rattle.pep508_marker_read.specs.MarkerReading.{more_at, joined_at, comparison_at, closed, part_of, formula_at}
-use Rattle.pep508_marker_read.specs.TreeReading.{chain_truth, listed, inner_at, enclosed_at, chain_at, AreChainTrees, ReadsPart, ReadsPiece}
+use Rattle.pep508_marker_read.specs.MarkerReading.{Marker, Connective, And, Or, join_with, is_next}
+use Rattle.pep508_marker_read.specs.MarkerReading.{behind_run}
+use Rattle.pep508_marker_read.specs.MarkerReading.{more_at, joined_at, comparison_at, closed, part_of}
+use Rattle.pep508_marker_read.specs.MarkerReading.{formula_at}
+use Rattle.pep508_marker_read.specs.TreeReading.{chain_truth, listed, inner_at, enclosed_at, chain_at}
+use Rattle.pep508_marker_read.specs.TreeReading.{AreChainTrees, ReadsPart, ReadsPiece}
 use Rattle.pep508_marker_read.proofs.Kept.{Keeps, run_length}
 use Rattle.pep508_marker_read.proofs.ChainTrees.{first_tree, next_tree, chain_tree}
 

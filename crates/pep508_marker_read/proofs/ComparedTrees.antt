@@ -1,17 +1,25 @@
 -- Comparisons of markers as trees.
-use Rattle.std.proofs.Common.{◌≡◌, ℕ, Bool, true, false, if◌then◌else◌, List, Some, None, Ok, Err, refl, ap, sym, subst, ◌∙◌}
+use Rattle.std.proofs.Common.{◌≡◌, ℕ, Bool, true, false, if◌then◌else◌, List, Some, None, Ok, Err, refl, ap}
+use Rattle.std.proofs.Common.{sym, subst, ◌∙◌}
 use Rattle.std.specs.Prelude.{Option}
 use Rattle.std.specs.Str.{skip_leading_whitespace}
 use Rattle.pep440_text.specs.Record.{VersionRecord}
 use Rattle.pep440_specifier.specs.Matching.{SpecifierRecord}
 use Rattle.pep508_name.specs.Name.{name_of}
 use Rattle.pep508_marker.specs.declared.warnings.MarkerWarningKind.{MarkerWarningKind}
-use Rattle.pep508_marker.specs.declared.warnings.MarkerWarningKind.TheVariants.{Pep440Error, LexicographicComparison, MarkerMarkerComparison, ExtraInvalidComparison, StringStringComparison}
+use Rattle.pep508_marker.specs.declared.warnings.MarkerWarningKind.TheVariants.{Pep440Error}
+use Rattle.pep508_marker.specs.declared.warnings.MarkerWarningKind.TheVariants.{LexicographicComparison}
+use Rattle.pep508_marker.specs.declared.warnings.MarkerWarningKind.TheVariants.{MarkerMarkerComparison}
+use Rattle.pep508_marker.specs.declared.warnings.MarkerWarningKind.TheVariants.{ExtraInvalidComparison}
+use Rattle.pep508_marker.specs.declared.warnings.MarkerWarningKind.TheVariants.{StringStringComparison}
 use Rattle.pep508_marker.specs.Warnings.{Warning}
 use Rattle.pep508_marker.specs.declared.keys.MarkerValueVersion.{MarkerValueVersion}
 use Rattle.pep508_marker.specs.declared.keys.MarkerValueString.{MarkerValueString}
 use Rattle.pep508_marker.specs.declared.operators.MarkerOperator.{MarkerOperator}
-use Rattle.pep508_marker.specs.declared.operators.MarkerOperator.TheVariants.{Equal, NotEqual, GreaterThan, GreaterEqual, LessThan, LessEqual, TildeEqual, In, NotIn, Contains, NotContains}
+use Rattle.pep508_marker.specs.declared.operators.MarkerOperator.TheVariants.{Equal, NotEqual, GreaterThan}
+use Rattle.pep508_marker.specs.declared.operators.MarkerOperator.TheVariants.{GreaterEqual, LessThan}
+use Rattle.pep508_marker.specs.declared.operators.MarkerOperator.TheVariants.{LessEqual, TildeEqual, In}
+use Rattle.pep508_marker.specs.declared.operators.MarkerOperator.TheVariants.{NotIn, Contains, NotContains}
 use Rattle.pep508_marker.specs.declared.operators.ExtraOperator.{ExtraOperator}
 use Rattle.pep508_marker.specs.declared.expression.MarkerExpression.{MarkerExpression}
 use Rattle.pep508_marker.specs.Operators.{inverted, extra_operator}
@@ -21,16 +29,23 @@ use Rattle.pep508_tree.specs.Tree.{Tree}
 use Rattle.pep508_tree.specs.Meaning.{NodeRecord}
 use Rattle.pep508_expression.specs.Expressions.{has_points, expression_holds}
 use Rattle.pep508_expression.specs.Trees.{IsComparison}
-use Rattle.pep508_expression.specs.Trees as trees
+use Rattle.pep508_tree.specs.Truths as trees
 use Rattle.pep508_error.specs.declared.cursor.Cursor.{Cursor}
 use Rattle.pep508_error.specs.declared.refusal.RefusalKind.TheVariants.{NumberAtEnd}
-use Rattle.pep508_marker_comparison.specs.Compared.{Compared, compared, left_out, says, of_specifier, specifier_behind, specifier_before, versions_of, runs_of, of_list, version_before, text_compared, of_extra, extra_of, warned_of_name, extra_compared}
-use Rattle.pep508_marker_comparison.specs.SideReading.{AtEnd, Reading, ◌>>=◌, side_at, operator_at, behind_operator, behind_side, compared_at}
-use Rattle.pep508_marker_comparison.specs.Outcome.{Tells, IsCompared, behind}
+use Rattle.pep508_marker_comparison.specs.Compared.{Compared, compared, left_out, says, of_specifier}
+use Rattle.pep508_marker_comparison.specs.Compared.{specifier_behind, specifier_before, versions_of, runs_of}
+use Rattle.pep508_marker_comparison.specs.Compared.{of_list, version_before, text_compared, of_extra}
+use Rattle.pep508_marker_comparison.specs.Compared.{extra_of, warned_of_name, extra_compared}
+use Rattle.pep508_marker_comparison.specs.SideReading.{AtEnd, Reading, side_at, operator_at, behind_operator}
+use Rattle.pep508_marker_comparison.specs.SideReading.{behind_side, compared_at}
+use Rattle.pep508_error.specs.Steps.{◌>>=◌}
+use Rattle.pep508_marker_comparison.specs.Outcome.{Tells, IsCompared}
+use Rattle.pep508_error.specs.Cursors.{behind}
 use Rattle.pep508_marker_read.specs.Formula.{Says, LeftOut}
 use Rattle.pep508_marker_read.specs.MarkerReading.{Marker, of_said, of_compared, comparison_at}
 use Rattle.pep508_marker_read.specs.TreeReading.{ReadsPart}
-use Rattle.pep508_marker_read.proofs.Cuts.{some_same, ok_same, in_steps}
+use Rattle.std.proofs.lemmas.Option.{same_Some}
+use Rattle.pep508_error.proofs.Steps.{ok_same, in_steps}
 
 -- ---- what is said is a comparison
 
@@ -41,7 +56,7 @@ fine_left_out : (kind : MarkerWarningKind) → IsFine (left_out kind)
 fine_left_out kind e h = absurd (cc)
 
 fine_says : (made : ExpressionRecord) → IsComparison made → IsFine (says made)
-fine_says made fine e h = subst IsComparison (some_same made e h) fine
+fine_says made fine e h = subst IsComparison (same_Some made e h) fine
 
 fine_specifier : (key : MarkerValueVersion) (specifier : Option SpecifierRecord) → IsFine (of_specifier key specifier)
 fine_specifier key (Some specifier) = fine_says (Version key specifier) tt
@@ -175,7 +190,7 @@ module _ {R : Type 0} (takes : R → Warning → R → Type 0) (old new : R) (cs
     record { formula = Says (expression_of expression); warned = c.warned },
     at_comparison (Some (expression_of expression)) c later e is.said_is
         ∙ ap (λ t. said_by t (expression_of expression) c later) h.0,
-    record { made = h.1.0; truth = λ v. ap Some (h.1.1 v) },
+    record { made = h.1.made; truth = λ v. ap Some (h.1.truth v) },
     is.warned,
   )
 

@@ -2,13 +2,16 @@
 use Rattle.std.proofs.Common.{◌≡◌, ℕ, zero, suc, ◌<◌, ◌≤◌, ◌==◌, arith, Bool, true, false}
 use Rattle.std.proofs.Common.{if◌then◌else◌, List, [], ◌∷◌, length, Ok, Err, refl, ap}
 use Rattle.std.specs.Str.{skip_leading_whitespace}
-use Rattle.pep508_marker_comparison.specs.SideReading.{Reading, Malformed, TooDeep, ◌>>=◌}
+use Rattle.pep508_marker_comparison.specs.SideReading.{Refused, Reading, Malformed, TooDeep}
+use Rattle.pep508_error.specs.Steps.{◌>>=◌}
 use Rattle.pep508_marker_read.specs.MarkerReading.{Marker, comparison_at, Connective, And, Or, join_with}
-use Rattle.pep508_marker_read.specs.MarkerReading.{is_next, behind_run, more_at, joined_at, closed, part_of, part_at}
+use Rattle.pep508_marker_read.specs.MarkerReading.{is_next, behind_run, more_at, joined_at, closed, part_of}
+use Rattle.pep508_marker_read.specs.MarkerReading.{part_at}
 use Rattle.pep508_marker_read.specs.MarkerReading.{either_at, formula_at}
 use Rattle.pep508_marker_read.specs.TreeReading.{inner_at, piece_at}
-use Rattle.pep508_marker_read.proofs.Cuts.{answer, ok_same, in_steps}
-use Rattle.pep508_marker_read.proofs.Comparisons.{spaced_found, spaced_none, spaced_length, comparison_found, comparison_shrinks}
+use Rattle.pep508_error.proofs.Steps.{answer, ok_same, in_steps}
+use Rattle.pep508_marker_read.proofs.Comparisons.{spaced_found, spaced_none, spaced_length, comparison_found}
+use Rattle.pep508_marker_read.proofs.Comparisons.{comparison_shrinks}
 use Rattle.pep508_marker_read.proofs.Joined.{joint_found, joint_length}
 
 abbrev pub Keeps : (List ℕ → Reading Marker) → Type 0
@@ -21,7 +24,7 @@ skipped_length cs =
 pub run_length : (word : Connective) (cs : List ℕ) → is_next word cs ≡ true → length (behind_run cs) < length cs
 run_length word cs h = joint_length word cs (behind_run cs) (joint_found word cs cs (spaced_none cs) h)
 
-answer_length : (made found : Marker × List ℕ) → answer made ≡ Ok found → length found.1 ≤ length made.1
+answer_length : (made found : Marker × List ℕ) → answer {F = Refused} made ≡ Ok found → length found.1 ≤ length made.1
 answer_length made found h =
     let e : length made.1 ≡ length found.1 = ap (λ (p : Marker × List ℕ). length p.1) (ok_same made found h) in
     omega (arith, e)

@@ -1,5 +1,4 @@
-pub mod Tests
-pub mod Cuts
+pub mod Ends
 pub mod Sides
 pub mod Operators
 pub mod Comparisons

@@ -1,5 +1,6 @@
 -- The tree of a marker.
-use Rattle.std.proofs.Common.{◌≡◌, ℕ, ◌==◌, zero-le, true, if◌then◌else◌, List, [], length, Some, None, Ok, Err, ap, sym, subst, ◌∙◌}
+use Rattle.std.proofs.Common.{◌≡◌, ℕ, ◌==◌, zero-le, true, if◌then◌else◌, List, [], length, Some, None, Ok}
+use Rattle.std.proofs.Common.{Err, ap, sym, subst, ◌∙◌}
 use Rattle.std.specs.Prelude.{Option, unwrap_or}
 use Rattle.std.specs.Str.{skip_leading_whitespace}
 use Rattle.pep508_marker.specs.Expression.{ExpressionRecord}
@@ -7,7 +8,8 @@ use Rattle.pep508_tree.specs.Tree.{Tree, always}
 use Rattle.pep508_tree.specs.Meaning.{NodeRecord}
 use Rattle.pep508_tree.proofs.Disjoint.{always_holds}
 use Rattle.pep508_error.specs.declared.refusal.RefusalKind.{RefusalKind}
-use Rattle.pep508_marker_comparison.specs.SideReading.{Malformed, ◌>>=◌, if_end}
+use Rattle.pep508_marker_comparison.specs.SideReading.{Malformed, if_end}
+use Rattle.pep508_error.specs.Steps.{◌>>=◌}
 use Rattle.pep508_marker_comparison.specs.Outcome.{Tells}
 use Rattle.pep508_marker_read.specs.Formula.{Formula}
 use Rattle.pep508_marker_read.specs.MarkerReading.{Marker, Or, marker_at}

@@ -1,5 +1,6 @@
 -- The operator of a comparison is read as the grammar has it.
-use Rattle.std.proofs.Common.{◌≡◌, ◌⊎◌, ℕ, ◌+◌, ◌<◌, ◌==◌, ◌||◌, arith, length-append, lit<, eqb, Bool, true, false, not}
+use Rattle.std.proofs.Common.{◌≡◌, ◌⊎◌, ℕ, ◌+◌, ◌<◌, ◌==◌, ◌||◌, arith, length-append, lit<, eqb, Bool, true}
+use Rattle.std.proofs.Common.{false, not}
 use Rattle.std.proofs.Common.{if◌then◌else◌, List, [], ◌∷◌, ◌++◌, length, drop, codes, IsTrue, All}
 use Rattle.std.proofs.Common.{Some, None, Ok, Err, inl, inr, refl, ap, sym, subst, ◌∙◌, append_assoc}
 use Rattle.std.specs.Prelude.{Option, encode_utf8_all}
@@ -15,13 +16,16 @@ use Rattle.pep508_marker.specs.declared.operators.MarkerOperator.{MarkerOperator
 use Rattle.pep508_marker.specs.declared.operators.MarkerOperator.TheVariants.{NotIn}
 use Rattle.pep508_marker.specs.Operators.{marker_operator_of, is_not_in}
 use Rattle.pep508_marker.specs.Operators as texts
-use Rattle.pep508_marker_comparison.specs.SideReading.{Reading, Malformed, begins_by, cut_before, ends_word, ends_signs}
-use Rattle.pep508_marker_comparison.specs.SideReading.{in_at, behind_not, if_operator, operator_in, operator_at}
+use Rattle.pep508_marker_comparison.specs.SideReading.{Reading, Malformed, ends_word, ends_signs}
+use Rattle.pep508_error.specs.Cuts.{begins_by, cut_before}
+use Rattle.pep508_marker_comparison.specs.SideReading.{in_at, behind_not, if_operator, operator_in}
+use Rattle.pep508_marker_comparison.specs.SideReading.{operator_at}
 use Rattle.pep508_marker_read.specs.MarkerText.{IsBefore, IsNotIn, IsOperatorText}
-use Rattle.pep508_marker_read.proofs.Tests.{the_same, or_cases}
-use Rattle.pep508_marker_read.proofs.Cuts.{Unspaced, NonePasses, Ends, cut_again, cut_found, cut_is}
-use Rattle.pep508_marker_read.proofs.Cuts.{spaces_found, spaces_again, at_places, from_places, ends_before, before_ends}
-use Rattle.pep508_marker_read.proofs.Cuts.{ok_same}
+use Rattle.pep508_error.proofs.Tests.{the_same, or_cases, not_false}
+use Rattle.pep508_error.proofs.Spaces.{Unspaced, spaces_found, spaces_again}
+use Rattle.pep508_error.proofs.Cuts.{NonePasses, Ends, cut_again, cut_found, cut_is, at_places, from_places}
+use Rattle.pep508_marker_read.proofs.Ends.{ends_before, before_ends}
+use Rattle.pep508_error.proofs.Steps.{ok_same}
 
 -- ---- `in` behind `not`
 
@@ -244,10 +248,6 @@ sign_by c h = elim (or_cases (c == 60 || c == 61 || c == 62 || c == 126) (c == 3
     ]
   ]
 ]
-
-not_false : (t : Bool) → not t ≡ false → t ≡ true
-not_false true h = refl
-not_false false h = absurd (cc)
 
 run_unspaced : (written rest : List ℕ) (operator : MarkerOperator) → IsRun written rest
     → marker_operator_of (encode_utf8_all written) ≡ Some operator → Unspaced (written ++ rest)

@@ -1,58 +1,45 @@
 -- A side of a comparison is read as the grammar has it.
-use Rattle.std.proofs.Common.{◌≡◌, ◌⊎◌, ℕ, ◌<◌, ◌==◌, ◌||◌, arith, lit<, length-append, Bool, true, false, if◌then◌else◌, List, [], ◌∷◌, ◌++◌}
+use Rattle.std.proofs.Common.{◌≡◌, ◌⊎◌, ℕ, ◌<◌, ◌==◌, ◌||◌, arith, lit<, length-append, Bool, true, false}
+use Rattle.std.proofs.Common.{if◌then◌else◌, List, [], ◌∷◌, ◌++◌}
 use Rattle.std.proofs.Common.{Some, None, Ok, Err, inl, inr, refl, ap, sym, subst, ◌∙◌}
 use Rattle.std.specs.Prelude.{Option, encode_utf8_all}
 use Rattle.std.proofs.lemmas.List.{append-nil}
 use Rattle.std.proofs.lemmas.Str.{encode_ascii}
-use Rattle.std.specs.List.{position_or_len, before_first, after_first}
-use Rattle.std.specs.Prelude.{nat_lt, length}
+use Rattle.std.specs.Prelude.{length}
 use Rattle.std.specs.Char.{is_whitespace}
 use Rattle.pep508_marker.specs.Values.{ValueRecord, Quoted, key_of_text, version_key_of, text_key_of}
-use Rattle.pep508_marker_comparison.specs.SideReading.{Reading, Malformed, cut_before, ends_key, if_side, is_quote}
+use Rattle.pep508_marker_comparison.specs.SideReading.{Reading, ends_key, if_quoted, if_side, is_quote}
+use Rattle.pep508_error.specs.Cuts.{cut_before, cut_around}
 use Rattle.pep508_marker_comparison.specs.SideReading.{quoted_at, key_at, side_at}
 use Rattle.pep508_marker_read.specs.MarkerText.{IsQuotedText, IsKeyText, IsSideText}
-use Rattle.pep508_marker_read.proofs.Tests.{itself, the_same, or_cases, neither}
-use Rattle.pep508_marker_read.proofs.Cuts.{NonePasses, Ends, cut_again, cut_found, cut_is}
-use Rattle.pep508_marker_read.proofs.Cuts.{none_there, first_of_them, at_places, from_places, ends_before, before_ends}
-use Rattle.pep508_marker_read.proofs.Cuts.{ok_same}
+use Rattle.pep508_error.proofs.Tests.{the_same, or_cases, neither}
+use Rattle.pep508_error.proofs.Cuts.{NonePasses, Ends, cut_again, cut_found, cut_is, around_again}
+use Rattle.pep508_error.proofs.Cuts.{around_found}
+use Rattle.pep508_error.proofs.Cuts.{at_places, from_places}
+use Rattle.pep508_marker_read.proofs.Ends.{ends_before, before_ends}
+use Rattle.pep508_error.proofs.Steps.{ok_same}
 
 -- ---- quoted texts
 
-abbrev quoted_if : ℕ → List ℕ → Bool → Reading ValueRecord
-quoted_if quote cs t =
-    if t then Ok (Quoted (encode_utf8_all (before_first (λ c. c == quote) cs)), after_first (λ c. c == quote) cs)
-    else Err Malformed
-
 quoted_again : (quote : ℕ) (inside rest : List ℕ) → NonePasses (λ c. c == quote) inside
     → quoted_at quote (inside ++ quote ∷ rest) ≡ Ok (Quoted (encode_utf8_all inside), rest)
-quoted_again quote inside rest h =
-    let cs : List ℕ = inside ++ quote ∷ rest in
-    let f = first_of_them (λ c. c == quote) inside quote rest h (itself quote) in
-    ap (quoted_if quote cs) f.within
-    ∙ ap (λ xs. Ok (Quoted (encode_utf8_all xs), after_first (λ c. c == quote) cs)) f.before
-    ∙ ap (λ xs. Ok (Quoted (encode_utf8_all inside), xs)) f.after
+quoted_again quote inside rest h = ap if_quoted (around_again quote inside rest h)
 
-quoted_by : (quote : ℕ) (cs front rest : List ℕ) (found : ValueRecord × List ℕ) → is_quote quote ≡ true
-    → cs ≡ front ++ rest → NonePasses (λ c. c == quote) front → Ends (λ c. c == quote) rest
-    → quoted_at quote cs ≡ Ok found → IsQuotedText (quote ∷ cs) found.0 found.1
-quoted_by quote cs front [] found q e n k h =
-    let none : nat_lt (position_or_len (λ c. c == quote) cs) (length cs) ≡ false =
-    ap (λ ds. nat_lt (position_or_len (λ c. c == quote) ds) (length ds)) (e ∙ append-nil front)
-    ∙ none_there (λ c. c == quote) front n in
-    let err : quoted_at quote cs ≡ Err Malformed = ap (quoted_if quote cs) none in
-    absurd (cc)
-quoted_by quote cs front (d ∷ rest) found q e n k h =
-    let split : cs ≡ front ++ quote ∷ rest = e ∙ ap (λ x. front ++ x ∷ rest) (the_same d quote k) in
-    let made : ValueRecord × List ℕ = (Quoted (encode_utf8_all front), rest) in
-    let same : made ≡ found =
-    ok_same made found (sym (ap (quoted_at quote) split ∙ quoted_again quote front rest n) ∙ h) in
+quoted_by : (quote : ℕ) (cs : List ℕ) (found : ValueRecord × List ℕ) (parts : Option (List ℕ × List ℕ))
+    → is_quote quote ≡ true → cut_around quote cs ≡ parts → if_quoted parts ≡ Ok found
+    → IsQuotedText (quote ∷ cs) found.0 found.1
+quoted_by quote cs found None q e h = absurd (cc)
+quoted_by quote cs found (Some parts) q e h =
+    let k = around_found quote cs parts e in
+    let made : ValueRecord × List ℕ = (Quoted parts.0, parts.1) in
+    let same : made ≡ found = ok_same made found h in
     subst (λ (p : ValueRecord × List ℕ). IsQuotedText (quote ∷ cs) p.0 p.1) {x = made} same (record {
       quote = quote;
-      inside = front;
-      split = ap (λ ds. quote ∷ ds) split;
+      inside = k.front;
+      split = ap (λ ds. quote ∷ ds) k.split;
       quotes = q;
-      closed = at_places (λ c. c == quote) front n;
-      encoded = refl;
+      closed = at_places (λ c. c == quote) k.front k.passes;
+      encoded = ap Quoted k.encoded;
     })
 
 -- ---- keys
@@ -83,8 +70,7 @@ key_found cs found h =
 
 side_by : (c : ℕ) (cs : List ℕ) (found : ValueRecord × List ℕ) (t : Bool) → is_quote c ≡ t
     → side_if c cs t ≡ Ok found → IsSideText (c ∷ cs) found.0 found.1
-side_by c cs found true e h =
-    let k = cut_found (λ d. d == c) cs in inl (quoted_by c cs k.front k.rest found e k.split k.passes k.ends h)
+side_by c cs found true e h = inl (quoted_by c cs found (cut_around c cs) e refl h)
 side_by c cs found false e h = inr (key_found (c ∷ cs) found h)
 
 pub side_found : (cs : List ℕ) (found : ValueRecord × List ℕ) → side_at cs ≡ Ok found → IsSideText cs found.0 found.1

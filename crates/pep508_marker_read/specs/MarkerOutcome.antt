@@ -2,9 +2,9 @@
 use Rattle.std.specs.Prelude.{◌≡◌, List, Result, Ok, Err}
 use Rattle.pep508_marker.specs.Warnings.{Warning}
 use Rattle.pep508_marker.specs.Expression.{ExpressionRecord}
-use Rattle.pep508_diagram.specs.Question.{Valuation}
 use Rattle.pep508_tree.specs.Tree.{Tree}
-use Rattle.pep508_tree.specs.Meaning.{NodeRecord, IsTree, holds}
+use Rattle.pep508_tree.specs.Meaning.{NodeRecord}
+use Rattle.pep508_tree.specs.Truths as truths
 use Rattle.pep508_expression.specs.Expressions.{expression_holds}
 use Rattle.pep508_error.specs.declared.refusal.Refusal.{Refusal}
 use Rattle.pep508_marker_comparison.specs.SideReading.{Refused}
@@ -13,10 +13,9 @@ use Rattle.pep508_marker_read.specs.Formula.{Formula, formula_holds}
 use Rattle.pep508_marker_read.specs.MarkerReading.{Marker}
 
 -- a tree of these nodes that holds where the formula does
-pub record IsTreeOf (nodes : List NodeRecord) (tree : Tree) (formula : Formula ExpressionRecord)
-    : Type 0 where
-  pub made : IsTree nodes tree
-  pub truth : (v : Valuation) → holds nodes tree v ≡ formula_holds (λ e. expression_holds e v) formula
+abbrev pub IsTreeOf : List NodeRecord → Tree → Formula ExpressionRecord → Type 0
+IsTreeOf nodes tree formula =
+    truths.IsTreeOf nodes (λ v. formula_holds (λ e. expression_holds e v) formula) tree
 
 -- what was returned is the reading: a tree of its formula, its warnings taken; or a refusal for its reason
 abbrev pub ReadsMarker : {R : Type 0} → (R → Warning → R → Type 0) → R → R → List NodeRecord

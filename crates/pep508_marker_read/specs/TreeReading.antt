@@ -8,11 +8,13 @@ use Rattle.pep508_diagram.specs.Question.{Valuation}
 use Rattle.pep508_tree.specs.Tree.{Tree}
 use Rattle.pep508_tree.specs.Meaning.{NodeRecord, IsTree, holds}
 use Rattle.pep508_expression.specs.Expressions.{expression_holds}
-use Rattle.pep508_error.specs.Cursors.{IsBehind}
+use Rattle.pep508_error.specs.Cursors.{IsBehind, behind}
 use Rattle.pep508_error.specs.declared.cursor.Cursor.{Cursor}
 use Rattle.pep508_error.specs.declared.refusal.Refusal.{Refusal}
-use Rattle.pep508_marker_comparison.specs.SideReading.{Reading, TooDeep, ◌>>=◌}
-use Rattle.pep508_marker_comparison.specs.Outcome.{Tells, IsWarned, IsOf, behind}
+use Rattle.pep508_marker_comparison.specs.SideReading.{Reading, TooDeep}
+use Rattle.pep508_error.specs.Steps.{◌>>=◌}
+use Rattle.pep508_marker_comparison.specs.Outcome.{Tells, IsWarned}
+use Rattle.pep508_error.specs.Refusals.{IsOf}
 use Rattle.pep508_marker_read.specs.declared.word.Word.{Word}
 use Rattle.pep508_marker_read.specs.declared.word.Word.TheVariants as words
 use Rattle.pep508_marker_read.specs.Formula.{Formula, joined, truth_in}

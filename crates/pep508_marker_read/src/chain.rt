@@ -1,10 +1,11 @@
 //! Reading chains of comparisons, and brackets.
 
-ghost use Rattle.std.specs.Prelude.{◌≡◌, ◌==◌, ◌∷◌, false, MatchOption, MatchResult, IfSome, Ok};
-ghost use Rattle.pep508_error.specs.Cursors.{IsBehind};
+ghost use Rattle.std.specs.Prelude.{◌≡◌, MatchResult, Ok};
+ghost use Rattle.pep508_error.specs.Cursors.{IsBehind, behind};
 ghost use Rattle.pep508_tree.specs.Meaning.{Extends};
-ghost use Rattle.pep508_marker_comparison.specs.SideReading.{TooDeep, begins_by};
-ghost use Rattle.pep508_marker_comparison.specs.Outcome.{behind, Fits, Tells, IsOf, StaysIn};
+ghost use Rattle.pep508_marker_comparison.specs.SideReading.{TooDeep};
+ghost use Rattle.pep508_marker_comparison.specs.Outcome.{Fits, Tells};
+ghost use Rattle.pep508_error.specs.Refusals.{IsOf, StaysIn};
 ghost use Rattle.pep508_marker_read.specs.MarkerReading.{Marker, closed, part_of};
 ghost use Rattle.pep508_marker_read.specs.TreeReading.{connective, inner_at, enclosed_at, piece_at, chain_at};
 ghost use Rattle.pep508_marker_read.specs.TreeReading.{ReadsPart, ReadsPiece, StaysAt};
@@ -111,7 +112,7 @@ fn read_part<'a, R: Reporter>(
     ensures keeps { Extends interner.old.nodes interner.new.nodes }
     ensures counts { interner.new.conjunctions ≡ interner.old.conjunctions }
 {
-    match strip(start, '(') {
+    match start.strip('(') {
         Some(inner) => read_enclosed(alloc, interner, depth, start, inner, reporter),
         None => read_compared(alloc, interner, start, reporter),
     }
@@ -142,18 +143,6 @@ fn read_enclosed<'a, R: Reporter>(
     let (tree, end) = read_chain(alloc, interner, Word::Or, depth - 1, inner, reporter)?;
     let later = close(alloc, opening, end)?;
     Ok((tree, later))
-}
-
-/// The place behind a character, where that follows.
-fn strip<'a>(place: Cursor<'a>, at: char) -> Option<Cursor<'a>>
-    ensures parts { MatchOption result (begins_by (λ c. c == at) (behind place.entry) ≡ false)
-        (λ later. behind place.entry ≡ at ∷ behind later) }
-    ensures later { IfSome result (IsBehind place.entry) }
-{
-    match place.split_first() {
-        Some((c, later)) if c == at => Some(later),
-        _ => None,
-    }
 }
 
 /// The place behind the bracket that closes another.

@@ -2,7 +2,8 @@
 
 ghost use Rattle.std.specs.Prelude.{◌≡◌};
 ghost use Rattle.pep508_tree.specs.Meaning.{Extends};
-ghost use Rattle.pep508_marker_comparison.specs.Outcome.{behind, StaysIn};
+ghost use Rattle.pep508_error.specs.Cursors.{behind};
+ghost use Rattle.pep508_error.specs.Refusals.{StaysIn};
 ghost use Rattle.pep508_marker_read.specs.MarkerReading.{comparison_at};
 ghost use Rattle.pep508_marker_read.specs.TreeReading.{ReadsPart};
 
@@ -10,7 +11,7 @@ use pep440_range::RangeError;
 use pep508_error::{Cursor, Refusal, RefusalKind};
 use pep508_expression::MarkerTreeExpression;
 use pep508_marker::Reporter;
-use pep508_marker_comparison::{read_comparison, refuse_between};
+use pep508_marker_comparison::read_comparison;
 use pep508_tree::{Interner, MarkerTree};
 use std::alloc::Global;
 
@@ -36,9 +37,7 @@ pub(crate) fn read_compared<'a, R: Reporter>(
     };
     match MarkerTree::expression(alloc, interner, expression) {
         Ok(tree) => Ok((Some(tree), later)),
-        Err(RangeError::NumberAtEnd) => {
-            Err(refuse_between(start, later, RefusalKind::NumberAtEnd))
-        }
+        Err(RangeError::NumberAtEnd) => Err(start.refuse_to(later, RefusalKind::NumberAtEnd)),
         Err(RangeError::Memory) => Err(Refusal::memory()),
     }
 }

@@ -1,72 +1,18 @@
 //! Trees of chains.
 
-ghost use Rattle.std.specs.Prelude.{◌≡◌, IfOk, IfSome, map, option_map, length, ◌++◌};
+ghost use Rattle.std.specs.Prelude.{◌≡◌, IfOk, IfSome, map, option_map, ◌++◌};
 ghost use Rattle.std.specs.List.{AllByRecursion};
 ghost use Rattle.pep508_diagram.specs.Question.{Valuation};
 ghost use Rattle.pep508_tree.specs.Meaning.{IsTree, Extends, holds};
-ghost use Rattle.pep508_marker_read.specs.Formula.{joined};
-ghost use Rattle.pep508_marker_read.specs.TreeReading.{connective, joins, chain_truth, listed};
+ghost use Rattle.pep508_marker_read.specs.TreeReading.{connective, chain_truth, listed};
 
 use crate::word::Word;
-use pep508_tree::{Interner, MarkerTree, uncounted_conjunction};
+use pep508_conjunctions::conjunction_of_all;
+use pep508_tree::{Interner, MarkerTree};
 use std::alloc::{AllocError, Global};
 
-/// The tree of two trees with a word between them.
-#[tactic(auto, using(pep508_tree::proofs::OneTree::negation_holds))]
-fn join_two(
-    alloc: Global,
-    interner: &mut Interner,
-    word: Word,
-    a: MarkerTree,
-    b: MarkerTree,
-) -> Result<MarkerTree, AllocError>
-    requires a { IsTree interner.old.nodes a }
-    requires b { IsTree interner.old.nodes b }
-    ensures made { IfOk result (λ tree. IsTree interner.new.nodes tree) }
-    ensures truth { IfOk result (λ tree. (v : Valuation) → holds interner.new.nodes tree v
-        ≡ joins (connective word) (holds interner.old.nodes a v) (holds interner.old.nodes b v)) }
-    ensures keeps { Extends interner.old.nodes interner.new.nodes }
-    ensures counts { interner.new.conjunctions ≡ interner.old.conjunctions }
-{
-    match word {
-        Word::And => uncounted_conjunction(alloc, interner, a, b),
-        Word::Or => {
-            let neither = uncounted_conjunction(alloc, interner, a.negate(), b.negate())?;
-            Ok(neither.negate())
-        }
-    }
-}
-
-/// The same, where each of the two may be left out.
-fn join_parts(
-    alloc: Global,
-    interner: &mut Interner,
-    word: Word,
-    a: Option<MarkerTree>,
-    b: Option<MarkerTree>,
-) -> Result<Option<MarkerTree>, AllocError>
-    requires a { IfSome a (IsTree interner.old.nodes) }
-    requires b { IfSome b (IsTree interner.old.nodes) }
-    ensures made { IfOk result (λ tree. IfSome tree (IsTree interner.new.nodes)) }
-    ensures truth { IfOk result (λ tree. (v : Valuation) → option_map (λ t. holds interner.new.nodes t v) tree
-        ≡ joined (joins (connective word)) (option_map (λ t. holds interner.old.nodes t v) a)
-        (option_map (λ t. holds interner.old.nodes t v) b)) }
-    ensures keeps { Extends interner.old.nodes interner.new.nodes }
-    ensures counts { interner.new.conjunctions ≡ interner.old.conjunctions }
-{
-    let Some(first) = a else {
-        return Ok(b);
-    };
-    let Some(second) = b else {
-        return Ok(a);
-    };
-    let tree = join_two(alloc, interner, word, first, second)?;
-    Ok(Some(tree))
-}
-
-/// The tree of trees with a word between each two, joined by halves; none where there are none.
-///
-/// As deep as the length's logarithm, so that no tree is taken part in more often than that.
+/// The tree of trees with a word between each two; none where there are none. Costs as much as
+/// `conjunction_of_all`.
 pub(crate) fn join_all(
     alloc: Global,
     interner: &mut Interner,
@@ -80,14 +26,19 @@ pub(crate) fn join_all(
     ensures keeps { Extends interner.old.nodes interner.new.nodes }
     ensures counts { interner.new.conjunctions ≡ interner.old.conjunctions }
 {
-    if trees.len() < 2 {
-        return Ok(trees.first().copied());
+    if trees.is_empty() {
+        return Ok(None);
     }
-    let (front, back) = trees.split_at(trees.len() / 2);
-    let first = join_all(alloc, interner, word, front)?;
-    let second = join_all(alloc, interner, word, back)?;
-    let tree = join_parts(alloc, interner, word, first, second)?;
-    Ok(tree)
+    match word {
+        Word::And => {
+            let tree = conjunction_of_all(alloc, interner, trees, false)?;
+            Ok(Some(tree))
+        }
+        Word::Or => {
+            let neither = conjunction_of_all(alloc, interner, trees, true)?;
+            Ok(Some(neither.negate()))
+        }
+    }
 }
 
 /// Puts a tree behind the others, where there is one.

@@ -3,7 +3,7 @@
 ghost use Rattle.std.specs.Prelude.{◌≡◌, chars, IfErr};
 ghost use Rattle.pep508_error.specs.Cursors.{rest_of};
 ghost use Rattle.pep508_tree.specs.Meaning.{Extends};
-ghost use Rattle.pep508_marker_comparison.specs.Outcome.{IsOf};
+ghost use Rattle.pep508_error.specs.Refusals.{IsOf};
 ghost use Rattle.pep508_marker_read.specs.MarkerReading.{marker_at};
 ghost use Rattle.pep508_marker_read.specs.MarkerOutcome.{ReadsMarker};
 

@@ -1,5 +1,6 @@
 -- A condition that all terms of a diagram's clauses meet: that their numbers can be raised.
-use Rattle.std.proofs.Common.{◌≡◌, ◌&&◌, ◌||◌, ℕ, ◌==◌, Bool, true, false, if◌then◌else◌, cond, List, [], ◌∷◌, ◌++◌, map, Option, Some, None, refl, sym, ap, subst, ◌∙◌}
+use Rattle.std.proofs.Common.{◌≡◌, ◌&&◌, ◌||◌, ℕ, ◌==◌, Bool, true, false, if◌then◌else◌, cond, List, [], ◌∷◌}
+use Rattle.std.proofs.Common.{◌++◌, map, Option, Some, None, refl, sym, ap, subst, ◌∙◌}
 use Rattle.std.specs.List.{AllByRecursion, flat_map, list_all, list_any}
 use Rattle.std.specs.Option.{option_or, option_map, is_some}
 use Rattle.std.specs.Cmp.{unsigned_Decides}
@@ -20,20 +21,27 @@ use Rattle.pep508_marker.specs.Expression.{ExpressionRecord}
 use Rattle.pep508_marker.specs.Keys.{text_key_rank}
 use Rattle.pep508_diagram.specs.declared.branch.Branch.{Branch}
 use Rattle.pep508_diagram.specs.declared.variable.VersionVariable.{VersionVariable}
-use Rattle.pep508_diagram.specs.declared.variable.VersionVariable.TheVariants.{ImplementationVersion, PythonFullVersion}
+use Rattle.pep508_diagram.specs.declared.variable.VersionVariable.TheVariants.{ImplementationVersion}
+use Rattle.pep508_diagram.specs.declared.variable.VersionVariable.TheVariants.{PythonFullVersion}
 use Rattle.pep508_diagram.specs.declared.variable.Flag.{Flag}
 use Rattle.pep508_diagram.specs.declared.variable.Flag.TheVariants as flag
 use Rattle.pep508_diagram.specs.Branches.{AllBranches}
 use Rattle.pep508_diagram.specs.Diagram.{Diagram, Leaf, Test}
 use Rattle.pep508_diagram.specs.Question.{Question, VersionBelow, TextBelow, IsSet, version_rank}
+use Rattle.pep508_diagram.specs.Questions.{AllQuestions}
 use Rattle.pep508_diagram.proofs.Places.{text_keys_same}
 use Rattle.pep508_expression.specs.Expressions.{has_points}
-use Rattle.pep508_marker_text.specs.Clauses.{Part, Edges, NoEdges, Versions, Texts, Flagged, Walk, versions_from, texts_from, followed_by, same_part, group_clauses, grouped_clauses, walk_of, clauses_of}
+use Rattle.pep508_marker_text.specs.Clauses.{Part, Edges, NoEdges, Versions, Texts, Flagged, Walk}
+use Rattle.pep508_marker_text.specs.Clauses.{versions_from, texts_from, followed_by, same_part, group_clauses}
+use Rattle.pep508_marker_text.specs.Clauses.{grouped_clauses, walk_of, clauses_of}
 use Rattle.pep508_marker_text.specs.Groups.{firsts, standing, points_where}
 use Rattle.pep508_marker_text.specs.ReleaseBounds.{IsPlainRelease, AsksOfReleases, HasReleasesAlone}
-use Rattle.pep508_marker_text.specs.Saying.{Clause, Saying, left_out, star_out, exclusion, lower_terms, upper_terms, single_or_bounds, interval_clause, one_or_intervals, set_clauses}
+use Rattle.pep508_marker_text.specs.Saying.{Clause, Saying, left_out, star_out, exclusion, lower_terms}
+use Rattle.pep508_marker_text.specs.Saying.{upper_terms, single_or_bounds, interval_clause, one_or_intervals}
+use Rattle.pep508_marker_text.specs.Saying.{set_clauses}
 use Rattle.pep508_marker_text.specs.Simplified.{sifted, is_needless, shortened_behind, is_covered, simplified}
-use Rattle.pep508_marker_text.specs.Terms.{minor_between, version_term, version_saying, text_saying, set_term, unset_term}
+use Rattle.pep508_marker_text.specs.Terms.{minor_between, version_term, version_saying, text_saying, set_term}
+use Rattle.pep508_marker_text.specs.Terms.{unset_term}
 use Rattle.pep508_marker_text.proofs.Said.{GoodPoint, GoodBound, GoodInterval, left_good, intervals_good}
 use Rattle.pep508_marker_text.proofs.Speaking.{star_found}
 use Rattle.pep508_marker_text.proofs.Where.{GoodBoundary, GoodBranches, where_good, standing_all, firsts_all}
@@ -237,10 +245,6 @@ GoodQuestion versions texts flags (VersionBelow key b) = GoodBoundary versions b
 GoodQuestion versions texts flags (TextBelow key b) = GoodBoundary (texts key) b
 GoodQuestion versions texts flags (IsSet flag) = flags flag
 
-abbrev pub AllGood : (Question → Type 0) → Diagram Question → Type 0
-AllGood good (Leaf b) = Unit {0}
-AllGood good (Test q low high) = good q × AllGood good low × AllGood good high
-
 -- the terms that are made of good values meet a condition
 pub record AllSayingsFit (versions : VersionRecord → Type 0) (texts : MarkerValueString → List ℕ → Type 0)
     (flags : Flag → Type 0) (P : ExpressionRecord → Type 0) : Type 0 where
@@ -294,7 +298,7 @@ module _ {versions : VersionRecord → Type 0} {texts : MarkerValueString → Li
   texts_edges key b low walk (Flagged flag set unset) fits h k e = ((fits, tt), (h, k))
 
   -- all terms in a walk meet the condition
-  pub walk_meets : (d : Diagram Question) → AllGood (GoodQuestion versions texts flags) d →
+  pub walk_meets : (d : Diagram Question) → AllQuestions (GoodQuestion versions texts flags) d →
       Fit (walk_of d).part × AllEdgesFit (walk_of d).edges
   walk_meets (Leaf true) r = ((tt, tt), tt)
   walk_meets (Leaf false) r = (tt, tt)
@@ -418,7 +422,7 @@ asks_well (TextBelow key (boundary.At text)) h = tt
 asks_well (TextBelow key (boundary.JustAbove text)) h = tt
 asks_well (IsSet flag) h = tt
 
-all_well : (d : Diagram Question) → HasReleasesAlone d → AllGood AsksWell d
+all_well : (d : Diagram Question) → HasReleasesAlone d → AllQuestions AsksWell d
 all_well (Leaf b) r = tt
 all_well (Test q low high) r = (asks_well q r.0, all_well low r.1, all_well high r.2)
 

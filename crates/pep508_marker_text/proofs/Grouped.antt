@@ -1,5 +1,6 @@
 -- The clauses of edges hold where those of what stands at the variable's point do.
-use Rattle.std.proofs.Common.{◌≡◌, Bool, true, false, ◌&&◌, ◌||◌, List, [], ◌∷◌, ◌++◌, map, inl, inr, refl, sym, ap, ◌∙◌}
+use Rattle.std.proofs.Common.{◌≡◌, Bool, true, false, ◌&&◌, ◌||◌, List, [], ◌∷◌, ◌++◌, map, inl, inr, refl}
+use Rattle.std.proofs.Common.{sym, ap, ◌∙◌}
 use Rattle.std.proofs.lemmas.Bool.{cases_Bool}
 use Rattle.std.specs.List.{AllByRecursion, list_all, list_any, flat_map}
 use Rattle.std.proofs.lemmas.List.Folds.{list_all-append, list_any-append}
@@ -15,7 +16,8 @@ use Rattle.pep508_marker_text.specs.Saying.{Clause, Saying, set_clauses}
 use Rattle.pep508_marker_text.specs.Truth.{one_holds}
 use Rattle.pep508_marker_text.proofs.Said.{Says, set_means}
 use Rattle.pep508_marker_text.proofs.SameDiagrams.{same_itself, same_on, same_truth}
-use Rattle.pep508_marker_text.proofs.Where.{GoodBranches, where_held, where_rises, where_good, child_in, standing_all, firsts_all, firsts_have}
+use Rattle.pep508_marker_text.proofs.Where.{GoodBranches, where_held, where_rises, where_good, child_in}
+use Rattle.pep508_marker_text.proofs.Where.{standing_all, firsts_all, firsts_have}
 
 -- ---- truths
 

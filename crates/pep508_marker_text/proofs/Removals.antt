@@ -1,9 +1,11 @@
 -- Each removal of a needless term, and of a covered clause, keeps the meaning of the disjunction.
-use Rattle.std.proofs.Common.{◌≡◌, Bool, true, false, not, ◌&&◌, ◌||◌, cond, List, [], ◌∷◌, ◌++◌, refl, sym, ap, ◌∙◌, ◌⊎◌, inl, inr, true≢false}
+use Rattle.std.proofs.Common.{◌≡◌, Bool, true, false, not, ◌&&◌, ◌||◌, cond, List, [], ◌∷◌, ◌++◌, refl, sym}
+use Rattle.std.proofs.Common.{ap, ◌∙◌, ◌⊎◌, inl, inr, true≢false}
 use Rattle.std.specs.List.{list_all, list_any}
 use Rattle.std.proofs.lemmas.List.{append_assoc, append-nil}
 use Rattle.std.proofs.lemmas.List.Folds.{list_all-append, list_any-append}
-use Rattle.pep508_marker_text.specs.Simplified.{sifted, has_some, stands_in, spares, is_needless, shortened_behind, is_covered, simplified}
+use Rattle.pep508_marker_text.specs.Simplified.{sifted, has_some, stands_in, spares, is_needless}
+use Rattle.pep508_marker_text.specs.Simplified.{shortened_behind, is_covered, simplified}
 use Rattle.pep508_marker_text.specs.Truth.{one_holds, IsTruth}
 
 -- ---- truths

@@ -1,5 +1,6 @@
 -- The clauses of a set of points hold where the set holds the point of the key's value.
-use Rattle.std.proofs.Common.{◌≡◌, Bool, true, false, not, ◌&&◌, ◌||◌, if◌then◌else◌, List, [], ◌∷◌, map, Option, Some, None, refl, sym, ap, subst, ◌∙◌}
+use Rattle.std.proofs.Common.{◌≡◌, Bool, true, false, not, ◌&&◌, ◌||◌, if◌then◌else◌, List, [], ◌∷◌, map}
+use Rattle.std.proofs.Common.{Option, Some, None, refl, sym, ap, subst, ◌∙◌}
 use Rattle.std.specs.List.{list_all, list_any, AllByRecursion}
 use Rattle.std.specs.Option.{option_or, option_map}
 use Rattle.std.specs.Ordering.{eq_by_cmp, is_eq, is_gt, ordering_reverse}
@@ -9,14 +10,17 @@ use Rattle.std.specs.declared.cmp.Ordering.TheVariants.{Less, Equal, Greater}
 use Rattle.std.specs.declared.ops.Bound.{Bound}
 use Rattle.std.specs.declared.ops.Bound.TheVariants.{Included, Excluded, Unbounded}
 use Rattle.std.proofs.lemmas.List.Folds.{list_all-append}
-use Rattle.version_ranges.specs.Bounds.{starts_by, goes_on_to, is_within, lower_bound_at, upper_bound_at, intervals}
+use Rattle.version_ranges.specs.Bounds.{starts_by, goes_on_to, is_within, lower_bound_at, upper_bound_at}
+use Rattle.version_ranges.specs.Bounds.{intervals}
 use Rattle.version_ranges.specs.OrderLaws.{points_total}
 use Rattle.version_ranges.specs.Point.{Point, BelowAll, At, JustAbove, point_cmp}
 use Rattle.version_ranges.specs.Turns.{is_held, Rising}
 use Rattle.version_ranges.proofs.Reading.{held_in_intervals}
 use Rattle.pep508_marker.specs.Expression.{ExpressionRecord}
 use Rattle.pep508_diagram.proofs.Places.{equal_from}
-use Rattle.pep508_marker_text.specs.Saying.{Clause, Saying, left_out, star_out, exclusion, lower_terms, upper_terms, single_or_bounds, interval_clause, one_or_intervals, set_clauses}
+use Rattle.pep508_marker_text.specs.Saying.{Clause, Saying, left_out, star_out, exclusion, lower_terms}
+use Rattle.pep508_marker_text.specs.Saying.{upper_terms, single_or_bounds, interval_clause, one_or_intervals}
+use Rattle.pep508_marker_text.specs.Saying.{set_clauses}
 use Rattle.pep508_marker_text.specs.Truth.{one_holds}
 
 -- each comparison with a value that is good holds as its operator says of a point

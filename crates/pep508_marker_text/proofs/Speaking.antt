@@ -1,6 +1,7 @@
 -- The comparisons of clauses say where the values of keys lie. Where a comparison's number can't be raised it is
 -- given a truth here, so that negations negate there too; no clause has such a comparison.
-use Rattle.std.proofs.Common.{◌≡◌, ℕ, Bool, true, false, not, ◌&&◌, cond, List, Option, Some, None, refl, sym, ap, ◌∙◌}
+use Rattle.std.proofs.Common.{◌≡◌, ℕ, Bool, true, false, not, ◌&&◌, cond, List, Option, Some, None, refl, sym}
+use Rattle.std.proofs.Common.{ap, ◌∙◌}
 use Rattle.std.specs.Option.{option_map, is_some}
 use Rattle.std.specs.Ordering.{is_gt}
 use Rattle.std.specs.Cmp.Lexicographic.{nat_list_cmp_total}
@@ -12,7 +13,8 @@ use Rattle.pep440_text.specs.Record.{VersionRecord, release_record}
 use Rattle.pep440_version.specs.Order.{version_cmp, version_eq}
 use Rattle.pep440_version.specs.OrderLaws.{version_cmp_total}
 use Rattle.pep440_specifier.specs.Bounds.{next_minor, equals_release}
-use Rattle.pep440_range.specs.Ranges.{PointTest, at_version, from_bound, to_bound, all_but, release_range_by, star_releases}
+use Rattle.pep440_range.specs.Ranges.{PointTest, at_version, from_bound, to_bound, all_but, release_range_by}
+use Rattle.pep440_range.specs.Ranges.{star_releases}
 use Rattle.pep440_range.proofs.Intervals.{minor_range}
 use Rattle.pep440_operator.specs.declared.operator.Operator.{Operator}
 use Rattle.pep440_operator.specs.declared.operator.Operator.TheVariants as versions
@@ -22,14 +24,17 @@ use Rattle.pep508_marker.specs.declared.keys.MarkerValueString.{MarkerValueStrin
 use Rattle.pep508_marker.specs.Expression.{ExpressionRecord, Version, VersionIn, String, Extra}
 use Rattle.pep508_comparison.specs.Comparisons.{python_points_by, compared_numbers}
 use Rattle.pep508_diagram.specs.declared.variable.VersionVariable.{VersionVariable}
-use Rattle.pep508_diagram.specs.declared.variable.VersionVariable.TheVariants.{ImplementationVersion, PythonFullVersion}
+use Rattle.pep508_diagram.specs.declared.variable.VersionVariable.TheVariants.{ImplementationVersion}
+use Rattle.pep508_diagram.specs.declared.variable.VersionVariable.TheVariants.{PythonFullVersion}
 use Rattle.pep508_diagram.specs.declared.variable.Flag.{Flag}
 use Rattle.pep508_diagram.specs.declared.variable.Flag.TheVariants as flag
 use Rattle.pep508_diagram.specs.Question.{Valuation}
 use Rattle.pep508_diagram.proofs.Places.{equal_from}
-use Rattle.pep508_expression.specs.Expressions.{variable_of, text_holds, extra_holds, expression_holds, has_points, or_nowhere}
+use Rattle.pep508_expression.specs.Expressions.{variable_of, text_holds, extra_holds, expression_holds}
+use Rattle.pep508_expression.specs.Expressions.{has_points, or_nowhere}
 use Rattle.pep508_marker_text.specs.ReleaseBounds.{IsPlainRelease}
-use Rattle.pep508_marker_text.specs.Terms.{two_numbers, is_minor_of, kept_where, minor_between, version_term, version_saying, text_saying, set_term, unset_term}
+use Rattle.pep508_marker_text.specs.Terms.{two_numbers, is_minor_of, kept_where, minor_between, version_term}
+use Rattle.pep508_marker_text.specs.Terms.{version_saying, text_saying, set_term, unset_term}
 use Rattle.pep508_marker_text.proofs.Removals.{both}
 use Rattle.pep508_marker_text.proofs.Said.{Says}
 use Rattle.pep508_marker_text.proofs.Walks.{Speaks}

@@ -1,5 +1,6 @@
 -- Equal versions in their shortest spelling are the same, and so are diagrams that are one.
-use Rattle.std.proofs.Common.{◌≡◌, ◌∙◌, ℕ, ◌==◌, cond, if◌then◌else◌, List, [], ◌∷◌, map, refl, ap, ap₂, sym, arith, Option, Some, None, Less, Equal, Greater}
+use Rattle.std.proofs.Common.{◌≡◌, ◌∙◌, ℕ, ◌==◌, cond, if◌then◌else◌, List, [], ◌∷◌, map, refl, ap, ap₂, sym}
+use Rattle.std.proofs.Common.{arith, Option, Some, None, Less, Equal, Greater}
 use Rattle.std.specs.Ordering.{is_eq}
 use Rattle.std.specs.Cmp.Lexicographic.{slice_cmp}
 use Rattle.version_ranges.specs.declared.boundary.Boundary.{Boundary}
@@ -10,13 +11,17 @@ use Rattle.pep440_text.specs.declared.PrereleaseKind.{PrereleaseKind}
 use Rattle.pep440_text.specs.declared.PrereleaseKind.TheVariants.{Alpha, Beta, Rc}
 use Rattle.pep440_text.specs.Record.{Segment, Text, Number, VersionRecord}
 use Rattle.pep440_version.specs.Changes.{or_zero}
-use Rattle.pep440_version.specs.Order.{kind_rank, stripped, absent_first, absent_last, pre_key, post_key, segment_key, key_of, version_cmp}
+use Rattle.pep440_version.specs.Order.{kind_rank, stripped, absent_first, absent_last, pre_key, post_key}
+use Rattle.pep440_version.specs.Order.{segment_key, key_of, version_cmp}
 use Rattle.pep440_version.specs.OrderLaws.{key_decides}
 use Rattle.pep508_diagram.specs.Diagram.{Diagram, Leaf, Test}
-use Rattle.pep508_diagram.specs.Question.{Question, VersionBelow, TextBelow, IsSet, Valuation, truth, AreOne, IsCanonical, place_of, version_rank, text_rank, question_cmp}
+use Rattle.pep508_diagram.specs.Question.{Question, VersionBelow, TextBelow, IsSet, Valuation, truth, AreOne}
+use Rattle.pep508_diagram.specs.Question.{IsCanonical, place_of, version_rank, text_rank, question_cmp}
 use Rattle.pep508_diagram.specs.Shortened.{post_beside, shortest, IsShort, AsksOfShort, HasShortVersions}
 use Rattle.pep508_diagram.specs.Text.{text_cmp}
-use Rattle.pep508_diagram.proofs.Places.{not_less, both_equal, texts_same, versions_same, text_keys_same, version_rank_below, rank_below, flag_rank_from, flag_from_place}
+use Rattle.pep508_diagram.proofs.Places.{not_less, texts_same, versions_same, text_keys_same}
+use Rattle.version_ranges.specs.HashingLaws.{then_equal}
+use Rattle.pep508_diagram.proofs.Places.{version_rank_below, rank_below, flag_rank_from, flag_from_place}
 use Rattle.pep508_diagram.proofs.Questions.{one_marker_diagram}
 
 -- ---- parts of keys
@@ -154,58 +159,58 @@ boundaries_same : (a b : Boundary VersionRecord) → IsShort a → IsShort b →
     boundary_cmp version_cmp a b ≡ Equal → a ≡ b
 boundaries_same (boundary.At v) (boundary.At w) is other e = ap boundary.At (versions_spelled v w (ap version_in is) (ap version_in other) e)
 boundaries_same (boundary.At v) (boundary.JustAbove w) is other e =
-    absurd (not_less (sym (both_equal (version_cmp v w) Less e).1))
+    absurd (not_less (sym (then_equal (version_cmp v w) Less e).1))
 boundaries_same (boundary.JustAbove v) (boundary.At w) is other e =
-    let l : Greater ≡ Equal = (both_equal (version_cmp v w) Greater e).1 in absurd (cc)
+    let l : Greater ≡ Equal = (then_equal (version_cmp v w) Greater e).1 in absurd (cc)
 boundaries_same (boundary.JustAbove v) (boundary.JustAbove w) is other e =
     ap boundary.JustAbove (versions_spelled v w (ap version_in is) (ap version_in other) e)
 
 texts_at : (a b : Boundary (List ℕ)) → boundary_cmp text_cmp a b ≡ Equal → a ≡ b
 texts_at (boundary.At v) (boundary.At w) e = ap boundary.At (texts_same v w e)
-texts_at (boundary.At v) (boundary.JustAbove w) e = absurd (not_less (sym (both_equal (text_cmp v w) Less e).1))
+texts_at (boundary.At v) (boundary.JustAbove w) e = absurd (not_less (sym (then_equal (text_cmp v w) Less e).1))
 texts_at (boundary.JustAbove v) (boundary.At w) e =
-    let l : Greater ≡ Equal = (both_equal (text_cmp v w) Greater e).1 in absurd (cc)
+    let l : Greater ≡ Equal = (then_equal (text_cmp v w) Greater e).1 in absurd (cc)
 texts_at (boundary.JustAbove v) (boundary.JustAbove w) e = ap boundary.JustAbove (texts_same v w e)
 
 questions_same : (q r : Question) → AsksOfShort q → AsksOfShort r → question_cmp q r ≡ Equal → q ≡ r
 unfolding question_cmp
 questions_same (VersionBelow k a) (VersionBelow j b) is other e =
-    let parts = both_equal (text_cmp (version_rank k ∷ []) (version_rank j ∷ [])) _ e in
-    let inner = both_equal (slice_cmp (boundary_cmp version_cmp) (a ∷ []) (b ∷ [])) _ parts.1 in
+    let parts = then_equal (text_cmp (version_rank k ∷ []) (version_rank j ∷ [])) _ e in
+    let inner = then_equal (slice_cmp (boundary_cmp version_cmp) (a ∷ []) (b ∷ [])) _ parts.1 in
     ap₂ VersionBelow
     (versions_same k j (ap head (texts_same (version_rank k ∷ []) (version_rank j ∷ []) parts.0)))
-    (boundaries_same a b is other (both_equal (boundary_cmp version_cmp a b) _ inner.0).0)
+    (boundaries_same a b is other (then_equal (boundary_cmp version_cmp a b) _ inner.0).0)
 questions_same (VersionBelow k a) (TextBelow j b) is other e =
-    let parts = both_equal (text_cmp (version_rank k ∷ []) (text_rank j ∷ [])) _ e in
+    let parts = then_equal (text_cmp (version_rank k ∷ []) (text_rank j ∷ [])) _ e in
     let l = ap head (texts_same (version_rank k ∷ []) (text_rank j ∷ []) parts.0) in
     absurd (omega (arith, l, version_rank_below k))
 questions_same (VersionBelow k a) (IsSet g) is other e =
-    let parts = both_equal (text_cmp (version_rank k ∷ []) (place_of (IsSet g))) _ e in
+    let parts = then_equal (text_cmp (version_rank k ∷ []) (place_of (IsSet g))) _ e in
     let l = ap head (texts_same (version_rank k ∷ []) (place_of (IsSet g)) parts.0) in
     absurd (omega (arith, l, version_rank_below k, flag_rank_from g))
 questions_same (TextBelow k a) (VersionBelow j b) is other e =
-    let parts = both_equal (text_cmp (text_rank k ∷ []) (version_rank j ∷ [])) _ e in
+    let parts = then_equal (text_cmp (text_rank k ∷ []) (version_rank j ∷ [])) _ e in
     let l = ap head (texts_same (text_rank k ∷ []) (version_rank j ∷ []) parts.0) in
     absurd (omega (arith, l, version_rank_below j))
 questions_same (TextBelow k a) (TextBelow j b) is other e =
-    let parts = both_equal (text_cmp (text_rank k ∷ []) (text_rank j ∷ [])) _ e in
+    let parts = then_equal (text_cmp (text_rank k ∷ []) (text_rank j ∷ [])) _ e in
     let l = ap head (texts_same (text_rank k ∷ []) (text_rank j ∷ []) parts.0) in
     ap₂ TextBelow (text_keys_same k j (omega (arith, l)))
-    (texts_at a b (both_equal (boundary_cmp text_cmp a b) _ parts.1).0)
+    (texts_at a b (then_equal (boundary_cmp text_cmp a b) _ parts.1).0)
 questions_same (TextBelow k a) (IsSet g) is other e =
-    let parts = both_equal (text_cmp (text_rank k ∷ []) (place_of (IsSet g))) _ e in
+    let parts = then_equal (text_cmp (text_rank k ∷ []) (place_of (IsSet g))) _ e in
     let l = ap head (texts_same (text_rank k ∷ []) (place_of (IsSet g)) parts.0) in
     absurd (omega (arith, l, rank_below k, flag_rank_from g))
 questions_same (IsSet f) (VersionBelow j b) is other e =
-    let parts = both_equal (text_cmp (place_of (IsSet f)) (version_rank j ∷ [])) _ e in
+    let parts = then_equal (text_cmp (place_of (IsSet f)) (version_rank j ∷ [])) _ e in
     let l = ap head (texts_same (place_of (IsSet f)) (version_rank j ∷ []) parts.0) in
     absurd (omega (arith, l, version_rank_below j, flag_rank_from f))
 questions_same (IsSet f) (TextBelow j b) is other e =
-    let parts = both_equal (text_cmp (place_of (IsSet f)) (text_rank j ∷ [])) _ e in
+    let parts = then_equal (text_cmp (place_of (IsSet f)) (text_rank j ∷ [])) _ e in
     let l = ap head (texts_same (place_of (IsSet f)) (text_rank j ∷ []) parts.0) in
     absurd (omega (arith, l, rank_below j, flag_rank_from f))
 questions_same (IsSet f) (IsSet g) is other e =
-    ap IsSet (flag_from_place f g (both_equal (text_cmp (place_of (IsSet f)) (place_of (IsSet g))) _ e).0)
+    ap IsSet (flag_from_place f g (then_equal (text_cmp (place_of (IsSet f)) (place_of (IsSet g))) _ e).0)
 
 -- ---- diagrams
 

@@ -1,5 +1,6 @@
 -- The truth of comparisons is one: the same terms hold together, and negations negate.
-use Rattle.std.proofs.Common.{◌≡◌, ℕ, ◌==◌, Bool, true, false, not, cond, List, Option, Some, None, refl, sym, ap, ◌∙◌}
+use Rattle.std.proofs.Common.{◌≡◌, ℕ, ◌==◌, Bool, true, false, not, cond, List, Option, Some, None, refl, sym}
+use Rattle.std.proofs.Common.{ap, ◌∙◌}
 use Rattle.std.specs.Option.{option_map, option_map_or}
 use Rattle.std.specs.Ordering.{is_eq}
 use Rattle.std.specs.Cmp.{unsigned_Decides}
@@ -22,7 +23,10 @@ use Rattle.pep508_marker.specs.declared.keys.MarkerValueString.{MarkerValueStrin
 use Rattle.pep508_marker.specs.declared.operators.ExtraOperator.{ExtraOperator}
 use Rattle.pep508_marker.specs.declared.operators.ExtraOperator.TheVariants as extras
 use Rattle.pep508_marker.specs.declared.operators.MarkerOperator.{MarkerOperator}
-use Rattle.pep508_marker.specs.declared.operators.MarkerOperator.TheVariants.{Equal, NotEqual, GreaterThan, GreaterEqual, LessThan, LessEqual, TildeEqual, In, NotIn, Contains, NotContains}
+use Rattle.pep508_marker.specs.declared.operators.MarkerOperator.TheVariants.{Equal, NotEqual, GreaterThan}
+use Rattle.pep508_marker.specs.declared.operators.MarkerOperator.TheVariants.{GreaterEqual, LessThan}
+use Rattle.pep508_marker.specs.declared.operators.MarkerOperator.TheVariants.{LessEqual, TildeEqual, In}
+use Rattle.pep508_marker.specs.declared.operators.MarkerOperator.TheVariants.{NotIn, Contains, NotContains}
 use Rattle.pep508_marker.specs.Expression.{ExpressionRecord, Version, String, Extra}
 use Rattle.pep508_marker.specs.Keys.{version_key_rank, text_key_rank}
 use Rattle.pep508_marker.specs.Operators.{marker_negated, extra_negated}
@@ -32,7 +36,8 @@ use Rattle.pep508_diagram.specs.Question.{Valuation}
 use Rattle.pep508_diagram.specs.Text.{text_cmp}
 use Rattle.pep508_diagram.proofs.Places.{equal_from, texts_same, text_keys_same}
 use Rattle.pep508_expression.specs.Expressions.{variable_of, text_holds, extra_flag, extra_holds}
-use Rattle.pep508_marker_text.specs.SameTerms.{marker_operator_rank, extra_operator_rank, same_text, same_version, same_extra, same_term, opposite_term}
+use Rattle.pep508_marker_text.specs.SameTerms.{marker_operator_rank, extra_operator_rank, same_text}
+use Rattle.pep508_marker_text.specs.SameTerms.{same_version, same_extra, same_term, opposite_term}
 use Rattle.pep508_marker_text.specs.Truth.{IsTruth}
 use Rattle.pep508_marker_text.proofs.Removals.{both}
 use Rattle.pep508_marker_text.proofs.Speaking.{points_by, is_negative, totally, total_holds}

@@ -1,5 +1,6 @@
 -- The clauses of a diagram mean the diagram, where its versions are releases.
-use Rattle.std.proofs.Common.{◌≡◌, ℕ, ◌==◌, Bool, true, false, not, ◌&&◌, ◌||◌, cond, List, [], ◌∷◌, map, inl, inr, refl, sym, ap, subst, ◌∙◌}
+use Rattle.std.proofs.Common.{◌≡◌, ℕ, ◌==◌, Bool, true, false, not, ◌&&◌, ◌||◌, cond, List, [], ◌∷◌, map, inl}
+use Rattle.std.proofs.Common.{inr, refl, sym, ap, subst, ◌∙◌}
 use Rattle.std.proofs.lemmas.Bool.{cases_Bool}
 use Rattle.std.proofs.lemmas.List.Folds.{list_any-append}
 use Rattle.std.specs.List.{list_all}
@@ -23,13 +24,15 @@ use Rattle.pep508_diagram.specs.declared.variable.VersionVariable.{VersionVariab
 use Rattle.pep508_diagram.specs.declared.variable.Flag.{Flag}
 use Rattle.pep508_diagram.specs.Branches.{RisingBranches, branch_at, AllBranches}
 use Rattle.pep508_diagram.specs.Diagram.{Diagram, Leaf, Test, RootAfter}
-use Rattle.pep508_diagram.specs.Question.{Question, VersionBelow, TextBelow, IsSet, Valuation, version_rank, answer, marker, truth, IsCanonical}
+use Rattle.pep508_diagram.specs.Question.{Question, VersionBelow, TextBelow, IsSet, Valuation, version_rank}
+use Rattle.pep508_diagram.specs.Question.{answer, marker, truth, IsCanonical}
 use Rattle.pep508_diagram.specs.Text.{text_cmp}
 use Rattle.pep508_diagram.proofs.Branching.{Before, before_earlier}
 use Rattle.pep508_diagram.proofs.Chains.{versions_key, texts_key}
 use Rattle.pep508_diagram.proofs.Keyed.{IsKey}
 use Rattle.pep508_diagram.proofs.Places.{versions_same, text_keys_same}
-use Rattle.pep508_marker_text.specs.Clauses.{Part, Edges, NoEdges, Versions, Texts, Flagged, Walk, versions_from, texts_from, walk_of, clauses_of}
+use Rattle.pep508_marker_text.specs.Clauses.{Part, Edges, NoEdges, Versions, Texts, Flagged, Walk}
+use Rattle.pep508_marker_text.specs.Clauses.{versions_from, texts_from, walk_of, clauses_of}
 use Rattle.pep508_marker_text.specs.ReleaseBounds.{IsPlainRelease, StandsAtRelease, HasReleasesAlone}
 use Rattle.pep508_marker_text.specs.Saying.{Clause}
 use Rattle.pep508_marker_text.specs.Terms.{version_saying, text_saying, set_term, unset_term}

@@ -6,8 +6,9 @@ use Rattle.version_ranges.specs.declared.boundary.Boundary.{Boundary}
 use Rattle.version_ranges.specs.declared.boundary.Boundary.TheVariants.{At, JustAbove}
 use Rattle.pep440_text.specs.Record.{VersionRecord}
 use Rattle.pep440_specifier.specs.Bounds.{IsReleaseVersion}
-use Rattle.pep508_diagram.specs.Diagram.{Diagram, Leaf, Test}
+use Rattle.pep508_diagram.specs.Diagram.{Diagram}
 use Rattle.pep508_diagram.specs.Question.{Question, VersionBelow, TextBelow, IsSet}
+use Rattle.pep508_diagram.specs.Questions.{AllQuestions}
 
 -- a version of epoch 0 and release numbers alone, each of 64 bits
 abbrev pub IsPlainRelease : VersionRecord → Type 0
@@ -24,5 +25,4 @@ AsksOfReleases (IsSet flag) = Unit {0}
 
 -- no other version stands in a question of the diagram
 abbrev pub HasReleasesAlone : Diagram Question → Type 0
-HasReleasesAlone (Leaf b) = Unit {0}
-HasReleasesAlone (Test q low high) = AsksOfReleases q × HasReleasesAlone low × HasReleasesAlone high
+HasReleasesAlone = AllQuestions AsksOfReleases

@@ -1,4 +1,4 @@
-//! The answers.
+//! The answers. What is told of a question is written behind one text, so that no function below owns one.
 
 use crate::asked::asked as asked_of;
 use crate::environment::environment;
@@ -8,7 +8,7 @@ use crate::pairs::pair;
 use crate::question::{extras_from, text_at};
 use crate::reading::{expression, marker, unwarned, unwarned_expression};
 use crate::simplified::{present, within};
-use crate::stop::{Stop, said};
+use crate::stop::{Stop, Told, said};
 use crate::texts::{clauses, text_after, text_in, top_extra};
 use crate::views::view;
 use crate::{comparisons, members, shown};
@@ -18,115 +18,153 @@ use std::alloc::{AllocError, Global};
 
 /// The answer to a question, `no question` for another form.
 pub fn answer(alloc: Global, environments: &str, question: &str) -> Result<String, AllocError> {
-    let answer = match Value::from_str(alloc, question) {
-        Ok(question) => on_markers(alloc, environments, &question),
-        Err(error) if error.is_memory() => Err(Stop::Memory),
-        Err(_) => said(alloc, "no question"),
-    };
-    match answer {
-        Ok(text) => Ok(text),
-        Err(Stop::Said(text)) => Ok(text),
+    let mut answer = String::new(alloc);
+    told(alloc, &mut answer, environments, question)?;
+    Ok(answer)
+}
+
+fn told(
+    alloc: Global,
+    answer: &mut String,
+    environments: &str,
+    question: &str,
+) -> Result<(), AllocError> {
+    match Value::from_str(alloc, question) {
+        Ok(question) => on_markers(alloc, answer, environments, &question),
+        Err(error) if error.is_memory() => Err(AllocError),
+        Err(_) => answer.push_str("no question"),
+    }
+}
+
+fn on_markers(
+    alloc: Global,
+    answer: &mut String,
+    environments: &str,
+    question: &Value,
+) -> Result<(), AllocError> {
+    let mut interner = Interner::new(alloc);
+    match on_many(alloc, answer, &mut interner, environments, question) {
+        Ok(()) | Err(Stop::Told) => Ok(()),
         Err(Stop::Memory) => Err(AllocError),
     }
 }
 
-fn on_markers(alloc: Global, environments: &str, question: &Value) -> Result<String, Stop> {
-    let mut interner = Interner::new(alloc);
+/// The answer to a question on more than texts alone, or to one of another kind.
+fn on_many(
+    alloc: Global,
+    answer: &mut String,
+    interner: &mut Interner,
+    environments: &str,
+    question: &Value,
+) -> Told {
+    let text = text_at(question, 1);
     match text_at(question, 0) {
         "evaluate" | "collected" | "called" | "logged" | "silent" => {
-            evaluated(alloc, &mut interner, environments, question)
+            evaluated(alloc, answer, interner, environments, question)
         }
-        "extras" => on_extras(alloc, &mut interner, question),
-        "present" => on_present(alloc, &mut interner, question),
-        "keeps" => on_kept(alloc, &mut interner, environments, question),
+        "extras" => on_extras(alloc, answer, interner, question),
+        "present" => on_present(alloc, answer, interner, question),
+        "keeps" => on_kept(alloc, answer, interner, environments, question),
         "from value" => {
             let other = text_at(question, 2);
-            shown::from_value(alloc, &mut interner, question.get(1), other)
+            shown::from_value(alloc, answer, interner, question.get(1), other)
         }
-        "key of" => {
-            let key = text_at(question, 2);
-            members::key(alloc, environments, text_at(question, 1), key)
-        }
-        "member" => {
-            let name = text_at(question, 2);
-            members::member(alloc, environments, text_at(question, 1), name)
-        }
-        "with" => members::with(alloc, environments, question),
-        "built" => members::built(alloc, question),
-        _ => on_two(alloc, &mut interner, question),
+        "key of" => members::key(alloc, answer, environments, text, text_at(question, 2)),
+        "member" => members::member(alloc, answer, environments, text, text_at(question, 2)),
+        "with" => members::with(alloc, answer, environments, question),
+        "built" => members::built(alloc, answer, question),
+        _ => on_two(alloc, answer, interner, question),
     }
 }
 
 /// The answer to a question on two texts.
-fn on_two(alloc: Global, interner: &mut Interner, question: &Value) -> Result<String, Stop> {
+fn on_two(alloc: Global, answer: &mut String, interner: &mut Interner, question: &Value) -> Told {
     let (asked, text, other) = (
         text_at(question, 0),
         text_at(question, 1),
         text_at(question, 2),
     );
     match asked {
-        "same" | "disjoint" | "negation" => pair(alloc, interner, asked, text, other),
-        "unwarned" => unwarned(alloc, interner, text, other),
-        "text after" => text_after(alloc, interner, text, other),
-        "order" => shown::order(alloc, interner, text, other),
-        "side" => comparisons::side(alloc, text, other),
-        "bounds" => comparisons::bounds(alloc, text, other),
+        "same" | "disjoint" | "negation" => pair(alloc, answer, interner, asked, text, other),
+        "unwarned" => unwarned(alloc, answer, interner, text, other),
+        "text after" => text_after(alloc, answer, interner, text, other),
+        "order" => shown::order(alloc, answer, interner, text, other),
+        "side" => comparisons::side(alloc, answer, text, other),
+        "bounds" => comparisons::bounds(answer, text, other),
         "comparison" => {
-            comparisons::comparison(alloc, interner, text, other, text_at(question, 3))
+            let value = text_at(question, 3);
+            comparisons::comparison(alloc, answer, interner, text, other, value)
         }
         "simplified" | "complexified" => {
             let bounds = (text_at(question, 3), text_at(question, 4));
-            within(alloc, interner, asked, text, other, bounds)
+            within(alloc, answer, interner, asked, (text, other), bounds)
         }
-        _ => on_one(alloc, interner, asked, text),
+        _ => on_one(alloc, answer, interner, asked, text),
     }
 }
 
 /// The answer to a question on one text.
-fn on_one(alloc: Global, interner: &mut Interner, asked: &str, text: &str) -> Result<String, Stop> {
+fn on_one(
+    alloc: Global,
+    answer: &mut String,
+    interner: &mut Interner,
+    asked: &str,
+    text: &str,
+) -> Told {
     match asked {
-        "marker" => marker(alloc, interner, text),
-        "expression" => expression(alloc, text),
-        "unwarned expression" => unwarned_expression(alloc, text),
-        "view" => view(alloc, interner, text),
-        "text" => text_in(alloc, interner, text),
-        "top extra" => top_extra(alloc, interner, text),
-        "asked" => asked_of(alloc, interner, text),
-        "clauses" => clauses(alloc, interner, text),
-        "print" => shown::print(alloc, interner, text),
-        "print in part" => shown::print_in_part(alloc, interner, text),
-        "value" => shown::value(alloc, interner, text),
-        "contents" => shown::contents(alloc, interner, text),
-        "operator" => comparisons::operator(alloc, text),
-        "key" => comparisons::key(alloc, text),
-        "version" => members::version(alloc, text),
-        "environment value" => members::environment_value(alloc, text),
-        _ => said(alloc, "no question"),
+        "marker" => marker(alloc, answer, interner, text),
+        "expression" => expression(alloc, answer, text),
+        "unwarned expression" => unwarned_expression(alloc, answer, text),
+        "view" => view(alloc, answer, interner, text),
+        "text" => text_in(alloc, answer, interner, text),
+        "top extra" => top_extra(alloc, answer, interner, text),
+        "asked" => asked_of(alloc, answer, interner, text),
+        "clauses" => clauses(alloc, answer, interner, text),
+        "print" => shown::print(alloc, answer, interner, text),
+        "print in part" => shown::print_in_part(alloc, answer, interner, text),
+        "value" => shown::value(alloc, answer, interner, text),
+        "contents" => shown::contents(alloc, answer, interner, text),
+        "operator" => comparisons::operator(alloc, answer, text),
+        "key" => comparisons::key(alloc, answer, text),
+        "version" => members::version(alloc, answer, text),
+        "environment value" => members::environment_value(alloc, answer, text),
+        _ => said(answer, "no question"),
     }
 }
 
-fn on_extras(alloc: Global, interner: &mut Interner, question: &Value) -> Result<String, Stop> {
+fn on_extras(
+    alloc: Global,
+    answer: &mut String,
+    interner: &mut Interner,
+    question: &Value,
+) -> Told {
     let extras = extras_from(alloc, question, 2)?;
-    anywhere(alloc, interner, text_at(question, 1), &extras)
+    anywhere(alloc, answer, interner, text_at(question, 1), &extras)
 }
 
-fn on_present(alloc: Global, interner: &mut Interner, question: &Value) -> Result<String, Stop> {
+fn on_present(
+    alloc: Global,
+    answer: &mut String,
+    interner: &mut Interner,
+    question: &Value,
+) -> Told {
     let extras = extras_from(alloc, question, 3)?;
     let (text, other) = (text_at(question, 1), text_at(question, 2));
-    present(alloc, interner, text, other, &extras)
+    present(alloc, answer, interner, text, other, &extras)
 }
 
 fn on_kept(
     alloc: Global,
+    answer: &mut String,
     interner: &mut Interner,
     environments: &str,
     question: &Value,
-) -> Result<String, Stop> {
+) -> Told {
     let call = Call {
         left: text_at(question, 1),
         right: text_at(question, 2),
         made: text_at(question, 3),
     };
-    let environment = environment(alloc, environments, text_at(question, 4))?;
-    keeps(alloc, interner, &environment, &call)
+    let environment = environment(alloc, answer, environments, text_at(question, 4))?;
+    keeps(alloc, answer, interner, &environment, &call)
 }

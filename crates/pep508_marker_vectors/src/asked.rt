@@ -1,16 +1,16 @@
 //! What is asked of the questions of markers.
 
 use crate::reading::read;
-use crate::stop::{Stop, said};
+use crate::stop::{Told, said};
 use pep508_questions::{Asked, MarkerTreeQuestions};
 use pep508_tree::Interner;
 use std::alloc::Global;
 
 /// Of what kinds the questions of a marker's tree are.
-pub fn asked(alloc: Global, interner: &mut Interner, text: &str) -> Result<String, Stop> {
-    let tree = read(alloc, interner, text)?;
+pub fn asked(alloc: Global, answer: &mut String, interner: &mut Interner, text: &str) -> Told {
+    let tree = read(alloc, answer, interner, text)?;
     let asked = tree.asked(alloc, interner)?;
-    said(alloc, words(asked))
+    said(answer, words(asked))
 }
 
 fn words(asked: Asked) -> &'static str {

@@ -1,6 +1,6 @@
 //! The environments that questions name.
 
-use crate::stop::Stop;
+use crate::stop::{Stop, stop_behind};
 use pep508_environment::{EnvironmentError, EnvironmentMember, MarkerEnvironment};
 use serde_json::Value;
 use std::alloc::Global;
@@ -8,45 +8,51 @@ use std::alloc::Global;
 /// The environment of a name: what stands behind it, and a tab, in a line of a text.
 pub fn environment(
     alloc: Global,
+    answer: &mut String,
     environments: &str,
     name: &str,
 ) -> Result<MarkerEnvironment, Stop> {
     match line_of(environments, name) {
-        Some(text) => environment_of(alloc, text),
-        None => Err(Stop::saying(alloc, "no environment")),
+        Some(text) => environment_of(alloc, answer, text),
+        None => Err(stop_behind(answer.push_str("no environment"))),
     }
 }
 
 /// The environment of a JSON text.
-pub fn environment_of(alloc: Global, text: &str) -> Result<MarkerEnvironment, Stop> {
+pub fn environment_of(
+    alloc: Global,
+    answer: &mut String,
+    text: &str,
+) -> Result<MarkerEnvironment, Stop> {
     match Value::from_str(alloc, text) {
-        Ok(value) => environment_in(alloc, &value),
+        Ok(value) => environment_in(alloc, answer, &value),
         Err(error) if error.is_memory() => Err(Stop::Memory),
-        Err(_) => Err(Stop::saying(alloc, "no JSON")),
+        Err(_) => Err(stop_behind(answer.push_str("no JSON"))),
     }
 }
 
-fn environment_in(alloc: Global, value: &Value) -> Result<MarkerEnvironment, Stop> {
+fn environment_in(
+    alloc: Global,
+    answer: &mut String,
+    value: &Value,
+) -> Result<MarkerEnvironment, Stop> {
     match MarkerEnvironment::from_value(alloc, value) {
         Ok(environment) => Ok(environment),
-        Err(error) => Err(fault(alloc, error)),
+        Err(error) => Err(fault(answer, error)),
     }
 }
 
 /// What is wrong with an environment, with the name of the member at fault.
-fn fault(alloc: Global, error: EnvironmentError) -> Stop {
-    match error {
-        EnvironmentError::Memory => Stop::Memory,
-        EnvironmentError::Float => Stop::saying(alloc, "float"),
-        EnvironmentError::Shape => Stop::saying(alloc, "shape"),
+fn fault(answer: &mut String, error: EnvironmentError) -> Stop {
+    let words = match error {
+        EnvironmentError::Memory => return Stop::Memory,
+        EnvironmentError::Float => "float",
+        EnvironmentError::Shape => "shape",
         EnvironmentError::Member(member) | EnvironmentError::Version(member) => {
-            named(alloc, member)
+            EnvironmentMember::name(member)
         }
-    }
-}
-
-fn named(alloc: Global, member: EnvironmentMember) -> Stop {
-    Stop::saying(alloc, member.name())
+    };
+    stop_behind(answer.push_str(words))
 }
 
 fn line_of<'a>(environments: &'a str, name: &str) -> Option<&'a str> {

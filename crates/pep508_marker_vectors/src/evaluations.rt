@@ -6,8 +6,8 @@ use crate::environment::environment;
 use crate::noted::Noted;
 use crate::question::{extras_from, text_at};
 use crate::reading::read;
-use crate::stop::{Stop, answered, said, truth};
-use crate::told::{Told, push_warning};
+use crate::stop::{Told, answered, both, said, truth};
+use crate::warnings::{Warnings, push_warning};
 use pep508_environment::MarkerEnvironment;
 use pep508_evaluation::MarkerTreeEvaluation;
 use pep508_marker::{ClosureReporter, MarkerWarningKind, Silent, TracingReporter};
@@ -26,48 +26,79 @@ pub struct Place<'a> {
 /// The answer to a question on a marker in an environment with extras, which stand from the fourth place on.
 pub fn evaluated(
     alloc: Global,
+    answer: &mut String,
     interner: &mut Interner,
     environments: &str,
     question: &Value,
-) -> Result<String, Stop> {
-    let environment = environment(alloc, environments, text_at(question, 2))?;
-    evaluated_in(alloc, interner, &environment, question)
+) -> Told {
+    let environment = environment(alloc, answer, environments, text_at(question, 2))?;
+    evaluated_in(alloc, answer, interner, &environment, question)
 }
 
 fn evaluated_in(
     alloc: Global,
+    answer: &mut String,
     interner: &mut Interner,
     environment: &MarkerEnvironment,
     question: &Value,
-) -> Result<String, Stop> {
+) -> Told {
     let extras = extras_from(alloc, question, 3)?;
     let place = Place {
         environment,
         extras: &extras,
     };
-    let tree = read(alloc, interner, text_at(question, 1))?;
+    evaluated_at(alloc, answer, interner, &place, question)
+}
+
+fn evaluated_at(
+    alloc: Global,
+    answer: &mut String,
+    interner: &mut Interner,
+    place: &Place,
+    question: &Value,
+) -> Told {
+    let tree = read(alloc, answer, interner, text_at(question, 1))?;
     match text_at(question, 0) {
-        "evaluate" => told(alloc, interner, tree, &place),
-        "collected" => collected(alloc, interner, tree, &place),
-        "called" => called(alloc, interner, tree, &place),
-        "silent" => silent(alloc, interner, tree, &place),
-        _ => logged(alloc, interner, tree, &place),
+        "evaluate" => told(alloc, answer, interner, tree, place),
+        "collected" => collected(alloc, answer, interner, tree, place),
+        "called" => called(alloc, answer, interner, tree, place),
+        "silent" => silent(alloc, answer, interner, tree, place),
+        _ => logged(alloc, answer, interner, tree, place),
     }
 }
 
 /// Whether a marker holds, with the warnings that a reporter of this program's own is told.
-fn told(alloc: Global, interner: &Interner, tree: MarkerTree, place: &Place) -> Result<String, Stop>
+fn told(
+    alloc: Global,
+    answer: &mut String,
+    interner: &Interner,
+    tree: MarkerTree,
+    place: &Place,
+) -> Told
     requires { IsTree interner.now.nodes tree }
 {
-    let mut told = Told::new(alloc);
+    let mut warnings = Warnings::new(alloc);
     let (environment, extras) = (place.environment, place.extras);
-    let holds = tree.evaluate_reporter(alloc, interner, environment, extras, &mut told)?;
-    if holds != tree.evaluate(interner, environment, extras)
-        || holds != tree.evaluate_optional_environment(interner, Some(environment), extras)
-    {
-        return said(alloc, "two answers");
+    let holds = tree.evaluate_reporter(alloc, interner, environment, extras, &mut warnings)?;
+    both(
+        answer,
+        one_answer(interner, tree, place, holds),
+        &warnings.text,
+    )
+}
+
+/// The answer that each call gives, where all give the same.
+fn one_answer(interner: &Interner, tree: MarkerTree, place: &Place, holds: bool) -> &'static str
+    requires { IsTree interner.now.nodes tree }
+{
+    let (environment, extras) = (place.environment, place.extras);
+    let alone = tree.evaluate(interner, environment, extras);
+    let there = tree.evaluate_optional_environment(interner, Some(environment), extras);
+    if holds == alone && holds == there {
+        word(holds)
+    } else {
+        "two answers"
     }
-    told.behind(word(holds))
 }
 
 fn word(holds: bool) -> &'static str {
@@ -77,116 +108,107 @@ fn word(holds: bool) -> &'static str {
 /// The same with the warnings that are collected.
 fn collected(
     alloc: Global,
+    answer: &mut String,
     interner: &Interner,
     tree: MarkerTree,
     place: &Place,
-) -> Result<String, Stop>
+) -> Told
     requires { IsTree interner.now.nodes tree }
 {
-    let (holds, warnings) = tree.evaluate_collect_warnings(
-        alloc,
-        interner,
-        place.environment,
-        place.extras,
-    )?;
-    answered(listed(alloc, holds, &warnings))
+    let (environment, extras) = (place.environment, place.extras);
+    let (holds, warnings) = tree.evaluate_collect_warnings(alloc, interner, environment, extras)?;
+    answered(listed(answer, holds, &warnings))
 }
 
 fn listed(
-    alloc: Global,
+    answer: &mut String,
     holds: bool,
     warnings: &[(MarkerWarningKind, String)],
-) -> Result<String, AllocError> {
-    let mut text = String::from_str(alloc, word(holds))?;
+) -> Result<(), AllocError> {
+    answer.push_str(word(holds))?;
     for (kind, warning) in warnings.iter() {
-        push_warning(alloc, &mut text, *kind, warning)?;
+        push_warning(answer, *kind, warning)?;
     }
-    Ok(text)
+    Ok(())
 }
 
 /// The same with the warnings that a closure is called with.
 fn called(
     alloc: Global,
+    answer: &mut String,
     interner: &Interner,
     tree: MarkerTree,
     place: &Place,
-) -> Result<String, Stop>
+) -> Told
     requires { IsTree interner.now.nodes tree }
 {
     let mut text = String::new(alloc);
-    let holds = called_with(alloc, interner, tree, place, &mut text)?;
-    answered(format!(in alloc; "{holds}{text}"))
+    let holds = called_with(alloc, &mut text, interner, tree, place)?;
+    both(answer, word(holds), &text)
 }
 
 fn called_with(
     alloc: Global,
+    text: &mut String,
     interner: &Interner,
     tree: MarkerTree,
     place: &Place,
-    text: &mut String,
 ) -> Result<bool, AllocError>
     requires { IsTree interner.now.nodes tree }
 {
     let mut reporter = ClosureReporter::new(|kind: MarkerWarningKind, warning: String| {
-        push_warning(alloc, text, kind, warning.as_str())
+        push_warning(text, kind, warning.as_str())
     });
-    tree.evaluate_reporter(
-        alloc,
-        interner,
-        place.environment,
-        place.extras,
-        &mut reporter,
-    )
+    let (environment, extras) = (place.environment, place.extras);
+    tree.evaluate_reporter(alloc, interner, environment, extras, &mut reporter)
 }
 
 /// The same with the records of a log that the warnings are passed to.
 fn logged(
     alloc: Global,
+    answer: &mut String,
     interner: &Interner,
     tree: MarkerTree,
     place: &Place,
-) -> Result<String, Stop>
+) -> Told
     requires { IsTree interner.now.nodes tree }
 {
     let log = Noted::new(alloc);
     let mut reporter = TracingReporter::new(&log);
-    let holds = tree.evaluate_reporter(
-        alloc,
-        interner,
-        place.environment,
-        place.extras,
-        &mut reporter,
-    )?;
-    log.behind(word(holds))
+    let (environment, extras) = (place.environment, place.extras);
+    let holds = tree.evaluate_reporter(alloc, interner, environment, extras, &mut reporter)?;
+    log.tell(answer, word(holds))
 }
 
 /// Whether a marker holds, asked with a reporter that wants no warning.
 fn silent(
     alloc: Global,
+    answer: &mut String,
     interner: &Interner,
     tree: MarkerTree,
     place: &Place,
-) -> Result<String, Stop>
+) -> Told
     requires { IsTree interner.now.nodes tree }
 {
     let (environment, extras) = (place.environment, place.extras);
     let holds = tree.evaluate_reporter(alloc, interner, environment, extras, &mut Silent)?;
-    truth(alloc, holds)
+    truth(answer, holds)
 }
 
 /// Whether some environment with just these extras makes a marker hold.
 pub fn anywhere(
     alloc: Global,
+    answer: &mut String,
     interner: &mut Interner,
     text: &str,
     extras: &[ExtraName],
-) -> Result<String, Stop> {
-    let tree = read(alloc, interner, text)?;
+) -> Told {
+    let tree = read(alloc, answer, interner, text)?;
     let holds = tree.evaluate_extras(interner, extras);
     if holds != tree.evaluate_optional_environment(interner, None, extras)
         || holds != tree.evaluate_extras_and_python_version(interner, extras, &[])
     {
-        return said(alloc, "two answers");
+        return said(answer, "two answers");
     }
-    truth(alloc, holds)
+    truth(answer, holds)
 }

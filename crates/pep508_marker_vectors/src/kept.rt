@@ -4,13 +4,14 @@ ghost use Rattle.std.specs.Prelude.{IfOk};
 ghost use Rattle.pep508_tree.specs.Meaning.{IsTree, Extends};
 
 use crate::reading::read;
-use crate::stop::{Stop, answered};
+use crate::stop::{Stop, Told, stop_behind};
 use crate::texts::text_of;
 use pep508_environment::MarkerEnvironment;
 use pep508_evaluation::MarkerTreeEvaluation;
 use pep508_tree::{Interner, MarkerTree};
 use pep508_tree_laws::earlier_trees_keep;
 use std::alloc::{AllocError, Global};
+use std::fmt::Write;
 
 /// Two markers, and what is made of them: `and`, `or`, `forgotten`, which is `and` once more after the
 /// first one was forgotten, or a marker that is read beside them.
@@ -25,23 +26,25 @@ pub struct Call<'a> {
 /// refused memory it is made again; `lost` is the answer if the markers then hold otherwise.
 pub fn keeps(
     alloc: Global,
+    answer: &mut String,
     interner: &mut Interner,
     environment: &MarkerEnvironment,
     call: &Call,
-) -> Result<String, Stop> {
-    let left = read(alloc, interner, call.left)?;
-    let right = read(alloc, interner, call.right)?;
+) -> Told {
+    let left = read(alloc, answer, interner, call.left)?;
+    let right = read(alloc, answer, interner, call.right)?;
     earlier_trees_keep();
     let before = holding(interner, environment, left, right);
-    let tree = made_again(alloc, interner, environment, call.made, left, right)?;
+    let tree = made_again(alloc, answer, interner, environment, call.made, left, right)?;
     let after = holding(interner, environment, left, right);
-    let text = text_of(alloc, interner, tree)?;
-    answered(format!(in alloc; "{before}, {after}: {text}"))
+    write!(answer, "{before}, {after}: ")?;
+    text_of(alloc, answer, interner, tree)
 }
 
-/// The tree that a call makes, at the second attempt where the first is refused.
+/// The tree that a call makes, at the second attempt where the first is refused memory.
 fn made_again(
     alloc: Global,
+    answer: &mut String,
     interner: &mut Interner,
     environment: &MarkerEnvironment,
     call: &str,
@@ -55,13 +58,15 @@ fn made_again(
 {
     earlier_trees_keep();
     let before = holding(interner, environment, left, right);
-    match made(alloc, interner, call, left, right) {
+    match made(alloc, answer, interner, call, left, right) {
         Ok(tree) => Ok(tree),
-        Err(_) => {
+        Err(Stop::Told) => Err(Stop::Told),
+        Err(Stop::Memory) => {
+            answer.clear();
             if holding(interner, environment, left, right) != before {
-                return Err(Stop::saying(alloc, "lost"));
+                return Err(stop_behind(answer.push_str("lost")));
             }
-            made(alloc, interner, call, left, right)
+            made(alloc, answer, interner, call, left, right)
         }
     }
 }
@@ -88,6 +93,7 @@ fn holding(
 
 fn made(
     alloc: Global,
+    answer: &mut String,
     interner: &mut Interner,
     call: &str,
     left: MarkerTree,
@@ -102,7 +108,7 @@ fn made(
         "and" => left.and(alloc, interner, right),
         "or" => left.or(alloc, interner, right),
         "forgotten" => and_forgotten(alloc, interner, left, right),
-        text => return read(alloc, interner, text),
+        text => return read(alloc, answer, interner, text),
     };
     match tree {
         Ok(tree) => Ok(tree),

@@ -18,8 +18,8 @@ mod shown;
 mod simplified;
 mod stop;
 mod texts;
-mod told;
 mod views;
+mod warnings;
 
 use answers::answer;
 use std::{fs, io};

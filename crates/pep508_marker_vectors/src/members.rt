@@ -3,7 +3,7 @@
 use crate::comparisons::stopped;
 use crate::environment::{environment, environment_of};
 use crate::question::text_at;
-use crate::stop::{Stop, answered, said};
+use crate::stop::{Stop, Told, answered, put, said, stop_behind};
 use pep440_version::VersionParseError;
 use pep508_environment::{
     EnvironmentBuildError, MarkerEnvironment, MarkerEnvironmentBuilder, StringVersion,
@@ -12,38 +12,39 @@ use pep508_marker::MarkerValue;
 use read_outcome::FromValueError;
 use serde_json::Value;
 use std::alloc::{AllocError, Global};
+use std::fmt::Write;
 
 /// What an environment has for a key of a marker.
-pub fn key(alloc: Global, environments: &str, name: &str, key: &str) -> Result<String, Stop> {
-    let environment = environment(alloc, environments, name)?;
-    key_in(alloc, &environment, key)
+pub fn key(alloc: Global, answer: &mut String, environments: &str, name: &str, key: &str) -> Told {
+    let environment = environment(alloc, answer, environments, name)?;
+    key_in(alloc, answer, &environment, key)
 }
 
-fn key_in(alloc: Global, environment: &MarkerEnvironment, key: &str) -> Result<String, Stop> {
+fn key_in(alloc: Global, answer: &mut String, environment: &MarkerEnvironment, key: &str) -> Told {
     match MarkerValue::from_str(alloc, key) {
-        Ok(value) => read_by(alloc, environment, &value),
-        Err(error) => Err(stopped(error)),
+        Ok(value) => read_by(answer, environment, &value),
+        Err(error) => Err(stopped(answer, &error)),
     }
 }
 
-fn read_by(
-    alloc: Global,
-    environment: &MarkerEnvironment,
-    key: &MarkerValue,
-) -> Result<String, Stop> {
+fn read_by(answer: &mut String, environment: &MarkerEnvironment, key: &MarkerValue) -> Told {
     match key {
-        MarkerValue::MarkerEnvVersion(key) => {
-            answered(environment.get_version(*key).to_string(alloc))
-        }
-        MarkerValue::MarkerEnvString(key) => said(alloc, environment.get_string(*key)),
-        _ => said(alloc, "no key"),
+        MarkerValue::MarkerEnvVersion(key) => put(answer, environment.get_version(*key)),
+        MarkerValue::MarkerEnvString(key) => said(answer, environment.get_string(*key)),
+        _ => said(answer, "no key"),
     }
 }
 
 /// The text that an environment has under a name.
-pub fn member(alloc: Global, environments: &str, name: &str, member: &str) -> Result<String, Stop> {
-    let environment = environment(alloc, environments, name)?;
-    said(alloc, text_under(&environment, member))
+pub fn member(
+    alloc: Global,
+    answer: &mut String,
+    environments: &str,
+    name: &str,
+    member: &str,
+) -> Told {
+    let environment = environment(alloc, answer, environments, name)?;
+    said(answer, text_under(&environment, member))
 }
 
 fn text_under<'a>(environment: &'a MarkerEnvironment, member: &str) -> &'a str {
@@ -64,15 +65,25 @@ fn text_under<'a>(environment: &'a MarkerEnvironment, member: &str) -> &'a str {
 }
 
 /// The value of an environment with another text as one member.
-pub fn with(alloc: Global, environments: &str, question: &Value) -> Result<String, Stop> {
-    let environment = environment(alloc, environments, text_at(question, 1))?;
+pub fn with(alloc: Global, answer: &mut String, environments: &str, question: &Value) -> Told {
+    let environment = environment(alloc, answer, environments, text_at(question, 1))?;
     let (name, text) = (text_at(question, 2), text_at(question, 3));
+    let changed = changed(alloc, answer, environment, name, text)?;
+    printed(alloc, answer, &changed)
+}
+
+fn changed(
+    alloc: Global,
+    answer: &mut String,
+    environment: MarkerEnvironment,
+    name: &str,
+    text: &str,
+) -> Result<MarkerEnvironment, Stop> {
     if name.ends_with("version") && name != "platform_version" {
-        let value = string_version(alloc, text)?;
-        printed(alloc, &with_version(environment, name, value))
+        let version = string_version(alloc, answer, text)?;
+        Ok(with_version(environment, name, version))
     } else {
-        let value = String::from_str(alloc, text)?;
-        printed(alloc, &with_text(environment, name, value))
+        Ok(with_text(environment, name, String::from_str(alloc, text)?))
     }
 }
 
@@ -101,13 +112,13 @@ fn with_text(environment: MarkerEnvironment, name: &str, value: String) -> Marke
     }
 }
 
-fn printed(alloc: Global, environment: &MarkerEnvironment) -> Result<String, Stop> {
+fn printed(alloc: Global, answer: &mut String, environment: &MarkerEnvironment) -> Told {
     let value = environment.to_value(alloc)?;
-    answered(value.to_string(alloc))
+    put(answer, &value)
 }
 
 /// The value of the environment that is built of the texts of a question, in the order of members.
-pub fn built(alloc: Global, question: &Value) -> Result<String, Stop> {
+pub fn built(alloc: Global, answer: &mut String, question: &Value) -> Told {
     let builder = MarkerEnvironmentBuilder {
         implementation_name: text_at(question, 1),
         implementation_version: text_at(question, 2),
@@ -122,45 +133,48 @@ pub fn built(alloc: Global, question: &Value) -> Result<String, Stop> {
         sys_platform: text_at(question, 11),
     };
     match MarkerEnvironment::try_from(alloc, builder) {
-        Ok(environment) => printed(alloc, &environment),
-        Err(EnvironmentBuildError::Memory) => Err(Stop::Memory),
-        Err(EnvironmentBuildError::Version(key, error)) => {
+        Ok(environment) => printed(alloc, answer, &environment),
+        Err(error) => not_built(answer, &error),
+    }
+}
+
+fn not_built(answer: &mut String, error: &EnvironmentBuildError) -> Told {
+    match error {
+        EnvironmentBuildError::Memory => Err(Stop::Memory),
+        EnvironmentBuildError::Version(key, error) => {
             let name = key.name();
-            answered(format!(in alloc; "{name}: {error}"))
+            answered(write!(answer, "{name}: {error}"))
         }
     }
 }
 
 /// The member that is wrong in a JSON value, or the value again.
-pub fn environment_value(alloc: Global, text: &str) -> Result<String, Stop> {
-    let environment = environment_of(alloc, text)?;
-    printed(alloc, &environment)
+pub fn environment_value(alloc: Global, answer: &mut String, text: &str) -> Told {
+    let environment = environment_of(alloc, answer, text)?;
+    printed(alloc, answer, &environment)
 }
 
-fn string_version(alloc: Global, text: &str) -> Result<StringVersion, Stop> {
+fn string_version(alloc: Global, answer: &mut String, text: &str) -> Result<StringVersion, Stop> {
     match StringVersion::from_str(alloc, text) {
         Ok(version) => Ok(version),
         Err(VersionParseError::Memory) => Err(Stop::Memory),
-        Err(error) => Err(Stop::of(error.to_string(alloc))),
+        Err(error) => Err(stop_behind(write!(answer, "{error}"))),
     }
 }
 
 /// The print and the version of a text, the print of that version, and whether a copy and what is read of its
 /// value are equal.
-pub fn version(alloc: Global, text: &str) -> Result<String, Stop> {
-    let read = string_version(alloc, text)?;
-    shown(alloc, &read)
+pub fn version(alloc: Global, answer: &mut String, text: &str) -> Told {
+    let read = string_version(alloc, answer, text)?;
+    version_shown(alloc, answer, &read)
 }
 
-fn shown(alloc: Global, read: &StringVersion) -> Result<String, Stop> {
-    let is_copied = is_copied(alloc, read)?;
+fn version_shown(alloc: Global, answer: &mut String, read: &StringVersion) -> Told {
+    write!(answer, "{read} is ")?;
+    put(answer, &plain(alloc, read)?)?;
+    let is_copied = read.try_clone(alloc)? == *read;
     let is_read = is_read_back(alloc, read)?;
-    let plain = plain(alloc, read)?;
-    answered(format!(in alloc; "{read} is {plain}, copied {is_copied}, read back {is_read}"))
-}
-
-fn is_copied(alloc: Global, version: &StringVersion) -> Result<bool, AllocError> {
-    Ok(version.try_clone(alloc)? == *version)
+    answered(write!(answer, ", copied {is_copied}, read back {is_read}"))
 }
 
 fn plain(alloc: Global, version: &StringVersion) -> Result<StringVersion, AllocError> {

@@ -1,6 +1,6 @@
 //! A log that keeps its records.
 
-use crate::stop::{Stop, answered};
+use crate::stop::{Stop, Told, both};
 use log::kv::Source;
 use log::span::Spans;
 use log::{Log, Metadata, Record};
@@ -27,13 +27,12 @@ impl Noted {
     }
 
     /// A text with the records behind it.
-    pub fn behind(self, front: &str) -> Result<String, Stop> {
+    pub fn tell(self, answer: &mut String, front: &str) -> Told {
         if !self.is_whole.get() {
             return Err(Stop::Memory);
         }
-        let Noted { alloc, text, .. } = self;
-        let records = text.into_inner();
-        answered(format!(in alloc; "{front}{records}"))
+        let records = self.text.into_inner();
+        both(answer, front, &records)
     }
 
     fn note<D: Display, K: Source, S: Spans>(

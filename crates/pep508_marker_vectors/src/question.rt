@@ -1,9 +1,8 @@
 //! What stands in a question.
 
-use crate::stop::Stop;
 use pep508_name::{ExtraName, InvalidNameError};
 use serde_json::Value;
-use std::alloc::Global;
+use std::alloc::{AllocError, Global};
 
 /// The text at a place of a list, empty where there is none.
 pub fn text_at(question: &Value, place: usize) -> &str {
@@ -11,7 +10,11 @@ pub fn text_at(question: &Value, place: usize) -> &str {
 }
 
 /// The extras whose names stand from a place on; a text that is no name is left out.
-pub fn extras_from(alloc: Global, question: &Value, first: usize) -> Result<Vec<ExtraName>, Stop> {
+pub fn extras_from(
+    alloc: Global,
+    question: &Value,
+    first: usize,
+) -> Result<Vec<ExtraName>, AllocError> {
     let mut extras = Vec::new(alloc);
     if let Some(texts) = question.as_array() {
         for text in texts.iter().skip(first) {
@@ -21,13 +24,10 @@ pub fn extras_from(alloc: Global, question: &Value, first: usize) -> Result<Vec<
     Ok(extras)
 }
 
-fn push_extra(alloc: Global, extras: &mut Vec<ExtraName>, text: &str) -> Result<(), Stop> {
+fn push_extra(alloc: Global, extras: &mut Vec<ExtraName>, text: &str) -> Result<(), AllocError> {
     match ExtraName::from_str(alloc, text) {
-        Ok(extra) => match extras.push(extra) {
-            Ok(()) => Ok(()),
-            Err(_) => Err(Stop::Memory),
-        },
-        Err(InvalidNameError::Memory) => Err(Stop::Memory),
+        Ok(extra) => Ok(extras.push(extra)?),
+        Err(InvalidNameError::Memory) => Err(AllocError),
         Err(InvalidNameError::InvalidName(_)) => Ok(()),
     }
 }

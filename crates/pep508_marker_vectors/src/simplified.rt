@@ -3,7 +3,7 @@
 ghost use Rattle.pep508_tree.specs.Meaning.{IsTree, Extends};
 
 use crate::reading::read;
-use crate::stop::{Stop, said, truth};
+use crate::stop::{Stop, Told, said, stop_behind, truth};
 use pep440_version::{Version, VersionParseError};
 use pep508_name::ExtraName;
 use pep508_simplification::MarkerTreeSimplification;
@@ -13,21 +13,21 @@ use std::alloc::{AllocError, Global};
 use std::ops::Bound;
 
 /// The version of a text, which has to be one.
-fn version(alloc: Global, text: &str) -> Result<Version, Stop> {
+fn version(alloc: Global, answer: &mut String, text: &str) -> Result<Version, Stop> {
     match Version::from_str(alloc, text) {
         Ok(version) => Ok(version),
         Err(VersionParseError::Memory) => Err(Stop::Memory),
-        Err(_) => Err(Stop::saying(alloc, "no version")),
+        Err(_) => Err(stop_behind(answer.push_str("no version"))),
     }
 }
 
 /// A bound, which a bracket includes in the range and a parenthesis leaves out.
-fn bound(alloc: Global, text: &str) -> Result<Bound<Version>, Stop> {
+fn bound(alloc: Global, answer: &mut String, text: &str) -> Result<Bound<Version>, Stop> {
     if let Some(text) = text.strip_prefix('[') {
-        return Ok(Bound::Included(version(alloc, text)?));
+        return Ok(Bound::Included(version(alloc, answer, text)?));
     }
     if let Some(text) = text.strip_prefix('(') {
-        return Ok(Bound::Excluded(version(alloc, text)?));
+        return Ok(Bound::Excluded(version(alloc, answer, text)?));
     }
     Ok(Bound::Unbounded)
 }
@@ -55,29 +55,42 @@ fn made(
 /// another.
 pub fn within(
     alloc: Global,
+    answer: &mut String,
     interner: &mut Interner,
     asked: &str,
-    text: &str,
-    other: &str,
-    bounds: (&str, &str),
-) -> Result<String, Stop> {
-    let lower = bound(alloc, bounds.0)?;
-    let upper = bound(alloc, bounds.1)?;
-    let tree = read(alloc, interner, text)?;
-    let tree = made(alloc, interner, asked, tree, &lower, &upper)?;
-    let other = read(alloc, interner, other)?;
-    truth(alloc, tree == other)
+    texts: (&str, &str),
+    (lower, upper): (&str, &str),
+) -> Told {
+    let lower = bound(alloc, answer, lower)?;
+    let upper = bound(alloc, answer, upper)?;
+    within_bounds(alloc, answer, interner, asked, texts, &lower, &upper)
+}
+
+fn within_bounds(
+    alloc: Global,
+    answer: &mut String,
+    interner: &mut Interner,
+    asked: &str,
+    (text, other): (&str, &str),
+    lower: &Bound<Version>,
+    upper: &Bound<Version>,
+) -> Told {
+    let tree = read(alloc, answer, interner, text)?;
+    let tree = made(alloc, interner, asked, tree, lower, upper)?;
+    let other = read(alloc, answer, interner, other)?;
+    truth(answer, tree == other)
 }
 
 /// Whether a marker is one tree with another once extras are taken as present, listed or by a predicate.
 pub fn present(
     alloc: Global,
+    answer: &mut String,
     interner: &mut Interner,
     text: &str,
     other: &str,
     extras: &[ExtraName],
-) -> Result<String, Stop> {
-    let read_tree = read(alloc, interner, text)?;
+) -> Told {
+    let read_tree = read(alloc, answer, interner, text)?;
     let tree = read_tree.simplify_extras(alloc, interner, extras)?;
     earlier_trees_keep();
     let by_predicate = read_tree.simplify_extras_with(
@@ -86,8 +99,8 @@ pub fn present(
         |name| extras.contains(name),
     )?;
     if tree != by_predicate {
-        return said(alloc, "two answers");
+        return said(answer, "two answers");
     }
-    let other = read(alloc, interner, other)?;
-    truth(alloc, tree == other)
+    let other = read(alloc, answer, interner, other)?;
+    truth(answer, tree == other)
 }

@@ -1,27 +1,14 @@
-//! Why a question has another answer than it asks for.
+//! Why an answer ends before its question is answered, and what is written of answers.
 
-use std::alloc::{AllocError, Global};
+use std::alloc::AllocError;
+use std::fmt::{Display, Write};
 
-/// Want of memory, or what is answered in place: how a text is refused, or what is wrong with the question.
-#[derive(Drop)]
+/// Want of memory, or an answer that is told already: how a text is refused, or what is wrong with the
+/// question.
+#[derive(Clone, Copy)]
 pub enum Stop {
     Memory,
-    Said(String),
-}
-
-impl Stop {
-    /// A stop that is answered by this text.
-    pub fn saying(alloc: Global, text: &str) -> Stop {
-        Stop::of(String::from_str(alloc, text))
-    }
-
-    /// A stop that is answered by a text, if there was memory for it.
-    pub fn of(text: Result<String, AllocError>) -> Stop {
-        match text {
-            Ok(text) => Stop::Said(text),
-            Err(_) => Stop::Memory,
-        }
-    }
+    Told,
 }
 
 impl From<AllocError> for Stop {
@@ -30,20 +17,54 @@ impl From<AllocError> for Stop {
     }
 }
 
-/// An answer, if there was memory for it.
-pub fn answered(text: Result<String, AllocError>) -> Result<String, Stop> {
-    match text {
-        Ok(text) => Ok(text),
+/// Whether a question was answered to its end.
+pub type Told = Result<(), Stop>;
+
+/// The stop behind what was written, if there was memory for it.
+pub fn stop_behind(written: Result<(), AllocError>) -> Stop {
+    match written {
+        Ok(()) => Stop::Told,
+        Err(_) => Stop::Memory,
+    }
+}
+
+/// What was written, if there was memory for it.
+pub fn answered(written: Result<(), AllocError>) -> Told {
+    match written {
+        Ok(()) => Ok(()),
         Err(_) => Err(Stop::Memory),
     }
 }
 
 /// An answer of a few words.
-pub fn said(alloc: Global, text: &str) -> Result<String, Stop> {
-    answered(String::from_str(alloc, text))
+pub fn said(answer: &mut String, words: &str) -> Told {
+    answered(answer.push_str(words))
 }
 
 /// The answer yes or no.
-pub fn truth(alloc: Global, holds: bool) -> Result<String, Stop> {
-    said(alloc, if holds { "true" } else { "false" })
+pub fn truth(answer: &mut String, holds: bool) -> Told {
+    said(answer, if holds { "true" } else { "false" })
+}
+
+/// The print of a value.
+pub fn put<T: Display>(answer: &mut String, value: &T) -> Told {
+    answered(write!(answer, "{value}"))
+}
+
+/// The print of a value that may be absent, or these words.
+pub fn put_or<T: Display + Drop>(
+    answer: &mut String,
+    found: Result<Option<T>, AllocError>,
+    absent: &str,
+) -> Told {
+    match found {
+        Ok(Some(value)) => put(answer, &value),
+        Ok(None) => said(answer, absent),
+        Err(_) => Err(Stop::Memory),
+    }
+}
+
+/// Two texts, the one behind the other.
+pub fn both(answer: &mut String, front: &str, back: &str) -> Told {
+    answered(write!(answer, "{front}{back}"))
 }

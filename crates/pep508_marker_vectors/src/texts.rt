@@ -3,81 +3,65 @@
 ghost use Rattle.pep508_tree.specs.Meaning.{IsTree};
 
 use crate::reading::read;
-use crate::stop::{Stop, answered, said};
+use crate::stop::{Told, answered, put_or};
 use pep508_marker::MarkerExpression;
 use pep508_marker_dnf::MarkerTreeText;
 use pep508_tree::{Interner, MarkerTree};
 use std::alloc::{AllocError, Global};
+use std::fmt::Write;
 
 /// The text of a marker's tree, read where another marker was read before.
 pub fn text_after(
     alloc: Global,
+    answer: &mut String,
     interner: &mut Interner,
     earlier: &str,
     text: &str,
-) -> Result<String, Stop> {
-    read(alloc, interner, earlier)?;
-    text_in(alloc, interner, text)
+) -> Told {
+    read(alloc, answer, interner, earlier)?;
+    text_in(alloc, answer, interner, text)
 }
 
 /// The text of a marker's tree.
-pub fn text_in(alloc: Global, interner: &mut Interner, text: &str) -> Result<String, Stop> {
-    let tree = read(alloc, interner, text)?;
-    text_of(alloc, interner, tree)
+pub fn text_in(alloc: Global, answer: &mut String, interner: &mut Interner, text: &str) -> Told {
+    let tree = read(alloc, answer, interner, text)?;
+    text_of(alloc, answer, interner, tree)
 }
 
 /// The text of a tree, `no text` where it has none.
-pub fn text_of(alloc: Global, interner: &Interner, tree: MarkerTree) -> Result<String, Stop>
+pub fn text_of(alloc: Global, answer: &mut String, interner: &Interner, tree: MarkerTree) -> Told
     requires { IsTree interner.now.nodes tree }
 {
-    match tree.try_to_string(alloc, interner) {
-        Ok(Some(text)) => Ok(text),
-        Ok(None) => said(alloc, "no text"),
-        Err(_) => Err(Stop::Memory),
-    }
+    put_or(answer, tree.try_to_string(alloc, interner), "no text")
 }
 
 /// The extra that all clauses of a marker ask for.
-pub fn top_extra(alloc: Global, interner: &mut Interner, text: &str) -> Result<String, Stop> {
-    let tree = read(alloc, interner, text)?;
-    match tree.top_level_extra(alloc, interner) {
-        Ok(Some(extra)) => answered(extra.to_string(alloc)),
-        Ok(None) => said(alloc, "none"),
-        Err(_) => Err(Stop::Memory),
-    }
+pub fn top_extra(alloc: Global, answer: &mut String, interner: &mut Interner, text: &str) -> Told {
+    let tree = read(alloc, answer, interner, text)?;
+    put_or(answer, tree.top_level_extra(alloc, interner), "none")
 }
 
 /// The clauses of a marker, each in brackets.
-pub fn clauses(alloc: Global, interner: &mut Interner, text: &str) -> Result<String, Stop> {
-    let tree = read(alloc, interner, text)?;
+pub fn clauses(alloc: Global, answer: &mut String, interner: &mut Interner, text: &str) -> Told {
+    let tree = read(alloc, answer, interner, text)?;
     let clauses = tree.to_dnf(alloc, interner)?;
-    answered(shown(alloc, &clauses))
+    answered(push_clauses(answer, &clauses))
 }
 
-fn shown(alloc: Global, clauses: &[Vec<MarkerExpression>]) -> Result<String, AllocError> {
-    let mut text = String::from_str(alloc, "clauses:")?;
+fn push_clauses(answer: &mut String, clauses: &[Vec<MarkerExpression>]) -> Result<(), AllocError> {
+    answer.push_str("clauses:")?;
     for clause in clauses.iter() {
-        push_clause(alloc, &mut text, clause)?;
+        push_clause(answer, clause)?;
     }
-    Ok(text)
+    Ok(())
 }
 
-fn push_clause(
-    alloc: Global,
-    text: &mut String,
-    clause: &[MarkerExpression],
-) -> Result<(), AllocError> {
-    text.push_str(" (")?;
+fn push_clause(answer: &mut String, clause: &[MarkerExpression]) -> Result<(), AllocError> {
+    answer.push_str(" (")?;
     let mut mark = "";
     for term in clause.iter() {
-        text.push_str(mark)?;
-        push_term(alloc, text, term)?;
+        write!(answer, "{mark}{term}")?;
         mark = "; ";
     }
-    text.push(')')
-}
-
-fn push_term(alloc: Global, text: &mut String, term: &MarkerExpression) -> Result<(), AllocError> {
-    let term = term.to_string(alloc)?;
-    text.push_str(&term)
+    answer.push(')')
 }

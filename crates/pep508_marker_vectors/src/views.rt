@@ -1,55 +1,54 @@
 //! What a marker's tree asks first, and which subtree stands for each answer.
 
-ghost use Rattle.pep508_tree.specs.Meaning.{IsTree};
-
 use crate::reading::read;
-use crate::stop::{Stop, answered, said};
-use pep440_version::Version;
+use crate::stop::{Told, answered, said};
 use pep508_tree::{Interner, MarkerTree};
 use pep508_view::{
     ContainsMarkerTree, Edge, ExtraMarkerTree, InMarkerTree, MarkerExtra, MarkerTreeKind,
     MarkerTreeView, StringMarkerTree, VersionMarkerTree,
 };
 use std::alloc::{AllocError, Global};
-use std::fmt;
+use std::fmt::{Display, Write};
 use std::ops::Bound;
 
 /// The root of a marker's tree.
-pub fn view(alloc: Global, interner: &mut Interner, text: &str) -> Result<String, Stop> {
-    let tree = read(alloc, interner, text)?;
+pub fn view(alloc: Global, answer: &mut String, interner: &mut Interner, text: &str) -> Told {
+    let tree = read(alloc, answer, interner, text)?;
     match tree.kind(interner) {
-        MarkerTreeKind::True => said(alloc, "true"),
-        MarkerTreeKind::False => said(alloc, "false"),
-        MarkerTreeKind::Version(node) => answered(versions(alloc, &node)),
-        MarkerTreeKind::String(node) => answered(texts(alloc, &node)),
-        MarkerTreeKind::In(node) => answered(within(alloc, &node)),
-        MarkerTreeKind::Contains(node) => answered(containing(alloc, &node)),
-        MarkerTreeKind::Extra(node) => answered(extra(alloc, &node)),
+        MarkerTreeKind::True => said(answer, "true"),
+        MarkerTreeKind::False => said(answer, "false"),
+        MarkerTreeKind::Version(node) => answered(versions(answer, &node)),
+        MarkerTreeKind::String(node) => answered(texts(answer, &node)),
+        MarkerTreeKind::In(node) => answered(within(answer, &node)),
+        MarkerTreeKind::Contains(node) => answered(containing(answer, &node)),
+        MarkerTreeKind::Extra(node) => answered(extra(answer, &node)),
     }
 }
 
-fn within(alloc: Global, node: &InMarkerTree) -> Result<String, AllocError> {
+fn within(answer: &mut String, node: &InMarkerTree) -> Result<(), AllocError> {
     let (key, value) = (node.key(), node.value());
-    let (set, unset) = (subtree(node.edge(true)), subtree(node.edge(false)));
-    format!(in alloc; "{key:?} in '{value}'{{true {set}, false {unset}}}")
+    write!(answer, "{key:?} in '{value}'")?;
+    set_or_not(answer, node.edge(true), node.edge(false))
 }
 
-fn containing(alloc: Global, node: &ContainsMarkerTree) -> Result<String, AllocError> {
+fn containing(answer: &mut String, node: &ContainsMarkerTree) -> Result<(), AllocError> {
     let (key, value) = (node.key(), node.value());
-    let (set, unset) = (subtree(node.edge(true)), subtree(node.edge(false)));
-    format!(in alloc; "{key:?} contains '{value}'{{true {set}, false {unset}}}")
+    write!(answer, "{key:?} contains '{value}'")?;
+    set_or_not(answer, node.edge(true), node.edge(false))
 }
 
-fn extra(alloc: Global, node: &ExtraMarkerTree) -> Result<String, AllocError> {
-    let (set, unset) = (subtree(node.edge(true)), subtree(node.edge(false)));
+fn extra(answer: &mut String, node: &ExtraMarkerTree) -> Result<(), AllocError> {
     match node.name() {
-        MarkerExtra::Extra(name) => {
-            format!(in alloc; "extra '{name}'{{true {set}, false {unset}}}")
-        }
-        MarkerExtra::Arbitrary(name) => {
-            format!(in alloc; "extra arbitrary '{name}'{{true {set}, false {unset}}}")
-        }
+        MarkerExtra::Extra(name) => write!(answer, "extra '{name}'")?,
+        MarkerExtra::Arbitrary(name) => write!(answer, "extra arbitrary '{name}'")?,
     }
+    set_or_not(answer, node.edge(true), node.edge(false))
+}
+
+/// The subtrees where what is asked for is so, and where not.
+fn set_or_not(answer: &mut String, set: MarkerTree, unset: MarkerTree) -> Result<(), AllocError> {
+    let (set, unset) = (subtree(set), subtree(unset));
+    write!(answer, "{{true {set}, false {unset}}}")
 }
 
 fn subtree(tree: MarkerTree) -> &'static str {
@@ -62,94 +61,46 @@ fn subtree(tree: MarkerTree) -> &'static str {
     }
 }
 
-fn versions(alloc: Global, node: &VersionMarkerTree) -> Result<String, AllocError> {
-    let mut text = node.key().to_string(alloc)?;
+fn versions(answer: &mut String, node: &VersionMarkerTree) -> Result<(), AllocError> {
+    let key = node.key();
+    write!(answer, "{key}")?;
     let mut is_first = true;
     for edge in node.edges() {
-        text.push_str(if is_first { "{" } else { ", " })?;
-        push_version_edge(alloc, &mut text, edge)?;
+        answer.push_str(if is_first { "{" } else { ", " })?;
+        push_edge(answer, &edge, "")?;
         is_first = false;
     }
-    text.push('}')?;
-    Ok(text)
+    answer.push('}')
 }
 
-fn push_version_edge(
-    alloc: Global,
-    text: &mut String,
-    edge: Edge<&Version>,
-) -> Result<(), AllocError> {
-    let (lower, upper) = (Lower(edge.lower), Upper(edge.upper));
-    let tree = subtree(edge.tree);
-    let edge = format!(in alloc; "{lower}..{upper} {tree}")?;
-    text.push_str(&edge)
-}
-
-fn texts(alloc: Global, node: &StringMarkerTree) -> Result<String, AllocError> {
+fn texts(answer: &mut String, node: &StringMarkerTree) -> Result<(), AllocError> {
     let key = node.key();
-    let mut text = format!(in alloc; "{key:?}")?;
+    write!(answer, "{key:?}")?;
     let mut is_first = true;
     for edge in node.children() {
-        text.push_str(if is_first { "{" } else { ", " })?;
-        push_text_edge(alloc, &mut text, edge)?;
+        answer.push_str(if is_first { "{" } else { ", " })?;
+        push_edge(answer, &edge, "'")?;
         is_first = false;
     }
-    text.push('}')?;
-    Ok(text)
+    answer.push('}')
 }
 
-fn push_text_edge(alloc: Global, text: &mut String, edge: Edge<&str>) -> Result<(), AllocError> {
-    let (lower, upper) = (
-        Lower(with_quotes(edge.lower)),
-        Upper(with_quotes(edge.upper)),
-    );
+/// The bounds of an edge with their brackets, each between these quotes, and its subtree.
+fn push_edge<B: Display>(
+    answer: &mut String,
+    edge: &Edge<B>,
+    quote: &str,
+) -> Result<(), AllocError> {
+    match &edge.lower {
+        Bound::Unbounded => answer.push_str("(")?,
+        Bound::Included(bound) => write!(answer, "[{quote}{bound}{quote}")?,
+        Bound::Excluded(bound) => write!(answer, "({quote}{bound}{quote}")?,
+    }
+    match &edge.upper {
+        Bound::Unbounded => answer.push_str("..)")?,
+        Bound::Included(bound) => write!(answer, "..{quote}{bound}{quote}]")?,
+        Bound::Excluded(bound) => write!(answer, "..{quote}{bound}{quote})")?,
+    }
     let tree = subtree(edge.tree);
-    let edge = format!(in alloc; "{lower}..{upper} {tree}")?;
-    text.push_str(&edge)
-}
-
-fn with_quotes(bound: Bound<&str>) -> Bound<Quoted<'_>> {
-    match bound {
-        Bound::Included(text) => Bound::Included(Quoted(text)),
-        Bound::Excluded(text) => Bound::Excluded(Quoted(text)),
-        Bound::Unbounded => Bound::Unbounded,
-    }
-}
-
-/// A text in quotes.
-#[derive(Clone, Copy)]
-struct Quoted<'a>(&'a str);
-
-impl fmt::Display for Quoted<'_> {
-    fn fmt<W: fmt::Write>(&self, f: &mut fmt::Formatter<W>) -> fmt::Result {
-        write!(f, "'{}'", self.0)
-    }
-}
-
-/// A lower bound with its bracket.
-#[derive(Clone, Copy)]
-struct Lower<T>(Bound<T>);
-
-impl<T: fmt::Display> fmt::Display for Lower<T> {
-    fn fmt<W: fmt::Write>(&self, f: &mut fmt::Formatter<W>) -> fmt::Result {
-        match &self.0 {
-            Bound::Unbounded => write!(f, "("),
-            Bound::Included(bound) => write!(f, "[{bound}"),
-            Bound::Excluded(bound) => write!(f, "({bound}"),
-        }
-    }
-}
-
-/// An upper bound with its bracket.
-#[derive(Clone, Copy)]
-struct Upper<T>(Bound<T>);
-
-impl<T: fmt::Display> fmt::Display for Upper<T> {
-    fn fmt<W: fmt::Write>(&self, f: &mut fmt::Formatter<W>) -> fmt::Result {
-        match &self.0 {
-            Bound::Unbounded => write!(f, ")"),
-            Bound::Included(bound) => write!(f, "{bound}]"),
-            Bound::Excluded(bound) => write!(f, "{bound})"),
-        }
-    }
+    write!(answer, " {tree}")
 }

@@ -13,7 +13,7 @@ use Rattle.pep508_diagram.specs.declared.variable.Flag.TheVariants.{In, Contains
 use Rattle.pep508_diagram.specs.Diagram.{Diagram, Leaf, Test}
 use Rattle.pep508_diagram.specs.Question.{Question, VersionBelow, TextBelow, IsSet}
 use Rattle.pep508_marker_text.specs.ReleaseBounds.{IsPlainRelease, AsksOfReleases, HasReleasesAlone}
-use Rattle.pep508_reading_back.specs.Questions.{AllQuestions}
+use Rattle.pep508_diagram.specs.Questions.{AllQuestions}
 use Rattle.pep508_reading_back.specs.Readable.{IsUnquoted}
 use Rattle.pep508_reading_back.specs.Unquoted.{AsksUnquoted, AsksOfModernKey, IsPlainDiagram}
 use Rattle.pep508_reading_back.specs.Unquoted.{IsUnquotedDiagram}
@@ -157,18 +157,8 @@ bound_exactly (VersionBelow key (JustAbove version)) = version_exactly version
 bound_exactly (TextBelow key boundary) = (λ e. tt, λ h. refl)
 bound_exactly (IsSet flag) = (λ e. tt, λ h. refl)
 
-to_releases : (d : Diagram Question) → AllQuestions AsksOfReleases d → HasReleasesAlone d
-to_releases (Leaf b) all = tt
-to_releases (Test q low high) all = (all.0, to_releases low all.1, to_releases high all.2)
-
-from_releases : (d : Diagram Question) → HasReleasesAlone d → AllQuestions AsksOfReleases d
-from_releases (Leaf b) all = tt
-from_releases (Test q low high) all = (all.0, from_releases low all.1, from_releases high all.2)
-
 pub releases : (d : Diagram Question) → (asks_any is_other_bound d ≡ false) ↔ HasReleasesAlone d
-releases d =
-    let exactly = asked_exactly is_other_bound AsksOfReleases bound_exactly d in
-    (λ e. to_releases d (exactly.0 e), λ all. exactly.1 (from_releases d all))
+releases d = asked_exactly is_other_bound AsksOfReleases bound_exactly d
 
 -- ---- none of the three
 

@@ -1,5 +1,7 @@
 -- A printed comparison is the text of that comparison.
-use Rattle.std.proofs.Common.{◌≡◌, ◌≢◌, ℕ, ◌≤◌, ◌==◌, ◌&&◌, Bool, true, false, not, nat_lt, length, if◌then◌else◌, List, [], ◌∷◌, ◌++◌, All, Some, None, Ok, Err, inl, inr, refl, ap, sym, subst, ◌∙◌, ◌-◌, arith, append_assoc}
+use Rattle.std.proofs.Common.{◌≡◌, ◌≢◌, ℕ, ◌≤◌, ◌==◌, ◌&&◌, Bool, true, false, not, nat_lt, length}
+use Rattle.std.proofs.Common.{if◌then◌else◌, List, [], ◌∷◌, ◌++◌, All, Some, None, Ok, Err, inl, inr, refl}
+use Rattle.std.proofs.Common.{ap, sym, subst, ◌∙◌, ◌-◌, arith, append_assoc}
 use Rattle.std.proofs.lemmas.Bool.Decides.{nat_tests}
 use Rattle.std.proofs.lemmas.List.{append-nil}
 use Rattle.std.proofs.lemmas.Str.{chars-append, encodes-chars, IsUtf8-append, IsUtf8-from_ascii}
@@ -21,31 +23,44 @@ use Rattle.pep440_operator.specs.OperatorPrint.{operator_text, star_text}
 use Rattle.pep440_version.specs.Changes.{has_segments}
 use Rattle.pep440_specifier.specs.Building.{IsBuilt, built, built_of_pattern}
 use Rattle.pep440_specifier.specs.Matching.{SpecifierRecord}
-use Rattle.pep440_specifier.specs.declared.build_error.VersionSpecifierBuildError.TheVariants.{OperatorLocalCombo, CompatibleRelease}
+use Rattle.pep440_specifier.specs.declared.build_error.VersionSpecifierBuildError.TheVariants.{OperatorLocalCombo}
+use Rattle.pep440_specifier.specs.declared.build_error.VersionSpecifierBuildError.TheVariants.{CompatibleRelease}
 use Rattle.pep508_marker.specs.declared.keys.MarkerValueVersion.{MarkerValueVersion}
-use Rattle.pep508_marker.specs.declared.keys.MarkerValueVersion.TheVariants.{ImplementationVersion, PythonFullVersion, PythonVersion}
+use Rattle.pep508_marker.specs.declared.keys.MarkerValueVersion.TheVariants.{ImplementationVersion}
+use Rattle.pep508_marker.specs.declared.keys.MarkerValueVersion.TheVariants.{PythonFullVersion, PythonVersion}
 use Rattle.pep508_marker.specs.declared.keys.MarkerValueString.{MarkerValueString}
 use Rattle.pep508_marker.specs.declared.keys.MarkerValueString.TheVariants as keys
 use Rattle.pep508_marker.specs.declared.operators.ExtraOperator.{ExtraOperator}
 use Rattle.pep508_marker.specs.declared.operators.ExtraOperator.TheVariants as extras
 use Rattle.pep508_marker.specs.declared.operators.MarkerOperator.{MarkerOperator}
-use Rattle.pep508_marker.specs.declared.operators.MarkerOperator.TheVariants.{Equal, NotEqual, GreaterThan, GreaterEqual, LessThan, LessEqual, TildeEqual, In, NotIn, Contains, NotContains}
+use Rattle.pep508_marker.specs.declared.operators.MarkerOperator.TheVariants.{Equal, NotEqual, GreaterThan}
+use Rattle.pep508_marker.specs.declared.operators.MarkerOperator.TheVariants.{GreaterEqual, LessThan}
+use Rattle.pep508_marker.specs.declared.operators.MarkerOperator.TheVariants.{LessEqual, TildeEqual, In}
+use Rattle.pep508_marker.specs.declared.operators.MarkerOperator.TheVariants.{NotIn, Contains, NotContains}
 use Rattle.pep508_marker.specs.declared.warnings.MarkerWarningKind.{MarkerWarningKind}
-use Rattle.pep508_marker.specs.Expression.{ExpressionRecord, Version, VersionIn, String, Extra, term_text, turned_text, string_text, expression_text}
+use Rattle.pep508_marker.specs.Expression.{ExpressionRecord, Version, VersionIn, String, Extra, term_text}
+use Rattle.pep508_marker.specs.Expression.{turned_text, string_text, expression_text}
 use Rattle.pep508_marker.specs.Keys.{version_key_name, text_key_name, is_deprecated}
-use Rattle.pep508_marker.specs.Operators.{marker_operator_text, marker_operator_of, is_not_in, behind_not, extra_operator_text, extra_operator, specifier_operator}
-use Rattle.pep508_marker.specs.Values.{ValueRecord, VersionKey, TextKey, ExtraKey, Quoted, ExtraRecord, Name, Arbitrary, key_of_text, version_key_of, text_key_of, extra_text}
+use Rattle.pep508_marker.specs.Operators.{marker_operator_text, marker_operator_of, is_not_in, behind_not}
+use Rattle.pep508_marker.specs.Operators.{extra_operator_text, extra_operator, specifier_operator}
+use Rattle.pep508_marker.specs.Values.{ValueRecord, VersionKey, TextKey, ExtraKey, Quoted, ExtraRecord, Name}
+use Rattle.pep508_marker.specs.Values.{Arbitrary, key_of_text, version_key_of, text_key_of, extra_text}
 use Rattle.pep508_name.specs.Name.{name_of, is_name, is_name_byte, is_alphanumeric_at, normal_name}
 use Rattle.pep508_expression.specs.Expressions.{has_points}
-use Rattle.pep508_marker_comparison.specs.Compared.{Compared, compared, specifier_behind, of_specifier, extra_of, of_extra, warned_of_name, extra_compared}
-use Rattle.pep508_marker_comparison.specs.SideReading.{ends_key, ends_word, ends_signs, begins_by, AtEnd}
+use Rattle.pep508_marker_comparison.specs.Compared.{Compared, compared, specifier_behind, of_specifier}
+use Rattle.pep508_marker_comparison.specs.Compared.{extra_of, of_extra, warned_of_name, extra_compared}
+use Rattle.pep508_marker_comparison.specs.SideReading.{ends_key, ends_word, ends_signs, AtEnd}
+use Rattle.pep508_error.specs.Cuts.{begins_by}
 use Rattle.pep508_marker_read.specs.Formula.{Says}
 use Rattle.pep508_marker_read.specs.MarkerReading.{Marker, of_compared}
-use Rattle.pep508_marker_read.specs.MarkerText.{IsBefore, IsSpaced, IsSideText, IsOperatorText, IsComparisonText}
-use Rattle.pep508_marker_read.proofs.Cuts.{at_places}
-use Rattle.pep508_marker_read.proofs.Tests.{and_parts}
-use Rattle.pep508_reading_back.specs.Readable.{IsQuotable, IsReadableExtra, IsReadable, warned_extra, marker_of}
-use Rattle.pep508_reading_back.proofs.Plain.{is_plain, Plain, all_from, none_from, plain_ascii, ascii_by, plain_unquoted, ascii_encoded, ascii_chars, front_chars}
+use Rattle.pep508_marker_read.specs.MarkerText.{IsBefore, IsSpaced, IsSideText, IsOperatorText}
+use Rattle.pep508_marker_read.specs.MarkerText.{IsComparisonText}
+use Rattle.pep508_error.proofs.Cuts.{at_places}
+use Rattle.pep508_error.proofs.Tests.{and_parts}
+use Rattle.pep508_reading_back.specs.Readable.{IsQuotable, IsReadableExtra, IsReadable, warned_extra}
+use Rattle.pep508_reading_back.specs.Readable.{marker_of}
+use Rattle.pep508_reading_back.proofs.Plain.{is_plain, Plain, all_from, none_from, plain_ascii, ascii_by}
+use Rattle.pep508_reading_back.proofs.Plain.{plain_unquoted, ascii_encoded, ascii_chars, front_chars}
 use Rattle.pep508_reading_back.proofs.Patterns.{plain_append, plain_version, version_pattern, star_pattern}
 
 -- ---- characters of comparisons

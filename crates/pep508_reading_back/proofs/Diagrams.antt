@@ -1,5 +1,6 @@
 -- The text of a diagram is that of a marker that holds where the diagram does.
-use Rattle.std.proofs.Common.{◌≡◌, ◌≢◌, ℕ, ◌<◌, ◌^◌, Bool, true, false, length, List, [], ◌∷◌, Option, Some, None, option_map, inl, inr, refl, ap, sym, subst, ◌∙◌, arith, true≢false}
+use Rattle.std.proofs.Common.{◌≡◌, ◌≢◌, ℕ, ◌<◌, ◌^◌, Bool, true, false, length, List, [], ◌∷◌, Option, Some}
+use Rattle.std.proofs.Common.{None, option_map, inl, inr, refl, ap, sym, subst, ◌∙◌, arith, true≢false}
 use Rattle.std.proofs.lemmas.Bool.{cases_Bool, false≢true}
 use Rattle.std.proofs.lemmas.List.Elements.{All-from_recursion}
 use Rattle.std.specs.List.{AllByRecursion, list_any, filter}
@@ -17,7 +18,8 @@ use Rattle.pep508_diagram.specs.declared.variable.VersionVariable.{VersionVariab
 use Rattle.pep508_diagram.specs.declared.variable.Flag.{Flag}
 use Rattle.pep508_diagram.specs.declared.variable.Flag.TheVariants as flag
 use Rattle.pep508_diagram.specs.Diagram.{Diagram, Leaf, Test}
-use Rattle.pep508_diagram.specs.Question.{Question, VersionBelow, TextBelow, IsSet, Valuation, truth, IsCanonical}
+use Rattle.pep508_diagram.specs.Question.{Question, VersionBelow, TextBelow, IsSet, Valuation, truth}
+use Rattle.pep508_diagram.specs.Question.{IsCanonical}
 use Rattle.pep508_diagram.proofs.Questions.{one_marker_diagram}
 use Rattle.pep508_expression.specs.Expressions.{has_points, expression_holds}
 use Rattle.pep508_marker_text.specs.Clauses.{clauses_of}
@@ -26,14 +28,18 @@ use Rattle.pep508_marker_text.specs.ReleaseBounds.{HasReleasesAlone}
 use Rattle.pep508_marker_text.specs.SameTerms.{same_term, opposite_term}
 use Rattle.pep508_marker_text.specs.Saying.{Clause}
 use Rattle.pep508_marker_text.specs.Simplified.{has_some}
-use Rattle.pep508_marker_text.specs.Terms.{two_numbers, is_minor_of, kept_where, minor_between, version_term, version_saying, text_saying, set_term, unset_term}
+use Rattle.pep508_marker_text.specs.Terms.{two_numbers, is_minor_of, kept_where, minor_between, version_term}
+use Rattle.pep508_marker_text.specs.Terms.{version_saying, text_saying, set_term, unset_term}
 use Rattle.pep508_marker_text.specs.Truth.{one_holds}
 use Rattle.pep508_marker_text.proofs.Disjunctions.{is_empty, empty_holds, always_leaf, disjunction_means}
-use Rattle.pep508_marker_text.proofs.Fitting.{Fits, AllFit, simplified_fit, GoodQuestion, AllGood, AllSayingsFit, walk_meets, points_fit}
+use Rattle.pep508_marker_text.proofs.Fitting.{Fits, AllFit, simplified_fit, GoodQuestion, AllSayingsFit}
+use Rattle.pep508_marker_text.proofs.Fitting.{walk_meets, points_fit}
+use Rattle.pep508_diagram.specs.Questions.{AllQuestions}
 use Rattle.pep508_marker_text.proofs.Where.{filter_all}
 use Rattle.pep508_reading_back.specs.Readable.{IsReadable, IsReadableSpecifier}
 use Rattle.pep508_reading_back.specs.Clauses.{IsReadableClause, AreReadable}
-use Rattle.pep508_reading_back.specs.Diagrams.{IsReadableVersion, IsReadableText, IsReadableFlag, AsksReadably, IsReadableDiagram, ReadsDiagram}
+use Rattle.pep508_reading_back.specs.Diagrams.{IsReadableVersion, IsReadableText, IsReadableFlag}
+use Rattle.pep508_reading_back.specs.Diagrams.{AsksReadably, IsReadableDiagram, ReadsDiagram}
 use Rattle.pep508_reading_back.proofs.Clauses.{clauses_are_read}
 
 -- ---- releases
@@ -176,7 +182,7 @@ asks_well (TextBelow key (boundary.At text)) h = h
 asks_well (TextBelow key (boundary.JustAbove text)) h = h
 asks_well (IsSet asked) h = h
 
-all_well : (d : Diagram Question) → IsReadableDiagram d → AllGood AsksWell d
+all_well : (d : Diagram Question) → IsReadableDiagram d → AllQuestions AsksWell d
 all_well (Leaf b) h = tt
 all_well (Test q low high) h = (asks_well q h.0, all_well low h.1, all_well high h.2)
 

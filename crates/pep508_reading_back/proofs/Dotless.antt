@@ -1,5 +1,7 @@
 -- A name in normal form has no dot, so that it is no archive's.
-use Rattle.std.proofs.Common.{◌≡◌, ℕ, ◌==◌, ◌&&◌, ◌||◌, ◌-◌, Bool, true, false, nat_lt, eqb, length, drop, List, [], ◌∷◌, Option, Some, None, option_map, inl, inr, zero, suc, refl, ap, sym, subst, ◌∙◌, arith}
+use Rattle.std.proofs.Common.{◌≡◌, ℕ, ◌==◌, ◌&&◌, ◌||◌, ◌-◌, Bool, true, false, nat_lt, eqb, length, drop}
+use Rattle.std.proofs.Common.{List, [], ◌∷◌, Option, Some, None, option_map, inl, inr, zero, suc, refl, ap}
+use Rattle.std.proofs.Common.{sym, subst, ◌∙◌, arith}
 use Rattle.std.proofs.lemmas.Bool.{cases_Bool}
 use Rattle.std.proofs.lemmas.Bool.Decides.{nat_tests}
 use Rattle.std.specs.Char.{to_ascii_lowercase}
@@ -8,8 +10,8 @@ use Rattle.std.specs.List.{AllByRecursion, ends_with, list_all, list_any}
 use Rattle.pep508_name.specs.Name.{is_alphanumeric, is_separator, name_of}
 use Rattle.pep508_name.proofs.Parts.{name_of-empty, name_of-refused, name_of-begun}
 use Rattle.pep508_name.proofs.Walk.{with_byte, behind, written, behind_separator, behind_letter, behind_none}
-use Rattle.pep508_marker_comparison.specs.SideReading.{begins_by}
-use Rattle.pep508_marker_read.proofs.Tests.{and_parts}
+use Rattle.pep508_error.specs.Cuts.{begins_by}
+use Rattle.pep508_error.proofs.Tests.{and_parts}
 use Rattle.pep508_requirement_text.specs.Archives.{endings, has_ending, is_archive}
 
 abbrev Dotless : List ℕ → Type 0

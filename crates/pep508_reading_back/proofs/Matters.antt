@@ -1,18 +1,21 @@
 -- A canonical diagram whose truth some questions settle asks none but these.
-use Rattle.std.proofs.Common.{◌≡◌, Bool, true, false, ◌&&◌, cond, List, [], ◌∷◌, ◌⊎◌, inl, inr, refl, sym, ap, ◌∙◌, true≢false, Ordering, Less, Equal, Greater, is_lt, is_gt}
+use Rattle.std.proofs.Common.{◌≡◌, Bool, true, false, ◌&&◌, cond, List, [], ◌∷◌, ◌⊎◌, inl, inr, refl, sym, ap}
+use Rattle.std.proofs.Common.{◌∙◌, true≢false, Ordering, Less, Equal, Greater, is_lt, is_gt}
 use Rattle.std.specs.List.{AllByRecursion}
 use Rattle.std.proofs.lemmas.Bool.{cases_Bool}
 use Rattle.std.proofs.lemmas.Cmp.{tied_itself}
 use Rattle.version_ranges.proofs.Membership.{all_weaker}
-use Rattle.pep508_diagram.specs.Diagram.{Diagram, Leaf, Test, Asking, IsAsking, truth_by, front_by, IsCanonicalBy}
+use Rattle.pep508_diagram.specs.Diagram.{Diagram, Leaf, Test, Asking, IsAsking, truth_by, front_by}
+use Rattle.pep508_diagram.specs.Diagram.{IsCanonicalBy}
 use Rattle.pep508_diagram.specs.Question.{Question, Valuation, question_cmp, marker, truth, IsCanonical}
 use Rattle.pep508_diagram.specs.Shortened.{AsksOfShort, HasShortVersions}
 use Rattle.pep508_diagram.proofs.Alike.{three_ways}
 use Rattle.pep508_diagram.proofs.Canonical.{one_diagram, front_canonical}
-use Rattle.pep508_diagram.proofs.Moved.{DiffersAt, skip, below_differs, at_differs, at_answer, at_below, front_where_yes, at_low, at_high}
+use Rattle.pep508_diagram.proofs.Moved.{DiffersAt, skip, below_differs, at_differs, at_answer, at_below}
+use Rattle.pep508_diagram.proofs.Moved.{front_where_yes, at_low, at_high}
 use Rattle.pep508_diagram.proofs.Questions.{asks, lowest}
 use Rattle.pep508_reading_back.specs.Asked.{AnswerAlike, IsAmong}
-use Rattle.pep508_reading_back.specs.Questions.{AllQuestions}
+use Rattle.pep508_diagram.specs.Questions.{AllQuestions}
 
 is_less : (o : Ordering) → is_lt o ≡ true → o ≡ Less
 is_less Less e = refl

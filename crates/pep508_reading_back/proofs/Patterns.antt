@@ -1,5 +1,6 @@
 -- A printed version, with a star behind it or none, is read as it, and has letters, digits and signs alone.
-use Rattle.std.proofs.Common.{◌≡◌, ℕ, ◌<◌, ◌^◌, ◌==◌, Bool, true, false, length, map, if◌then◌else◌, List, [], ◌∷◌, ◌++◌, Option, Some, None, Ok, refl, ap, sym, ◌∙◌, arith, append_assoc}
+use Rattle.std.proofs.Common.{◌≡◌, ℕ, ◌<◌, ◌^◌, ◌==◌, Bool, true, false, length, map, if◌then◌else◌, List, []}
+use Rattle.std.proofs.Common.{◌∷◌, ◌++◌, Option, Some, None, Ok, refl, ap, sym, ◌∙◌, arith, append_assoc}
 use Rattle.std.proofs.lemmas.Bool.Decides.{nat_tests}
 use Rattle.std.proofs.lemmas.Fmt.{decimal_is_IsNumeral}
 use Rattle.std.specs.Char.{is_ascii_alphanumeric, digit_value}
@@ -13,9 +14,11 @@ use Rattle.pep440_text.specs.declared.Prerelease.{Prerelease}
 use Rattle.pep440_text.specs.declared.PrereleaseKind.{PrereleaseKind}
 use Rattle.pep440_text.specs.declared.PrereleaseKind.TheVariants.{Alpha, Beta, Rc}
 use Rattle.pep440_text.specs.Record.{Segment, Text, Number, VersionRecord, epoch_record}
-use Rattle.pep440_text.specs.Print.{kind_text, segment_text, epoch_text, release_text, pre_text, numbered_text, local_text, version_text}
+use Rattle.pep440_text.specs.Print.{kind_text, segment_text, epoch_text, release_text, pre_text}
+use Rattle.pep440_text.specs.Print.{numbered_text, local_text, version_text}
 use Rattle.pep440_text.specs.Printable.{IsPrintable, IsPrintableSegment}
-use Rattle.pep440_text.specs.Reading.{read_pattern, pattern_of, marked_number_at, number_at, pattern_behind, ◌>>=◌}
+use Rattle.pep440_text.specs.Reading.{read_pattern, pattern_of, marked_number_at, number_at, pattern_behind}
+use Rattle.pep440_text.specs.Reading.{◌>>=◌}
 use Rattle.pep440_text.proofs.PrintedHeads.{head_printed}
 use Rattle.pep440_text.proofs.Prints.{printable_read}
 use Rattle.pep440_text.proofs.Releases.{AllSmall, by_recursion}

@@ -1,5 +1,6 @@
 -- Texts of ASCII characters, none of which ends a key or a quoted text.
-use Rattle.std.proofs.Common.{◌≡◌, ℕ, ◌<◌, ◌==◌, ◌||◌, Bool, true, false, not, nat_lt, List, [], ◌∷◌, ◌++◌, refl, ap, sym, ◌∙◌, arith}
+use Rattle.std.proofs.Common.{◌≡◌, ℕ, ◌<◌, ◌==◌, ◌||◌, Bool, true, false, not, nat_lt, List, [], ◌∷◌, ◌++◌}
+use Rattle.std.proofs.Common.{refl, ap, sym, ◌∙◌, arith}
 use Rattle.std.proofs.lemmas.Bool.Decides.{nat_tests}
 use Rattle.std.proofs.lemmas.Str.{chars-append, chars_from_encodes, IsUtf8-from_ascii}
 use Rattle.std.proofs.lemmas.Str.Ascii.{IsAscii-nil, IsAscii-cons, encodes-IsAscii}
@@ -8,7 +9,7 @@ use Rattle.std.specs.List.{AllByRecursion, list_all}
 use Rattle.std.specs.Prelude.{encode_utf8_all}
 use Rattle.std.specs.Str.{chars, IsAscii}
 use Rattle.version_ranges.proofs.Membership.{all_weaker}
-use Rattle.pep508_marker_read.proofs.Tests.{and_parts}
+use Rattle.pep508_error.proofs.Tests.{and_parts}
 
 -- letters, digits, and `!`, `*`, `+`, `-`, `.`, `_`
 abbrev pub is_plain : ℕ → Bool

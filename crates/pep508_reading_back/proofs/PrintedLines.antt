@@ -1,5 +1,6 @@
 -- What is printed of a requirement is one line, where the texts of its marker are pieces of one.
-use Rattle.std.proofs.Common.{◌≡◌, ℕ, true, false, List, [], ◌∷◌, ◌++◌, Option, Some, None, option_map, refl, sym, subst, arith, append_assoc}
+use Rattle.std.proofs.Common.{◌≡◌, ℕ, true, false, List, [], ◌∷◌, ◌++◌, Option, Some, None, option_map, refl}
+use Rattle.std.proofs.Common.{sym, subst, arith, append_assoc}
 use Rattle.std.proofs.lemmas.Bool.Decides.{nat_tests}
 use Rattle.std.specs.List.{AllByRecursion, filter, flat_map, join_by, join_with_byte, list_all}
 use Rattle.std.specs.Prelude.{codes}
@@ -40,7 +41,8 @@ use Rattle.pep508_marker_text.specs.Saying.{Clause}
 use Rattle.pep508_marker_text.specs.Simplified.{has_some}
 use Rattle.pep508_marker_text.specs.Terms.{minor_between, version_term, version_saying, text_saying, set_term}
 use Rattle.pep508_marker_text.specs.Terms.{unset_term}
-use Rattle.pep508_marker_text.proofs.Fitting.{Fits, AllFit, AllSayingsFit, GoodQuestion, AllGood, simplified_fit}
+use Rattle.pep508_marker_text.proofs.Fitting.{Fits, AllFit, AllSayingsFit, GoodQuestion, simplified_fit}
+use Rattle.pep508_diagram.specs.Questions.{AllQuestions}
 use Rattle.pep508_marker_text.proofs.Fitting.{walk_meets}
 use Rattle.pep508_marker_text.proofs.Where.{filter_all}
 use Rattle.pep508_requirement_text.specs.FrontReading.{Front, Source}
@@ -54,7 +56,6 @@ use Rattle.pep508_requirement_ref.specs.Views.{printed, source_of}
 use Rattle.pep508_tree_ref.specs.Lent.{tree_in}
 use Rattle.pep508_tree_ref.specs.TreeIn.{diagram_in}
 use Rattle.pep508_reading_back.specs.Lines.{IsPieceOf, IsLine, IsWholeLine}
-use Rattle.pep508_reading_back.specs.Questions.{AllQuestions}
 use Rattle.pep508_reading_back.specs.ReadableRequirements.{IsReadableFront, IsReadableSource}
 use Rattle.pep508_reading_back.specs.Told.{AsksOf}
 use Rattle.pep508_reading_back.specs.Writable.{IsSayable, as_written}
@@ -287,7 +288,7 @@ asks_well (IsSet (flag.Contains key text)) h = h
 asks_well (IsSet (flag.Extra name)) h = inked_quiet name (plain_inked name (plain_name name name h))
 asks_well (IsSet (flag.Arbitrary text)) h = h.0
 
-all_well : (d : Diagram Question) → AllQuestions (AsksOf IsQuiet) d → AllGood AsksWell d
+all_well : (d : Diagram Question) → AllQuestions (AsksOf IsQuiet) d → AllQuestions AsksWell d
 all_well (Leaf b) h = tt
 all_well (Test q low high) h = (asks_well q h.0, all_well low h.1, all_well high h.2)
 

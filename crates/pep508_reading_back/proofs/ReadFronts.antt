@@ -1,5 +1,6 @@
 -- What a requirement that was read asks for before its marker can be printed and read again.
-use Rattle.std.proofs.Common.{◌≡◌, ℕ, ◌<◌, ◌&&◌, not, cond, Bool, true, false, if◌then◌else◌, length, List, [], ◌∷◌, Option, Some, None, Result, Ok, Err, inl, inr, ap, sym, subst, arith}
+use Rattle.std.proofs.Common.{◌≡◌, ℕ, ◌<◌, ◌&&◌, not, cond, Bool, true, false, if◌then◌else◌, length, List}
+use Rattle.std.proofs.Common.{[], ◌∷◌, Option, Some, None, Result, Ok, Err, inl, inr, ap, sym, subst, arith}
 use Rattle.std.proofs.lemmas.List.Elements.{recursion_from_All}
 use Rattle.std.specs.List.{AllByRecursion, AllZip}
 use Rattle.std.specs.Prelude.{nat_lt}
@@ -10,7 +11,8 @@ use Rattle.pep440_text.specs.Record.{VersionRecord}
 use Rattle.pep440_text.specs.Text.{IsStarText, IsVersionText}
 use Rattle.pep440_text.proofs.PrintedSegments.{local_printable}
 use Rattle.pep440_version.specs.Changes.{has_local}
-use Rattle.pep440_specifier.specs.declared.build_error.VersionSpecifierBuildError.TheVariants.{OperatorLocalCombo, CompatibleRelease}
+use Rattle.pep440_specifier.specs.declared.build_error.VersionSpecifierBuildError.TheVariants.{OperatorLocalCombo}
+use Rattle.pep440_specifier.specs.declared.build_error.VersionSpecifierBuildError.TheVariants.{CompatibleRelease}
 use Rattle.pep440_specifier.specs.Building.{built, built_starred}
 use Rattle.pep440_specifier.specs.Matching.{SpecifierRecord}
 use Rattle.pep440_specifier.specs.SpecifierText.{IsSpecifierText}
@@ -22,7 +24,8 @@ use Rattle.pep508_name.specs.Name.{name_of}
 use Rattle.pep508_name.proofs.Again.{normal_again}
 use Rattle.pep508_requirement_text.specs.FrontReading.{Source, Front}
 use Rattle.pep508_requirement_text.specs.FrontReading.Source.{Any, Specifiers, Url}
-use Rattle.pep508_requirement_text.specs.FrontText.{IsSpacedName, IsInside, IsExtrasText, IsSourceText, IsFrontText}
+use Rattle.pep508_requirement_text.specs.FrontText.{IsSpacedName, IsInside, IsExtrasText, IsSourceText}
+use Rattle.pep508_requirement_text.specs.FrontText.{IsFrontText}
 use Rattle.pep508_requirement.specs.declared.version_or_url.VersionOrUrl.{VersionOrUrl}
 use Rattle.pep508_requirement.specs.declared.version_or_url.VersionOrUrl.TheVariants as asked
 use Rattle.pep508_requirement.specs.RequirementReading.{AsksFor}

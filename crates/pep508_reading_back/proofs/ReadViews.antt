@@ -20,7 +20,8 @@ use Rattle.pep508_reading_back.specs.ReadViews.{AsksNoUrl, ShowsRead, KeepsFront
 use Rattle.pep508_reading_back.proofs.ReadFronts.{asked_readable, extras_normal}
 use Rattle.pep508_reading_back.proofs.ReadRequirements.{WrittenIsRead}
 use Rattle.pep508_reading_back.proofs.Requirements.{marked_read, unmarked_read}
-use Rattle.pep508_reading_back.proofs.Views.{WrittenIsTaken, MakesMarker, IsReadableShown, SaysAt, shown_again}
+use Rattle.pep508_reading_back.proofs.Views.{WrittenIsTaken, MakesMarker, IsReadableShown, SaysAt}
+use Rattle.pep508_reading_back.proofs.Views.{shown_again}
 use Rattle.pep508_tree.specs.Meaning.{NodeRecord}
 use Rattle.pep508_tree_ref.specs.Lent.{tree_in}
 use Rattle.pep508_tree_ref.specs.TreeIn.{diagram_in}

@@ -1,5 +1,6 @@
 -- A printed requirement is the text of a requirement that says the same.
-use Rattle.std.proofs.Common.{◌≡◌, ◌≢◌, ℕ, suc, ◌<◌, ◌==◌, Bool, true, false, length, List, [], ◌∷◌, ◌++◌, Some, None, inl, inr, refl, ap, sym, subst, ◌∙◌, arith, append_assoc}
+use Rattle.std.proofs.Common.{◌≡◌, ◌≢◌, ℕ, suc, ◌<◌, ◌==◌, Bool, true, false, length, List, [], ◌∷◌, ◌++◌}
+use Rattle.std.proofs.Common.{Some, None, inl, inr, refl, ap, sym, subst, ◌∙◌, arith, append_assoc}
 use Rattle.std.proofs.lemmas.List.{append-nil}
 use Rattle.std.proofs.lemmas.Str.{chars-nil, IsAscii-append}
 use Rattle.std.proofs.lemmas.Str.Ascii.{IsAscii-nil}
@@ -7,7 +8,10 @@ use Rattle.std.specs.List.{AllByRecursion, AllZip, join_with_byte}
 use Rattle.std.specs.Prelude.{codes}
 use Rattle.std.specs.Str.{chars, IsAscii}
 use Rattle.pep440_operator.specs.declared.operator.Operator.{Operator}
-use Rattle.pep440_operator.specs.declared.operator.Operator.TheVariants.{Equal, EqualStar, ExactEqual, NotEqual, NotEqualStar, TildeEqual, LessThan, LessThanEqual, GreaterThan, GreaterThanEqual}
+use Rattle.pep440_operator.specs.declared.operator.Operator.TheVariants.{Equal, EqualStar, ExactEqual}
+use Rattle.pep440_operator.specs.declared.operator.Operator.TheVariants.{NotEqual, NotEqualStar, TildeEqual}
+use Rattle.pep440_operator.specs.declared.operator.Operator.TheVariants.{LessThan, LessThanEqual, GreaterThan}
+use Rattle.pep440_operator.specs.declared.operator.Operator.TheVariants.{GreaterThanEqual}
 use Rattle.pep440_operator.specs.OperatorPrint.{operator_text, star_text}
 use Rattle.pep440_specifier.specs.Matching.{SpecifierRecord}
 use Rattle.pep440_specifier.specs.SpecifierPrint.{specifier_text}
@@ -18,13 +22,14 @@ use Rattle.pep508_diagram.specs.Diagram.{Diagram, Leaf, Test}
 use Rattle.pep508_diagram.specs.Question.{Question, IsCanonical}
 use Rattle.pep508_marker_read.specs.MarkerReading.{Marker, And, Or}
 use Rattle.pep508_marker_read.specs.MarkerText.{IsJoined, IsFormulaText, IsMarkerText}
-use Rattle.pep508_marker_read.proofs.Cuts.{at_places}
+use Rattle.pep508_error.proofs.Cuts.{at_places}
 use Rattle.pep508_marker_text.specs.MarkerText.{clauses_text, disjunction, marker_text}
 use Rattle.pep508_requirement_text.specs.FrontReading.{Front, begins_operator}
 use Rattle.pep508_requirement_text.specs.FrontReading as front
 use Rattle.pep508_requirement_text.specs.FrontReading.Source.{Any, Specifiers, Url}
-use Rattle.pep508_requirement_text.specs.FrontText.{IsSpacedName, IsExtrasText, IsBeforeMarker, IsOpenList, IsFrontText}
-use Rattle.pep508_requirement_text.specs.UrlEnds.{begins_with}
+use Rattle.pep508_requirement_text.specs.FrontText.{IsSpacedName, IsExtrasText, IsBeforeMarker, IsOpenList}
+use Rattle.pep508_requirement_text.specs.FrontText.{IsFrontText}
+use Rattle.pep508_error.specs.Cuts.{begins_by}
 use Rattle.pep508_requirement.specs.MarkerBehind.{no_marker}
 use Rattle.pep508_requirement.specs.RequirementText.{IsMarkedText}
 use Rattle.pep508_reading_back.specs.Diagrams.{IsReadableDiagram}
@@ -37,7 +42,8 @@ use Rattle.pep508_reading_back.proofs.Dotless.{no_archive}
 use Rattle.pep508_reading_back.proofs.Joining.{Leads, joined_leads}
 use Rattle.pep508_reading_back.proofs.JoinedClauses.{Part, either_leads}
 use Rattle.pep508_reading_back.proofs.Diagrams.{text_read}
-use Rattle.pep508_reading_back.proofs.Specifiers.{Listed, plain_are_listed, listed_ascii, listed_no_end, listed_append, AreBlanks, list_is, list_listed}
+use Rattle.pep508_reading_back.proofs.Specifiers.{Listed, plain_are_listed, listed_ascii, listed_no_end}
+use Rattle.pep508_reading_back.proofs.Specifiers.{listed_append, AreBlanks, list_is, list_listed}
 
 -- ---- extras
 
@@ -94,11 +100,11 @@ extras_ascii (name ∷ names) h =
 
 -- ---- specifiers
 
-begins_front : (test : ℕ → Bool) (xs ys : List ℕ) → begins_with test xs ≡ true → begins_with test (xs ++ ys) ≡ true
+begins_front : (test : ℕ → Bool) (xs ys : List ℕ) → begins_by test xs ≡ true → begins_by test (xs ++ ys) ≡ true
 begins_front test [] ys h = absurd (cc)
 begins_front test (x ∷ xs) ys h = h
 
-begins_by_sign : (operator : Operator) → begins_with begins_operator (operator_text operator) ≡ true
+begins_by_sign : (operator : Operator) → begins_by begins_operator (operator_text operator) ≡ true
 begins_by_sign Equal = refl
 begins_by_sign EqualStar = refl
 begins_by_sign ExactEqual = refl
@@ -111,7 +117,7 @@ begins_by_sign GreaterThan = refl
 begins_by_sign GreaterThanEqual = refl
 
 specifier_begins : (specifier : SpecifierRecord) (behind : List ℕ) →
-    begins_with begins_operator (specifier_text specifier ++ behind) ≡ true
+    begins_by begins_operator (specifier_text specifier ++ behind) ≡ true
 specifier_begins specifier behind =
     let signs = operator_text specifier.operator in
     let version = version_text specifier.version in
@@ -120,7 +126,7 @@ specifier_begins specifier behind =
     (begins_front begins_operator signs version (begins_by_sign specifier.operator)))
 
 list_begins : (given : List SpecifierRecord) (blanks : List ℕ) → 0 < length given →
-    begins_with begins_operator (list_value_text given ++ blanks) ≡ true
+    begins_by begins_operator (list_value_text given ++ blanks) ≡ true
 list_begins [] blanks h = absurd (omega arith)
 list_begins (specifier ∷ []) blanks h = specifier_begins specifier blanks
 list_begins (specifier ∷ next ∷ given) blanks h =

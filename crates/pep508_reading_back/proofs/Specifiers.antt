@@ -1,5 +1,6 @@
 -- Printed specifiers with bare commas between them are the text of those specifiers.
-use Rattle.std.proofs.Common.{◌≡◌, ℕ, ◌<◌, ◌==◌, ◌||◌, Bool, true, false, length, List, [], ◌∷◌, ◌++◌, Ok, refl, ap, sym, subst, ◌∙◌, arith, append_assoc}
+use Rattle.std.proofs.Common.{◌≡◌, ℕ, ◌<◌, ◌==◌, ◌||◌, Bool, true, false, length, List, [], ◌∷◌, ◌++◌, Ok}
+use Rattle.std.proofs.Common.{refl, ap, sym, subst, ◌∙◌, arith, append_assoc}
 use Rattle.std.proofs.lemmas.Bool.Decides.{nat_tests}
 use Rattle.std.proofs.lemmas.List.{append-nil}
 use Rattle.std.specs.Char.{is_whitespace}
@@ -15,7 +16,10 @@ use Rattle.pep440_text.specs.Reading.{pattern_of}
 use Rattle.pep440_text.specs.Text.{IsPatternText}
 use Rattle.pep440_text.proofs.Whole.{pattern_read}
 use Rattle.pep440_operator.specs.declared.operator.Operator.{Operator}
-use Rattle.pep440_operator.specs.declared.operator.Operator.TheVariants.{Equal, EqualStar, ExactEqual, NotEqual, NotEqualStar, TildeEqual, LessThan, LessThanEqual, GreaterThan, GreaterThanEqual}
+use Rattle.pep440_operator.specs.declared.operator.Operator.TheVariants.{Equal, EqualStar, ExactEqual}
+use Rattle.pep440_operator.specs.declared.operator.Operator.TheVariants.{NotEqual, NotEqualStar, TildeEqual}
+use Rattle.pep440_operator.specs.declared.operator.Operator.TheVariants.{LessThan, LessThanEqual, GreaterThan}
+use Rattle.pep440_operator.specs.declared.operator.Operator.TheVariants.{GreaterThanEqual}
 use Rattle.pep440_operator.specs.Operators.{is_star}
 use Rattle.pep440_operator.specs.OperatorPrint.{operator_text, star_text}
 use Rattle.pep440_specifier.specs.Building.{IsBuilt, built, built_of_pattern}

@@ -5,7 +5,8 @@ use Rattle.std.specs.Str.{chars, IsUtf8}
 use Rattle.version_ranges.specs.declared.boundary.Boundary.TheVariants.{At, JustAbove}
 use Rattle.pep508_diagram.specs.declared.variable.Flag.TheVariants.{In, Contains, Extra, Arbitrary}
 use Rattle.pep508_diagram.specs.Diagram.{Diagram, Leaf, Test}
-use Rattle.pep508_diagram.specs.Question.{Question, VersionBelow, TextBelow, IsSet, Valuation, truth, IsCanonical}
+use Rattle.pep508_diagram.specs.Question.{Question, VersionBelow, TextBelow, IsSet, Valuation, truth}
+use Rattle.pep508_diagram.specs.Question.{IsCanonical}
 use Rattle.pep508_diagram.specs.Shortened.{HasShortVersions}
 use Rattle.pep508_marker.specs.Expression.{ExpressionRecord}
 use Rattle.pep508_expression.specs.Expressions.{expression_holds}
@@ -20,7 +21,7 @@ use Rattle.pep508_tree.specs.Meaning.{NodeRecord, Extends}
 use Rattle.pep508_tree.specs.Tree.{Tree}
 use Rattle.pep508_tree_ref.specs.TreeIn.{TreeIn, diagram_in}
 use Rattle.pep508_reading_back.specs.Lines.{IsPieceOf}
-use Rattle.pep508_reading_back.specs.Questions.{AllQuestions}
+use Rattle.pep508_diagram.specs.Questions.{AllQuestions}
 use Rattle.pep508_reading_back.specs.Told.{questions_of, AsksOf, IsTold}
 use Rattle.pep508_reading_back.proofs.Matters.{asks_these_alone, all_hold}
 use Rattle.pep508_reading_back.proofs.ToldAnswers.{formula_alike}

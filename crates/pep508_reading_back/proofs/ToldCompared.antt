@@ -1,5 +1,6 @@
 -- What a comparison of two sides asks, where each text in them is a good one.
-use Rattle.std.proofs.Common.{◌≡◌, ℕ, Bool, true, false, ◌&&◌, not, if◌then◌else◌, nat_lt, length, List, [], ◌∷◌, Option, Some, None, Result, Ok, Err, refl}
+use Rattle.std.proofs.Common.{◌≡◌, ℕ, Bool, true, false, ◌&&◌, not, if◌then◌else◌, nat_lt, length, List, []}
+use Rattle.std.proofs.Common.{◌∷◌, Option, Some, None, Result, Ok, Err, refl}
 use Rattle.std.specs.List.{AllByRecursion, flat_map}
 use Rattle.std.specs.Option.{option_and_then}
 use Rattle.std.specs.Result.{result_ok}
@@ -30,8 +31,13 @@ use Rattle.pep508_marker.specs.declared.operators.ExtraOperator.{ExtraOperator}
 use Rattle.pep508_marker.specs.Expression.{ExpressionRecord}
 use Rattle.pep508_marker.specs.Operators.{inverted, specifier_operator, extra_operator}
 use Rattle.pep508_marker.specs.Values.{ValueRecord, VersionKey, TextKey, ExtraKey, Quoted}
-use Rattle.pep508_marker_comparison.specs.Compared.{Compared, of_specifier, specifier_behind, specifier_before, runs_of, with_version, versions_of, of_list, version_before, version_behind, text_compared, extra_of, of_extra, warned_of_name, extra_compared, compared}
-use Rattle.pep508_reading_back.specs.Told.{asked_releases, version_questions, release_questions, listed_questions, text_questions, questions_of_term, AsksOf}
+use Rattle.pep508_marker_comparison.specs.Compared.{Compared, of_specifier, specifier_behind}
+use Rattle.pep508_marker_comparison.specs.Compared.{specifier_before, runs_of, with_version, versions_of}
+use Rattle.pep508_marker_comparison.specs.Compared.{of_list, version_before, version_behind, text_compared}
+use Rattle.pep508_marker_comparison.specs.Compared.{extra_of, of_extra, warned_of_name, extra_compared}
+use Rattle.pep508_marker_comparison.specs.Compared.{compared}
+use Rattle.pep508_reading_back.specs.Told.{asked_releases, version_questions, release_questions}
+use Rattle.pep508_reading_back.specs.Told.{listed_questions, text_questions, questions_of_term, AsksOf}
 use Rattle.pep508_reading_back.proofs.Diagrams.{release_printable}
 use Rattle.pep508_reading_back.proofs.ToldReleases.{IsSmallRelease, asked_small}
 

@@ -1,5 +1,7 @@
 -- What a marker that is written at the end of a text asks is about pieces of that text.
-use Rattle.std.proofs.Common.{◌≡◌, ◌⊎◌, ◌∙◌, ℕ, zero, suc, Bool, true, false, ◌&&◌, if◌then◌else◌, List, [], ◌∷◌, ◌++◌, Option, Some, None, option_map, Ok, Err, inl, inr, refl, ap, sym, subst, append_assoc}
+use Rattle.std.proofs.Common.{◌≡◌, ◌⊎◌, ◌∙◌, ℕ, zero, suc, Bool, true, false, ◌&&◌, if◌then◌else◌, List, []}
+use Rattle.std.proofs.Common.{◌∷◌, ◌++◌, Option, Some, None, option_map, Ok, Err, inl, inr, refl, ap, sym}
+use Rattle.std.proofs.Common.{subst, append_assoc}
 use Rattle.std.proofs.lemmas.Bool.{and_parts}
 use Rattle.std.proofs.lemmas.Str.{encodes-append, encodes-chars, scalars-chars}
 use Rattle.std.specs.List.{AllByRecursion}
@@ -11,14 +13,17 @@ use Rattle.pep508_marker.specs.declared.operators.MarkerOperator.{MarkerOperator
 use Rattle.pep508_marker.specs.declared.keys.MarkerValueVersion.{MarkerValueVersion}
 use Rattle.pep508_marker.specs.declared.keys.MarkerValueString.{MarkerValueString}
 use Rattle.pep508_marker.specs.Expression.{ExpressionRecord}
-use Rattle.pep508_marker.specs.Values.{ValueRecord, VersionKey, TextKey, ExtraKey, version_key_of, text_key_of, other_key_of, version_key_or, key_of_text}
+use Rattle.pep508_marker.specs.Values.{ValueRecord, VersionKey, TextKey, ExtraKey, version_key_of}
+use Rattle.pep508_marker.specs.Values.{text_key_of, other_key_of, version_key_or, key_of_text}
 use Rattle.pep508_marker_comparison.specs.Compared.{compared}
 use Rattle.pep508_marker_comparison.specs.SideReading.{AtEnd, Reading}
 use Rattle.pep508_diagram.specs.Question.{Question}
 use Rattle.pep508_expression.specs.Expressions.{has_points}
 use Rattle.pep508_marker_read.specs.Formula.{Says, LeftOut}
 use Rattle.pep508_marker_read.specs.MarkerReading.{Marker, Connective, And, Or, word_of, join_with, of_said}
-use Rattle.pep508_marker_read.specs.MarkerText.{IsSpaced, IsSideText, IsOperatorText, IsComparisonText, IsEnclosed, AreJoined, join_all, IsJoined, IsEither, IsFormulaText, IsMarkerText}
+use Rattle.pep508_marker_read.specs.MarkerText.{IsSpaced, IsSideText, IsOperatorText, IsComparisonText}
+use Rattle.pep508_marker_read.specs.MarkerText.{IsEnclosed, AreJoined, join_all, IsJoined, IsEither}
+use Rattle.pep508_marker_read.specs.MarkerText.{IsFormulaText, IsMarkerText}
 use Rattle.pep508_reading_back.specs.Lines.{IsPieceOf}
 use Rattle.pep508_reading_back.specs.Told.{questions_of, questions_of_term, AsksOf}
 use Rattle.pep508_reading_back.proofs.ToldCompared as compare

@@ -1,5 +1,6 @@
 -- Points that lie alike beside a value are held alike by whatever is bounded there.
-use Rattle.std.proofs.Common.{◌≡◌, ◌∙◌, Bool, false, not, cond, List, [], ◌∷◌, ◌++◌, refl, ap, ap₂, sym, Ordering, Less, Equal, Greater, is_eq, is_gt}
+use Rattle.std.proofs.Common.{◌≡◌, ◌∙◌, Bool, false, not, cond, List, [], ◌∷◌, ◌++◌, refl, ap, ap₂, sym}
+use Rattle.std.proofs.Common.{Ordering, Less, Equal, Greater, is_eq, is_gt}
 use Rattle.std.specs.List.{AllByRecursion, flat_map}
 use Rattle.std.specs.Ordering.{ordering_then, ordering_reverse}
 use Rattle.std.specs.Cmp.{IsTotalOrder}

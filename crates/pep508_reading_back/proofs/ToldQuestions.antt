@@ -1,5 +1,6 @@
 -- What equals a question that asks of good texts asks so too, where its version is in its shortest spelling.
-use Rattle.std.proofs.Common.{◌≡◌, ◌∙◌, ℕ, ◌<◌, ◌^◌, true, List, Option, Some, None, refl, ap, sym, subst, Equal}
+use Rattle.std.proofs.Common.{◌≡◌, ◌∙◌, ℕ, ◌<◌, ◌^◌, true, List, Option, Some, None, refl, ap, sym, subst}
+use Rattle.std.proofs.Common.{Equal}
 use Rattle.std.proofs.lemmas.List.Elements.{All-from_recursion}
 use Rattle.std.specs.Cmp.{tied_itself, tied_back, unsigned_Decides}
 use Rattle.std.specs.Prelude.{IfSome}
@@ -12,7 +13,8 @@ use Rattle.pep440_text.proofs.Releases.{by_recursion}
 use Rattle.pep440_version.specs.Order.{version_cmp}
 use Rattle.pep440_version.specs.OrderLaws.{version_cmp_total}
 use Rattle.pep508_diagram.specs.Diagram.{Diagram, Leaf, Test}
-use Rattle.pep508_diagram.specs.Question.{Question, VersionBelow, TextBelow, IsSet, question_cmp, version_rank}
+use Rattle.pep508_diagram.specs.Question.{Question, VersionBelow, TextBelow, IsSet, question_cmp}
+use Rattle.pep508_diagram.specs.Question.{version_rank}
 use Rattle.pep508_diagram.specs.Shortened.{post_beside, shortest, shortened, AsksOfShort}
 use Rattle.pep508_diagram.proofs.Questions.{questions_total, versions_order}
 use Rattle.pep508_diagram.proofs.Shortened.{shortened_tied, shortened_twice}

@@ -1,5 +1,6 @@
 -- Points that lie alike beside the releases that a comparison names are held alike by it.
-use Rattle.std.proofs.Common.{◌≡◌, ◌∙◌, ℕ, Bool, true, false, not, ◌&&◌, ◌||◌, if◌then◌else◌, List, [], ◌∷◌, ◌++◌, Option, Some, None, refl, ap, ap₂, sym}
+use Rattle.std.proofs.Common.{◌≡◌, ◌∙◌, ℕ, Bool, true, false, not, ◌&&◌, ◌||◌, if◌then◌else◌, List, [], ◌∷◌}
+use Rattle.std.proofs.Common.{◌++◌, Option, Some, None, refl, ap, ap₂, sym}
 use Rattle.std.specs.List.{AllByRecursion, list_all}
 use Rattle.std.specs.Option.{option_map, is_some}
 use Rattle.std.specs.Prelude.{option_to_list, drop}
@@ -16,11 +17,15 @@ use Rattle.pep440_operator.specs.declared.operator.Operator.TheVariants.{NotEqua
 use Rattle.pep440_operator.specs.declared.operator.Operator.TheVariants.{LessThan, LessThanEqual}
 use Rattle.pep440_operator.specs.declared.operator.Operator.TheVariants.{GreaterThan, GreaterThanEqual}
 use Rattle.pep440_specifier.specs.Matching.{SpecifierRecord, without_last}
-use Rattle.pep440_range.specs.Ranges.{PointTest, all_but, at_version, up_to, from_bound, to_bound, release_range_by, star_releases}
+use Rattle.pep440_range.specs.Ranges.{PointTest, all_but, at_version, up_to, from_bound, to_bound}
+use Rattle.pep440_range.specs.Ranges.{release_range_by, star_releases}
 use Rattle.pep508_marker.specs.declared.keys.MarkerValueVersion.{MarkerValueVersion}
 use Rattle.pep508_marker.specs.declared.keys.MarkerValueVersion.TheVariants.{ImplementationVersion}
 use Rattle.pep508_marker.specs.declared.keys.MarkerValueVersion.TheVariants.{PythonFullVersion, PythonVersion}
-use Rattle.pep508_comparison.specs.Comparisons.{minor_of, in_minor, from_next_minor, before_next_minor, python_points, python_points_past, python_points_by, compared_numbers, is_zero, is_minor, negated_points, listed, listed_minors, some_holds, python_listed_points, nowhere}
+use Rattle.pep508_comparison.specs.Comparisons.{minor_of, in_minor, from_next_minor, before_next_minor}
+use Rattle.pep508_comparison.specs.Comparisons.{python_points, python_points_past, python_points_by}
+use Rattle.pep508_comparison.specs.Comparisons.{compared_numbers, is_zero, is_minor, negated_points, listed}
+use Rattle.pep508_comparison.specs.Comparisons.{listed_minors, some_holds, python_listed_points, nowhere}
 use Rattle.pep508_expression.specs.Expressions.{or_nowhere, compared_points, listed_points}
 use Rattle.pep508_expression.proofs.Points.{points_or_nowhere}
 use Rattle.pep508_reading_back.specs.Told.{next_release, releases_beside, asked_releases}

@@ -1,5 +1,6 @@
 -- What a requirement with its interner prints is read as what it shows.
-use Rattle.std.proofs.Common.{◌≡◌, ℕ, Bool, List, Option, Some, None, Result, Ok, Err, option_map, ap, sym, subst, ◌∙◌}
+use Rattle.std.proofs.Common.{◌≡◌, ℕ, Bool, List, Option, Some, None, Result, Ok, Err, option_map, ap, sym}
+use Rattle.std.proofs.Common.{subst, ◌∙◌}
 use Rattle.std.specs.List.{AllByRecursion}
 use Rattle.pep508_diagram.specs.Question.{IsCanonical}
 use Rattle.pep508_error.specs.declared.error.Pep508Error.{Pep508Error}
@@ -23,7 +24,8 @@ use Rattle.pep508_requirement_ref.specs.RequirementPrint.{requirement_text}
 use Rattle.pep508_requirement_ref.specs.Views.{printed, source_of}
 use Rattle.pep508_requirement_ref.specs.declared.requirement_ref.RequirementRef.{RequirementRef}
 use Rattle.pep508_reading_back.specs.ReadableRequirements.{IsReadableFront, IsReadableSource}
-use Rattle.pep508_reading_back.specs.Views.{AsksAgain, IsReadableAsked, IsReadableView, IsWantOfMemory, ReadsBack}
+use Rattle.pep508_reading_back.specs.Views.{AsksAgain, IsReadableAsked, IsReadableView, IsWantOfMemory}
+use Rattle.pep508_reading_back.specs.Views.{ReadsBack}
 use Rattle.pep508_reading_back.proofs.ReadRequirements.{WrittenIsRead, one_answer, written_again}
 use Rattle.pep508_reading_back.proofs.Requirements.{requirement_read}
 use Rattle.pep508_reading_back.proofs.SortedLists.{in_order_again}

@@ -22,7 +22,8 @@ use Rattle.pep508_marker_text.specs.MarkerText.{disjunction, clauses_text, marke
 use Rattle.pep508_marker_text.specs.SameTerms.{same_term, opposite_term}
 use Rattle.pep508_marker_text.specs.Saying.{Clause}
 use Rattle.pep508_marker_text.specs.Simplified.{has_some}
-use Rattle.pep508_marker_text.proofs.Fitting.{AllFit, GoodQuestion, AllGood, simplified_fit, walk_meets}
+use Rattle.pep508_marker_text.proofs.Fitting.{AllFit, GoodQuestion, simplified_fit, walk_meets}
+use Rattle.pep508_diagram.specs.Questions.{AllQuestions}
 use Rattle.pep508_marker_text.proofs.Where.{filter_all}
 use Rattle.pep508_reading_back.specs.Readable.{IsQuotable, IsReadable, marker_of}
 use Rattle.pep508_reading_back.specs.Writable.{IsSayable, AsksWritably, IsWritableDiagram}
@@ -49,7 +50,7 @@ asks_well (TextBelow key (boundary.At text)) h = h
 asks_well (TextBelow key (boundary.JustAbove text)) h = h
 asks_well (IsSet asked) h = h
 
-all_well : (d : Diagram Question) → IsWritableDiagram d → AllGood AsksWell d
+all_well : (d : Diagram Question) → IsWritableDiagram d → AllQuestions AsksWell d
 all_well (Leaf b) h = tt
 all_well (Test q low high) h = (asks_well q h.0, all_well low h.1, all_well high h.2)
 

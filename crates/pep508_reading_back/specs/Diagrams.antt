@@ -15,7 +15,7 @@ use Rattle.pep508_marker_read.specs.Formula.{formula_holds}
 use Rattle.pep508_marker_read.specs.MarkerReading.{Marker}
 use Rattle.pep508_marker_read.specs.MarkerText.{IsMarkerText}
 use Rattle.pep508_marker_text.specs.ReleaseBounds.{IsPlainRelease}
-use Rattle.pep508_reading_back.specs.Questions.{AllQuestions}
+use Rattle.pep508_diagram.specs.Questions.{AllQuestions}
 use Rattle.pep508_reading_back.specs.Readable.{IsQuotable}
 
 -- a version of epoch 0 and one release number or more

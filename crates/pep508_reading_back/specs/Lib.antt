@@ -4,7 +4,6 @@ pub mod Diagrams
 pub mod ReadableRequirements
 pub mod Views
 pub mod ReadViews
-pub mod Questions
 pub mod Asked
 pub mod Told
 pub mod Lines

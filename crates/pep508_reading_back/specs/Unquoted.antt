@@ -7,7 +7,7 @@ use Rattle.pep508_diagram.specs.declared.variable.Flag.TheVariants.{In, Contains
 use Rattle.pep508_diagram.specs.Diagram.{Diagram, Leaf}
 use Rattle.pep508_diagram.specs.Question.{Question, VersionBelow, TextBelow, IsSet}
 use Rattle.pep508_reading_back.specs.Diagrams.{StandsAt}
-use Rattle.pep508_reading_back.specs.Questions.{AllQuestions}
+use Rattle.pep508_diagram.specs.Questions.{AllQuestions}
 use Rattle.pep508_reading_back.specs.Readable.{IsUnquoted}
 
 -- a name has no quote

@@ -5,7 +5,7 @@ use Rattle.pep440_text.specs.Printable.{IsPrintable}
 use Rattle.pep508_diagram.specs.Diagram.{Diagram}
 use Rattle.pep508_diagram.specs.Question.{Question, VersionBelow, TextBelow, IsSet, flag_text}
 use Rattle.pep508_reading_back.specs.Diagrams.{StandsAt}
-use Rattle.pep508_reading_back.specs.Questions.{AllQuestions}
+use Rattle.pep508_diagram.specs.Questions.{AllQuestions}
 use Rattle.pep508_reading_back.specs.Readable.{IsQuotable}
 
 -- the version as a marker's text has it: without its local part, and without the marks of the ends of ranges

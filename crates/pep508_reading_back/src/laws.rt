@@ -35,7 +35,7 @@ ghost use Rattle.pep508_reading_back.specs.Unquoted.{IsPlainDiagram, IsUnquotedD
 ghost use Rattle.pep508_tree_ref.specs.Lent.{tree_in};
 ghost use Rattle.pep508_tree_ref.specs.TreeIn.{diagram_in};
 ghost use Rattle.pep508_reading_back.specs.Asked.{AnswerAlike, IsAmong};
-ghost use Rattle.pep508_reading_back.specs.Questions.{AllQuestions};
+ghost use Rattle.pep508_diagram.specs.Questions.{AllQuestions};
 ghost use Rattle.pep508_reading_back.specs.Writable.{IsWritableDiagram};
 
 use pep508_requirement::laws::{

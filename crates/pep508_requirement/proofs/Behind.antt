@@ -1,5 +1,6 @@
 -- The marker behind a front is read where one is written, and only there.
-use Rattle.std.proofs.Common.{◌≡◌, ℕ, ◌==◌, Bool, true, false, if◌then◌else◌, List, [], ◌∷◌, ◌++◌, Ok, Err, inl, inr}
+use Rattle.std.proofs.Common.{◌≡◌, ℕ, ◌==◌, Bool, true, false, if◌then◌else◌, List, [], ◌∷◌, ◌++◌, Ok, Err}
+use Rattle.std.proofs.Common.{inl, inr}
 use Rattle.std.proofs.Common.{refl, ap, sym, subst, ◌∙◌}
 use Rattle.std.proofs.lemmas.List.{append-nil}
 use Rattle.std.specs.Prelude.{Result}
@@ -8,8 +9,8 @@ use Rattle.pep440_specifier.specs.SpecifierText.{AreSpaces}
 use Rattle.pep508_marker_read.specs.SideReading.{Refused, Malformed}
 use Rattle.pep508_marker_read.specs.MarkerReading.{Marker, marker_at}
 use Rattle.pep508_marker_read.specs.MarkerText.{IsMarkerText}
-use Rattle.pep508_requirement_text.proofs.Tests.{the_same}
-use Rattle.pep508_requirement_text.proofs.CharacterCuts.{spaces_found, spaces_again, only_spaces}
+use Rattle.pep508_error.proofs.Tests.{the_same}
+use Rattle.pep508_error.proofs.Spaces.{spaces_found, spaces_again, only_spaces}
 use Rattle.pep508_requirement.specs.MarkerBehind.{no_marker, marker_behind}
 use Rattle.pep508_requirement.specs.RequirementText.{IsBehindText}
 

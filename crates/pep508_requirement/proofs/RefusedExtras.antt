@@ -1,5 +1,6 @@
 -- Extras are refused as malformed alone.
-use Rattle.std.proofs.Common.{◌≡◌, ℕ, ◌==◌, true, false, if◌then◌else◌, List, [], ◌∷◌, Option, Some, None, Result, Ok, Err, IfSome, refl, ap, subst, ◌∙◌, option_map, chars}
+use Rattle.std.proofs.Common.{◌≡◌, ℕ, ◌==◌, true, false, if◌then◌else◌, List, [], ◌∷◌, Option, Some, None}
+use Rattle.std.proofs.Common.{Result, Ok, Err, IfSome, refl, ap, subst, ◌∙◌, option_map, chars}
 use Rattle.pep508_url.specs.Vars.{Variables}
 use Rattle.pep508_error.specs.declared.refusal.Refusal.{Refusal}
 use Rattle.pep508_error.specs.declared.refusal.RefusalKind.{RefusalKind}
@@ -8,7 +9,10 @@ use Rattle.pep508_error.specs.declared.error.Pep508Error.{Pep508Error}
 use Rattle.pep508_error.specs.declared.error.Pep508ErrorSource.{Pep508ErrorSource}
 use Rattle.pep508_error.specs.declared.error.Pep508ErrorSource.TheVariants as sources
 use Rattle.pep508_error.specs.Errors.{told_error, told_refusal}
-use Rattle.pep508_requirement_text.specs.FrontReading.{Refused, Reading, ◌>>=◌, if_there, cut_around, extras_of, bracketed, extras_at}
+use Rattle.pep508_requirement_text.specs.FrontReading.{Refused, Reading, if_there, extras_of, bracketed}
+use Rattle.pep508_requirement_text.specs.FrontReading.{extras_at}
+use Rattle.pep508_error.specs.Steps.{◌>>=◌}
+use Rattle.pep508_error.specs.Cuts.{cut_around}
 use Rattle.pep508_requirement_text.specs.FrontReading.Refused.{Malformed}
 use Rattle.pep508_requirement_text.specs.FrontOutcome.{Fits, Tells}
 use Rattle.pep508_requirement.specs.ExtrasReading.{ExtrasRefusedBy}

@@ -1,5 +1,6 @@
 -- What an error says of a text is the reason for which the text is refused.
-use Rattle.std.proofs.Common.{◌≡◌, ℕ, Bool, List, Option, Some, None, Result, Ok, Err, IfSome, refl, sym, ap, subst, ◌∙◌, inl, inr}
+use Rattle.std.proofs.Common.{◌≡◌, ℕ, Bool, List, Option, Some, None, Result, Ok, Err, IfSome, refl, sym, ap}
+use Rattle.std.proofs.Common.{subst, ◌∙◌, inl, inr}
 use Rattle.std.specs.Str.{skip_leading_whitespace}
 use Rattle.pep508_url.specs.Vars.{Variables}
 use Rattle.pep508_error.specs.declared.cursor.Cursor.{Cursor}

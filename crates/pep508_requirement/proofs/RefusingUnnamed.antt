@@ -1,5 +1,6 @@
 -- What an error says of a text is the reason for which the text is no requirement without a name.
-use Rattle.std.proofs.Common.{◌≡◌, ◌⊎◌, ℕ, Bool, true, false, List, Option, Some, None, Result, Ok, Err, IfSome, refl, sym, ap, subst, inl, inr, ⊎_elim}
+use Rattle.std.proofs.Common.{◌≡◌, ◌⊎◌, ℕ, Bool, true, false, List, Option, Some, None, Result, Ok, Err}
+use Rattle.std.proofs.Common.{IfSome, refl, sym, ap, subst, inl, inr, ⊎_elim}
 use Rattle.std.specs.Str.{skip_leading_whitespace}
 use Rattle.pep508_error.specs.declared.excerpt.Excerpt.{Excerpt}
 use Rattle.pep508_error.specs.declared.refusal.Refusal.{Refusal}

@@ -1,7 +1,7 @@
 //! Lists of extras.
 
 ghost use Rattle.std.specs.Prelude.{◌≡◌, ◌==◌, false, chars, IsOk, IfOk};
-ghost use Rattle.pep508_requirement_text.specs.UrlEnds.{begins_with};
+ghost use Rattle.pep508_error.specs.Cuts.{begins_by};
 ghost use Rattle.pep508_requirement.specs.ExtrasReading.{ReadsExtras};
 
 use pep508_error::{Cursor, Pep508Error};
@@ -21,7 +21,7 @@ impl Extras {
     /// Linear in the extras; takes memory for them and for an error, and none where no bracket stands there.
     pub fn parse<T: Pep508Url>(alloc: Global, text: &str) -> Result<Extras, Pep508Error<T>>
         ensures read { ReadsExtras text.now result }
-        ensures none { begins_with (λ c. c == 91) (chars text.now) ≡ false → IsOk result }
+        ensures none { begins_by (λ c. c == 91) (chars text.now) ≡ false → IsOk result }
     {
         match read_extras(alloc, Cursor::new(text)) {
             Ok((names, _)) => Ok(Extras(names)),

@@ -1,7 +1,8 @@
 //! What is left of a text behind a requirement and is no marker.
 
 ghost use Rattle.pep508_error.specs.Cursors.{IsBehind};
-ghost use Rattle.pep508_requirement_text.specs.FrontOutcome.{IsOf, IsPlain};
+ghost use Rattle.pep508_requirement_text.specs.FrontOutcome.{IsPlain};
+ghost use Rattle.pep508_error.specs.Refusals.{IsOf};
 
 use pep508_error::{Cursor, Refusal, RefusalKind};
 use std::alloc::Global;

@@ -6,7 +6,7 @@ ghost use Rattle.pep508_url.specs.Vars.{IsAbsolute};
 ghost use Rattle.pep508_error.specs.Cursors.{rest_of};
 ghost use Rattle.pep508_tree.specs.Meaning.{Extends};
 ghost use Rattle.pep508_marker_read.specs.MarkerOutcome.{ReadsMarker};
-ghost use Rattle.pep508_requirement_text.specs.FrontOutcome.{IsOf};
+ghost use Rattle.pep508_error.specs.Refusals.{IsOf};
 ghost use Rattle.pep508_requirement.specs.MarkerBehind.{marker_behind, TakesUnnamedWarnings};
 ghost use Rattle.pep508_requirement.specs.Pieces.{ReadsPiece};
 ghost use Rattle.pep508_requirement.specs.UnnamedUrls.{ReadsUnnamed};

@@ -4,7 +4,7 @@ ghost use Rattle.std.specs.Prelude.{IfOk, IfSome, option_copied};
 ghost use Rattle.pep508_url.specs.Vars.{IsAbsolute};
 ghost use Rattle.pep508_requirement.specs.UnnamedUrls.{ReadsUnnamed};
 
-use pep508_url::{Scheme, UnnamedRequirementUrl, normalize_url_path, split_scheme, strip_host};
+use pep508_url::{Place, UnnamedRequirementUrl, place_of};
 use std::alloc::{AllocError, Global};
 
 /// The URL of a text whose variables have their values, or why there is none. Want of memory before the text
@@ -20,16 +20,9 @@ pub(crate) fn read_unnamed_url<U: UnnamedRequirementUrl>(
         ReadsUnnamed (λ path. U.reads_path path (option_copied working_dir.entry)) U.reads_url
         text.now outcome) }
 {
-    let Some((scheme, rest)) = split_scheme(text) else {
-        return Ok(read_path(alloc, text, working_dir));
-    };
-    match Scheme::parse(scheme) {
-        None => Ok(read_path(alloc, text, working_dir)),
-        Some(Scheme::File) => {
-            let path = normalize_url_path(alloc, strip_host(rest))?;
-            Ok(read_path(alloc, path.as_str(), working_dir))
-        }
-        Some(_) => Ok(U::parse_unnamed_url(alloc, text)),
+    match place_of(alloc, text)? {
+        Place::Path(path) => Ok(read_path(alloc, path.as_str(), working_dir)),
+        Place::Url => Ok(U::parse_unnamed_url(alloc, text)),
     }
 }
 

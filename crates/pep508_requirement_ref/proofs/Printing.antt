@@ -1,5 +1,6 @@
 -- The parts of a requirement's text, one behind another, are its text.
-use Rattle.std.proofs.Common.{◌≡◌, ℕ, List, [], ◌∷◌, ◌++◌, codes, Option, Some, None, option_map, refl, ap, sym, append_assoc}
+use Rattle.std.proofs.Common.{◌≡◌, ℕ, List, [], ◌∷◌, ◌++◌, codes, Option, Some, None, option_map, refl, ap}
+use Rattle.std.proofs.Common.{sym, append_assoc}
 use Rattle.std.proofs.lemmas.List.{append-nil}
 use Rattle.std.specs.Fmt.{◌++?◌}
 use Rattle.std.specs.List.{flat_map, join_with_byte}

@@ -6,14 +6,17 @@ use Rattle.std.specs.Str.{chars, skip_leading_whitespace}
 use Rattle.pep508_name.specs.Name.{is_name_byte}
 use Rattle.pep440_specifier.specs.SpecifierText.{AreSpaces}
 use Rattle.pep508_requirement_text.proofs.Lists.{TextLaw}
-use Rattle.pep508_requirement_text.specs.UrlEnds.{begins_with}
-use Rattle.pep508_requirement_text.specs.FrontReading.{Refused, Front, ◌>>=◌, name_at, extras_at}
+use Rattle.pep508_error.specs.Cuts.{begins_by}
+use Rattle.pep508_requirement_text.specs.FrontReading.{Refused, Front, name_at, extras_at}
+use Rattle.pep508_error.specs.Steps.{◌>>=◌}
 use Rattle.pep508_requirement_text.specs.FrontReading.{source_at, with_source, behind_extras, behind_name}
 use Rattle.pep508_requirement_text.specs.FrontReading.{front_reading}
 use Rattle.pep508_requirement_text.specs.FrontText.{IsExtrasText, IsFrontText, IsRequirementText}
-use Rattle.pep508_requirement_text.proofs.CharacterCuts.{Unspaced, Ends, unspaced_same, spaces_again, skipped_front}
+use Rattle.pep508_error.proofs.Spaces.{Unspaced, unspaced_same, spaces_again, skipped_front}
+use Rattle.pep508_error.proofs.Cuts.{Ends}
 use Rattle.pep508_requirement_text.proofs.Names.{named, name_unspaced, behind_spaces}
-use Rattle.pep508_requirement_text.proofs.ExtrasTexts.{answer, ok_same, name_again, no_extras_again, extras_again}
+use Rattle.pep508_requirement_text.proofs.ExtrasTexts.{name_again, no_extras_again, extras_again}
+use Rattle.pep508_error.proofs.Steps.{answer, ok_same}
 use Rattle.pep508_requirement_text.proofs.Sources.{source_again, source_apart, space_apart, bracket_apart}
 use Rattle.pep508_requirement_text.proofs.Sources.{name_apart}
 
@@ -23,17 +26,17 @@ unnamed_by : (c : ℕ) (t : Bool) → is_name_byte c ≡ t → is_whitespace c �
 unnamed_by c true e h = (let no = name_unspaced c e in absurd (cc))
 unnamed_by c false e h = refl
 
-unnamed_spaces : (spaces rest : List ℕ) → AreSpaces spaces → begins_with is_name_byte rest ≡ false
-    → begins_with is_name_byte (spaces ++ rest) ≡ false
+unnamed_spaces : (spaces rest : List ℕ) → AreSpaces spaces → begins_by is_name_byte rest ≡ false
+    → begins_by is_name_byte (spaces ++ rest) ≡ false
 unnamed_spaces [] rest h k = k
 unnamed_spaces (c ∷ cs) rest h k = unnamed_by c (is_name_byte c) refl h.0
 
 unnamed_extras : (brackets rest : List ℕ) (names : List (List ℕ)) → IsExtrasText brackets names
-    → begins_with is_name_byte rest ≡ false → begins_with is_name_byte (brackets ++ rest) ≡ false
-unnamed_extras brackets rest names (inl h) k = ap (λ ds. begins_with is_name_byte (ds ++ rest)) h.0 ∙ k
-unnamed_extras brackets rest names (inr h) k = ap (λ ds. begins_with is_name_byte (ds ++ rest)) h.1
+    → begins_by is_name_byte rest ≡ false → begins_by is_name_byte (brackets ++ rest) ≡ false
+unnamed_extras brackets rest names (inl h) k = ap (λ ds. begins_by is_name_byte (ds ++ rest)) h.0 ∙ k
+unnamed_extras brackets rest names (inr h) k = ap (λ ds. begins_by is_name_byte (ds ++ rest)) h.1
 
-name_ends : (rest : List ℕ) → begins_with is_name_byte rest ≡ false → Ends (λ c. not (is_name_byte c)) rest
+name_ends : (rest : List ℕ) → begins_by is_name_byte rest ≡ false → Ends (λ c. not (is_name_byte c)) rest
 name_ends [] h = tt
 name_ends (c ∷ cs) h = ap not h
 
@@ -46,7 +49,7 @@ record ExtrasAgain (cs : List ℕ) (names : List (List ℕ)) (left : List ℕ) :
 
 extras_skipped : (before brackets after left : List ℕ) (names : List (List ℕ))
     → AreSpaces before
-    → IsExtrasText brackets names → AreSpaces after → Unspaced left → begins_with (λ c. c == 91) left ≡ false
+    → IsExtrasText brackets names → AreSpaces after → Unspaced left → begins_by (λ c. c == 91) left ≡ false
     → ExtrasAgain (before ++ (brackets ++ (after ++ left))) names left
 extras_skipped before brackets after left names b (inl h) a n k = record {
   rest = left;
@@ -80,7 +83,7 @@ front_again law text rest front h =
     let behind : List ℕ = h.brackets ++ (h.behind_extras ++ left) in
     let from : List ℕ = h.behind_name ++ behind in
     let unspaced : Unspaced left = source_apart is_whitespace h.written h.asked rest front.source space_apart h.is_source in
-    let unnamed : begins_with is_name_byte from ≡ false =
+    let unnamed : begins_by is_name_byte from ≡ false =
     unnamed_spaces h.behind_name behind h.spaces_behind_name
     (unnamed_extras h.brackets (h.behind_extras ++ left) front.extras h.are_extras
     (unnamed_spaces h.behind_extras left h.spaces_behind_extras

@@ -1,31 +1,12 @@
 -- Encoded characters, cut at an ASCII byte: both sides are encodings again.
-use Rattle.std.proofs.Common.{◌≡◌, ℕ, zero, suc, ◌<◌, ◌==◌, Bool, true, false, List, [], ◌∷◌, ◌++◌, length, get_or}
-use Rattle.std.proofs.Common.{All, refl, ap, sym, subst, ◌∙◌, arith}
+use Rattle.std.proofs.Common.{◌≡◌, ℕ, ◌<◌, ◌==◌, Bool, true, false, List, [], ◌∷◌, ◌++◌, get_or}
+use Rattle.std.proofs.Common.{refl, ap, sym, subst, ◌∙◌, arith}
 use Rattle.std.proofs.lemmas.List.{append-nil}
 use Rattle.std.proofs.lemmas.Str.{inside_one, encode_ascii, encodes-append}
 use Rattle.std.specs.Char.{encode_utf8}
 use Rattle.std.specs.Str.{encode_utf8_all}
-use Rattle.pep508_requirement_text.proofs.Tests.{itself, the_same}
-use Rattle.pep508_requirement_text.proofs.CharacterCuts.{NonePasses, none_joined, behind_front}
-
--- ---- place by place
-
-pub by_places : (xs : List ℕ) (test : ℕ → Bool) → ((k : ℕ) → k < length xs → test (get_or xs k 0) ≡ false)
-    → NonePasses test xs
-by_places [] test h = tt
-by_places (x ∷ xs) test h = (h zero (omega arith), by_places xs test (λ k l. h (suc k) (omega arith)))
-
-at_place : (test : ℕ → Bool) (xs : List ℕ) → NonePasses test xs → (k d : ℕ) → k < length xs
-    → test (get_or xs k d) ≡ false
-at_place test [] h k d within = absurd (omega arith)
-at_place test (x ∷ xs) h zero d within = h.0
-at_place test (x ∷ xs) h (suc k) d within = at_place test xs h.1 k d (omega arith)
-
-pub at_places : (test : ℕ → Bool) (xs : List ℕ) → NonePasses test xs → All (λ c. test c ≡ false) xs
-at_places test xs h = λ k d within. at_place test xs h k d within
-
-pub from_places : (test : ℕ → Bool) (xs : List ℕ) → All (λ c. test c ≡ false) xs → NonePasses test xs
-from_places test xs h = by_places xs test (λ k within. h k 0 within)
+use Rattle.pep508_error.proofs.Tests.{itself, the_same}
+use Rattle.pep508_error.proofs.Cuts.{NonePasses, none_joined, behind_front, by_places}
 
 -- ---- a byte that is a character of its own
 

@@ -1,13 +1,17 @@
 -- Extras, one piece after another.
-use Rattle.std.proofs.Common.{◌≡◌, ℕ, ◌+◌, ◌<◌, Bool, false, if◌then◌else◌, eqb, List, [], ◌∷◌, ◌++◌, length, take, drop, get_or, Option, Some, None, Result, Ok, Err, refl, sym, ap, ◌∙◌, arith}
+use Rattle.std.proofs.Common.{◌≡◌, ℕ, ◌+◌, ◌<◌, Bool, false, if◌then◌else◌, eqb, List, [], ◌∷◌, ◌++◌, length}
+use Rattle.std.proofs.Common.{take, drop, get_or, Option, Some, None, Result, Ok, Err, refl, sym, ap, ◌∙◌}
+use Rattle.std.proofs.Common.{arith}
 use Rattle.std.specs.Prelude.{option_map, option_and_then}
 use Rattle.std.specs.Option.{ok_or}
 use Rattle.std.specs.List.{slice_split}
 use Rattle.std.specs.Str.{trim}
 use Rattle.std.proofs.lemmas.List.{take-append-drop, take_more, take_all, drop_more}
 use Rattle.pep508_name.specs.Name.{name_of, name_reading}
-use Rattle.pep508_requirement_text.specs.UrlEnds.{begins_with}
-use Rattle.pep508_requirement_text.specs.FrontReading.{Refused, names_of, with_name, extras_at, extras_of, cut_around, bracketed, if_there, ◌>>=◌}
+use Rattle.pep508_error.specs.Cuts.{begins_by, cut_around}
+use Rattle.pep508_requirement_text.specs.FrontReading.{Refused, names_of, with_name, extras_at, extras_of}
+use Rattle.pep508_requirement_text.specs.FrontReading.{bracketed, if_there}
+use Rattle.pep508_error.specs.Steps.{◌>>=◌}
 use Rattle.pep508_requirement_text.specs.FrontReading.Refused.{Malformed}
 
 -- ---- names
@@ -116,7 +120,7 @@ refused_name text told e = none_by (name_of text) text told e
 
 -- ---- brackets
 
-pub no_bracket : (cs : List ℕ) → begins_with (λ c. eqb c 91) cs ≡ false → extras_at cs ≡ Ok ([], cs)
+pub no_bracket : (cs : List ℕ) → begins_by (λ c. eqb c 91) cs ≡ false → extras_at cs ≡ Ok ([], cs)
 no_bracket [] h = refl
 no_bracket (c ∷ cs) h = ap (λ (t : Bool). if t then if_there (cut_around 93 cs) >>= bracketed else Ok ([], c ∷ cs)) h
 

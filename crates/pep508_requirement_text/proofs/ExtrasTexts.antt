@@ -1,50 +1,30 @@
 -- The name and the extras at the front: what is read is what the grammar gives.
 use Rattle.std.proofs.Common.{◌≡◌, ℕ, ◌==◌, Bool, true, false, not, if◌then◌else◌, List, [], ◌∷◌, ◌++◌}
-use Rattle.std.proofs.Common.{Option, Some, None, Result, Ok, Err, inl, inr, refl, ap, sym, subst, ◌∙◌}
+use Rattle.std.proofs.Common.{Option, Some, None, Ok, Err, inl, inr, refl, ap, sym, subst, ◌∙◌}
 use Rattle.std.proofs.Common.{append_assoc}
 use Rattle.std.specs.Option.{option_map}
 use Rattle.std.specs.Str.{encode_utf8_all}
 use Rattle.pep508_name.specs.Name.{is_name, is_name_byte, is_alphanumeric_at, name_of, normal_name}
-use Rattle.pep508_requirement_text.specs.UrlEnds.{begins_with}
-use Rattle.pep508_requirement_text.specs.FrontReading.{Refused, Malformed, Nameless, ◌>>=◌, cut_before}
-use Rattle.pep508_requirement_text.specs.FrontReading.{cut_around, run_of, if_name, name_at, extras_of}
+use Rattle.pep508_error.specs.Cuts.{begins_by, encoded_cut, cut_around}
+use Rattle.pep508_error.specs.Steps.{◌>>=◌}
+use Rattle.pep508_requirement_text.specs.FrontReading.{Refused, Malformed, Nameless}
+use Rattle.pep508_requirement_text.specs.FrontReading.{run_of, if_name, name_at, extras_of}
 use Rattle.pep508_requirement_text.specs.FrontReading.{if_there}
 use Rattle.pep508_requirement_text.specs.FrontReading.{bracketed, extras_at}
 use Rattle.pep508_requirement_text.specs.FrontText.{IsInside, IsExtrasText}
-use Rattle.pep508_requirement_text.proofs.Tests.{the_same}
-use Rattle.pep508_requirement_text.proofs.CharacterCuts.{Ends, cut_again, cut_found, cut_is, around_again}
-use Rattle.pep508_requirement_text.proofs.CharacterCuts.{around_found}
+use Rattle.pep508_error.proofs.Tests.{the_same, not_false}
+use Rattle.pep508_error.proofs.Steps.{answer, ok_same, in_steps}
+use Rattle.pep508_error.proofs.Cuts.{Ends, encoded_again, cut_found, encoded_is, around_again, around_found}
 use Rattle.pep508_requirement_text.proofs.Names.{AreNameBytes, named, mapped, name_encoded}
 use Rattle.pep508_requirement_text.proofs.Names.{inside_found, inside_again, unbracketed}
 
 -- ---- answers
-
-abbrev pub answer : {A : Type 0} → A → Result A Refused
-answer x = Ok x
-
-pub ok_same : {A : Type 0} (x y : A) → answer x ≡ Ok y → x ≡ y
-ok_same x y h = cc
-
--- what is found in two steps
-pub record InSteps {A B : Type 0} (first : Result A Refused) (next : A → Result B Refused) (found : B) : Type 0 where
-  pub middle : A
-  pub first_is : first ≡ Ok middle
-  pub next_is : next middle ≡ Ok found
-
-pub in_steps : {A B : Type 0} (first : Result A Refused) (next : A → Result B Refused) (found : B)
-    → (first >>= next) ≡ Ok found → InSteps first next found
-in_steps (Ok x) next found h = record { middle = x; first_is = refl; next_is = h }
-in_steps (Err refused) next found h = absurd (cc)
 
 pub there : {A : Type 0} (maybe : Option A) (x : A) → if_there maybe ≡ Ok x → maybe ≡ Some x
 there (Some y) x h = cc
 there None x h = absurd (cc)
 
 -- ---- the name
-
-not_false : (t : Bool) → not t ≡ false → t ≡ true
-not_false true h = refl
-not_false false h = absurd (cc)
 
 pub record NameFound (cs : List ℕ) (parts : List ℕ × List ℕ) : Type 0 where
   pub split : cs ≡ parts.0 ++ parts.1
@@ -69,10 +49,10 @@ name_found cs parts h =
     let k = cut_found ends_name cs in
     let bytes : AreNameBytes k.front =
     mapped (λ c. ends_name c ≡ false) (λ c. is_name_byte c ≡ true) (λ c e. not_false (is_name_byte c) e) k.front k.passes in
-    let e = if_name_by cs (cut_before ends_name cs) parts (is_name (cut_before ends_name cs).0) refl h in
+    let e = if_name_by cs (encoded_cut ends_name cs) parts (is_name (encoded_cut ends_name cs).0) refl h in
     let made : List ℕ × List ℕ = (k.front, k.rest) in
     let same : made ≡ parts =
-    ap (λ bs. (bs, k.rest)) (sym (name_encoded k.front bytes)) ∙ sym (cut_is ends_name cs k) ∙ e.0 in
+    ap (λ bs. (bs, k.rest)) (sym (name_encoded k.front bytes)) ∙ sym (encoded_is ends_name cs k) ∙ e.0 in
     record {
       split = k.split ∙ ap (λ (p : List ℕ × List ℕ). p.0 ++ p.1) same;
       is_one = is_name_of parts.0 (ap (λ (p : List ℕ × List ℕ). is_name p.0) (sym e.0) ∙ e.1);
@@ -84,7 +64,7 @@ unfolding name_at
 name_again written rest name h k =
     let n = named written name h in
     let cs : List ℕ = written ++ rest in
-    ap (if_name cs) (cut_again ends_name written rest
+    ap (if_name cs) (encoded_again ends_name written rest
     (mapped (λ c. is_name_byte c ≡ true) (λ c. ends_name c ≡ false) (λ c e. ap not e) written n.bytes) k
     ∙ ap (λ bs. (bs, rest)) (name_encoded written n.bytes))
     ∙ ap (λ t. if t then Ok (written, rest) else Err (if is_alphanumeric_at written 0 then Malformed else Nameless (run_of cs))) n.is_one
@@ -107,7 +87,7 @@ bracketed_found rest (Some names) found h =
     let same : made ≡ found = cc in
     (ap (λ (p : List (List ℕ) × List ℕ). Some p.0) same, ap (λ (p : List (List ℕ) × List ℕ). p.1) same)
 
-no_brackets : (cs : List ℕ) (found : List (List ℕ) × List ℕ) → answer ([], cs) ≡ Ok found
+no_brackets : (cs : List ℕ) (found : List (List ℕ) × List ℕ) → answer {F = Refused} ([], cs) ≡ Ok found
     → ExtrasFound cs found.0 found.1
 no_brackets cs found h =
     let made : List (List ℕ) × List ℕ = ([], cs) in
@@ -139,7 +119,7 @@ extras_found [] found h = no_brackets [] found h
 extras_found (c ∷ cs) found h = extras_by c cs found (c == 91) refl h
 
 -- without brackets nothing is taken
-pub no_extras_again : (rest : List ℕ) → begins_with (λ c. c == 91) rest ≡ false
+pub no_extras_again : (rest : List ℕ) → begins_by (λ c. c == 91) rest ≡ false
     → extras_at rest ≡ Ok ([], rest)
 no_extras_again [] h = refl
 no_extras_again (c ∷ cs) h = ap (λ t. if t then if_there (cut_around 93 cs) >>= bracketed else Ok ([], c ∷ cs)) h

@@ -6,8 +6,9 @@ use Rattle.pep508_requirement_text.proofs.Lists.{TextLaw}
 use Rattle.pep508_requirement_text.specs.FrontReading.{Source, Front, name_at, extras_at, source_at}
 use Rattle.pep508_requirement_text.specs.FrontReading.{with_source, behind_extras, behind_name, front_reading}
 use Rattle.pep508_requirement_text.specs.FrontText.{IsFrontText}
-use Rattle.pep508_requirement_text.proofs.CharacterCuts.{spaces_found}
-use Rattle.pep508_requirement_text.proofs.ExtrasTexts.{ok_same, in_steps, name_found, extras_found}
+use Rattle.pep508_error.proofs.Spaces.{spaces_found}
+use Rattle.pep508_requirement_text.proofs.ExtrasTexts.{name_found, extras_found}
+use Rattle.pep508_error.proofs.Steps.{ok_same, in_steps}
 use Rattle.pep508_requirement_text.proofs.Sources.{source_found}
 
 -- parts one behind the other

@@ -1,5 +1,6 @@
 -- The parts of a front, one after another.
-use Rattle.std.proofs.Common.{◌≡◌, ◌==◌, ◌<◌, ℕ, Bool, true, false, if◌then◌else◌, List, [], ◌∷◌, ◌++◌, length, Result, Ok, Err, refl, sym, ap, subst, ◌∙◌, arith}
+use Rattle.std.proofs.Common.{◌≡◌, ◌==◌, ◌<◌, ℕ, Bool, true, false, if◌then◌else◌, List, [], ◌∷◌, ◌++◌}
+use Rattle.std.proofs.Common.{length, Result, Ok, Err, refl, sym, ap, subst, ◌∙◌, arith}
 use Rattle.std.proofs.lemmas.Bool.Decides.{nat_tests}
 use Rattle.std.proofs.lemmas.List.{append_cancel_left}
 use Rattle.std.proofs.lemmas.Str.{chars-nil, encodes-chars}
@@ -8,7 +9,9 @@ use Rattle.pep508_url.specs.Vars.{Variables}
 use Rattle.pep508_name.specs.Name.{normal_name}
 use Rattle.pep508_error.specs.declared.refusal.RefusalKind.{RefusalKind}
 use Rattle.pep508_requirement_text.specs.UrlEnds.{url_split}
-use Rattle.pep508_requirement_text.specs.FrontReading.{Refused, Source, ◌>>=◌, if_url, name_at, extras_at, source_at, behind_name, behind_extras, with_source, front_reading}
+use Rattle.pep508_requirement_text.specs.FrontReading.{Refused, Source, if_url, name_at, extras_at, source_at}
+use Rattle.pep508_requirement_text.specs.FrontReading.{behind_name, behind_extras, with_source, front_reading}
+use Rattle.pep508_error.specs.Steps.{◌>>=◌}
 use Rattle.pep508_requirement_text.specs.FrontReading.Refused.{Malformed}
 use Rattle.pep508_requirement_text.specs.FrontReading.Source.{Url}
 use Rattle.pep508_requirement_text.specs.FrontOutcome.{Tells}

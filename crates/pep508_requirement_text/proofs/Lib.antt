@@ -1,4 +1,3 @@
-pub mod Fronts
 pub mod Looks
 pub mod UrlLoops
 pub mod Outcomes
@@ -9,9 +8,7 @@ pub mod UnnamedParts
 pub mod UnnamedTexts
 pub mod UnnamedReadings
 pub mod SourceCases
-pub mod Tests
 pub mod Decoded
-pub mod CharacterCuts
 pub mod UrlLaws
 pub mod EncodedCuts
 pub mod Pieces

@@ -1,8 +1,12 @@
 -- Lists of specifiers: what refuses one, and where.
-use Rattle.std.proofs.Common.{◌≡◌, ◌==◌, ℕ, ◌+◌, ◌-◌, ◌<◌, ◌≤◌, Bool, true, false, if◌then◌else◌, List, [], ◌∷◌, ◌++◌, length, take, drop, get_or, Option, Some, None, Result, Ok, Err, refl, sym, ap, subst, ◌∙◌, arith, length-append, append_assoc, lit<, ⊎_elim}
+use Rattle.std.proofs.Common.{◌≡◌, ◌==◌, ℕ, ◌+◌, ◌-◌, ◌<◌, ◌≤◌, Bool, true, false, if◌then◌else◌, List, []}
+use Rattle.std.proofs.Common.{◌∷◌, ◌++◌, length, take, drop, get_or, Option, Some, None, Result, Ok, Err}
+use Rattle.std.proofs.Common.{refl, sym, ap, subst, ◌∙◌, arith, length-append, append_assoc, lit<, ⊎_elim}
 use Rattle.std.proofs.lemmas.Bool.{cases_lt}
-use Rattle.std.proofs.lemmas.List.{length-drop, get_or-drop, get_or_append_left, append_cancel_left, take-append-drop}
-use Rattle.std.proofs.lemmas.Str.{IsCharBoundary-at_seam, IsCharBoundary-before_ascii, IsUtf8-append, IsUtf8-drop, encodes-chars}
+use Rattle.std.proofs.lemmas.List.{length-drop, get_or-drop, get_or_append_left, append_cancel_left}
+use Rattle.std.proofs.lemmas.List.{take-append-drop}
+use Rattle.std.proofs.lemmas.Str.{IsCharBoundary-at_seam, IsCharBoundary-before_ascii, IsUtf8-append}
+use Rattle.std.proofs.lemmas.Str.{IsUtf8-drop, encodes-chars}
 use Rattle.std.specs.Option.{option_map}
 use Rattle.std.specs.Str.{trim_start, encode_utf8_all, IsUtf8, IsCharBoundary}
 use Rattle.std.specs.String.{string_bytes}
@@ -10,19 +14,25 @@ use Rattle.read_outcome.specs.Outcome.{Tells as TellsFault}
 use Rattle.pep440_specifier.specs.Matching.{SpecifierRecord}
 use Rattle.pep440_specifier.specs.SpecifierReading.{SpecifierFault, told_specifier, specifier_reading}
 use Rattle.pep440_specifier_list.specs.Places.{IsPlaced}
-use Rattle.pep440_specifier_list.specs.ListReading.{ListFault, ListReading, fault_at, placed_reading, with_first, pieces_reading, line_reading, list_reading, told_list, TellsOrMemory, pieces_of}
+use Rattle.pep440_specifier_list.specs.ListReading.{ListFault, ListReading, fault_at, placed_reading}
+use Rattle.pep440_specifier_list.specs.ListReading.{with_first, pieces_reading, line_reading, list_reading}
+use Rattle.pep440_specifier_list.specs.ListReading.{told_list, TellsOrMemory, pieces_of}
 use Rattle.pep440_specifier_list.specs.declared.refused_piece.RefusedPiece.{RefusedPiece}
 use Rattle.pep440_specifier_list.specs.declared.parse_error.VersionSpecifiersParseError.{VersionSpecifiersParseError}
-use Rattle.pep440_specifier_list.specs.declared.parse_error.VersionSpecifiersParseError.TheVariants.{Memory, Specifier}
+use Rattle.pep440_specifier_list.specs.declared.parse_error.VersionSpecifiersParseError.TheVariants.{Memory}
+use Rattle.pep440_specifier_list.specs.declared.parse_error.VersionSpecifiersParseError.TheVariants.{Specifier}
 use Rattle.std.specs.Str.Pattern.{HasCharAt}
 use Rattle.pep508_url.specs.Vars.{Variables}
 use Rattle.pep508_error.specs.declared.cursor.Cursor.{Cursor}
 use Rattle.pep508_error.specs.declared.refusal.RefusalKind.{RefusalKind}
-use Rattle.pep508_error.specs.Cursors.{rest_of}
-use Rattle.pep508_requirement_text.specs.FrontReading.{Refused, ◌>>=◌, if_list, specifiers_of_text, listed, enclosed, if_there, cut_around}
+use Rattle.pep508_error.specs.Cursors.{rest_of, IsAt}
+use Rattle.pep508_requirement_text.specs.FrontReading.{Refused, if_list, specifiers_of_text, listed, enclosed}
+use Rattle.pep508_requirement_text.specs.FrontReading.{if_there}
+use Rattle.pep508_error.specs.Steps.{◌>>=◌}
+use Rattle.pep508_error.specs.Cuts.{cut_around}
 use Rattle.pep508_requirement_text.specs.FrontReading.Refused.{Malformed}
 use Rattle.pep508_requirement_text.specs.FrontReading.Source.{Specifiers}
-use Rattle.pep508_requirement_text.specs.FrontOutcome.{IsAt, Tells}
+use Rattle.pep508_requirement_text.specs.FrontOutcome.{Tells}
 use Rattle.pep508_requirement_text.specs.FrontFound.{enclosed_at}
 use Rattle.pep508_requirement_text.proofs.Outcomes.{stops}
 use Rattle.pep508_requirement_text.specs.UrlTurns.{AreBlanks}

@@ -21,8 +21,8 @@ use Rattle.pep440_specifier_list.proofs.Pieces.{all_read, with_found, first_and_
 use Rattle.pep440_specifier_list.proofs.Whole.{whole}
 use Rattle.pep508_requirement_text.specs.FrontReading.{Malformed, if_list, specifiers_of_text}
 use Rattle.pep508_requirement_text.proofs.Decoded.{decoded}
-use Rattle.pep508_requirement_text.proofs.Tests.{the_same}
-use Rattle.pep508_requirement_text.proofs.CharacterCuts.{NonePasses}
+use Rattle.pep508_error.proofs.Tests.{the_same}
+use Rattle.pep508_error.proofs.Cuts.{NonePasses}
 use Rattle.pep508_requirement_text.proofs.Pieces.{is_comma, split_encoded}
 use Rattle.pep508_requirement_text.proofs.Pieces.{split_joined}
 use Rattle.pep508_requirement_text.proofs.Pieces.{some_piece, encoded_pieces}

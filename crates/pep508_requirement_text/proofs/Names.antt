@@ -15,9 +15,10 @@ use Rattle.pep508_name.specs.Name.{is_name, is_name_byte, is_alphanumeric_at, na
 use Rattle.pep508_requirement_text.specs.FrontReading.{with_name}
 use Rattle.pep508_requirement_text.specs.FrontReading.{names_of, extras_of}
 use Rattle.pep508_requirement_text.specs.FrontText.{IsSpacedName, IsInside}
-use Rattle.pep508_requirement_text.proofs.Tests.{another, and_parts}
-use Rattle.pep508_requirement_text.proofs.CharacterCuts.{behind_front, some_same, Unspaced, NonePasses, none_joined}
-use Rattle.pep508_requirement_text.proofs.CharacterCuts.{spaces_found, spaces_again, only_spaces}
+use Rattle.pep508_error.proofs.Tests.{another, and_parts}
+use Rattle.pep508_error.proofs.Cuts.{behind_front, NonePasses, none_joined}
+use Rattle.std.proofs.lemmas.Option.{same_Some}
+use Rattle.pep508_error.proofs.Spaces.{Unspaced, spaces_found, spaces_again, only_spaces}
 use Rattle.pep508_requirement_text.proofs.Pieces.{is_comma, split_encoded, split_joined}
 use Rattle.pep508_requirement_text.proofs.Pieces.{trailing_found, trailing_again, bare}
 use Rattle.pep508_requirement_text.proofs.Pieces.{trimmed}
@@ -152,7 +153,7 @@ name_and_more (Some name) (Some more) names h = record {
   more = more;
   first_is = refl;
   others_are = refl;
-  names_are = sym (some_same (name ∷ more) names h);
+  names_are = sym (same_Some (name ∷ more) names h);
 }
 
 names_found : (pieces names : List (List ℕ))
@@ -255,7 +256,7 @@ inside_by : (inside : List ℕ) (names : List (List ℕ)) (t : Bool)
     → (length (trim (encode_utf8_all inside)) == 0) ≡ t
     → (if t then Some [] else names_of (slice_split is_comma (encode_utf8_all inside))) ≡ Some names
     → IsInside inside names
-inside_by inside names true e h = inl (all_spaces inside e, sym (some_same [] names h))
+inside_by inside names true e h = inl (all_spaces inside e, sym (same_Some [] names h))
 inside_by inside names false e h =
     let pieces : List (List ℕ) = slice_split is_comma inside in
     let joined : inside ≡ join_with_byte 44 pieces = sym (join_with_byte-slice_split 44 inside) in

@@ -4,12 +4,15 @@ use Rattle.pep508_url.specs.Vars.{Variables}
 use Rattle.pep508_error.specs.declared.cursor.Cursor.{Cursor}
 use Rattle.pep508_error.specs.declared.refusal.Refusal.{Refusal}
 use Rattle.pep508_error.specs.declared.refusal.RefusalKind.{RefusalKind}
-use Rattle.pep508_error.specs.declared.refusal.RefusalKind.TheVariants.{Memory, String, UnsupportedRequirement, NumberAtEnd}
+use Rattle.pep508_error.specs.declared.refusal.RefusalKind.TheVariants.{Memory, String}
+use Rattle.pep508_error.specs.declared.refusal.RefusalKind.TheVariants.{UnsupportedRequirement, NumberAtEnd}
 use Rattle.pep508_error.specs.Cursors.{IsBehind}
-use Rattle.pep508_requirement_text.specs.FrontReading.{Refused, ◌>>=◌}
+use Rattle.pep508_requirement_text.specs.FrontReading.{Refused}
+use Rattle.pep508_error.specs.Steps.{◌>>=◌}
 use Rattle.pep508_requirement_text.specs.FrontReading.Refused.{Malformed, Nameless, Archive}
 use Rattle.pep508_requirement_text.specs.Unnamed.{LooksUnnamed}
-use Rattle.pep508_requirement_text.specs.FrontOutcome.{Fits, Tells, IsPlain, IsUnsupported, IsOf}
+use Rattle.pep508_requirement_text.specs.FrontOutcome.{Fits, Tells, IsPlain, IsUnsupported}
+use Rattle.pep508_error.specs.Refusals.{IsOf}
 
 pub memory_fits : (vars : Variables) (kind : RefusalKind) (refused : Refused) → kind ≡ Memory → Fits vars kind refused
 memory_fits vars kind refused e = subst (λ (k : RefusalKind). Fits vars k refused) (sym e) tt

@@ -10,8 +10,8 @@ use Rattle.std.specs.Str.{encode_utf8_all, skip_leading_whitespace, trim, trim_s
 use Rattle.std.specs.Str.{drop_trailing_whitespace}
 use Rattle.pep440_specifier.specs.SpecifierText.{AreSpaces}
 use Rattle.pep508_requirement_text.proofs.Decoded.{decoded}
-use Rattle.pep508_requirement_text.proofs.Tests.{the_same, and_parts}
-use Rattle.pep508_requirement_text.proofs.CharacterCuts.{NonePasses}
+use Rattle.pep508_error.proofs.Tests.{the_same, and_parts}
+use Rattle.pep508_error.proofs.Cuts.{NonePasses}
 use Rattle.pep508_requirement_text.proofs.EncodedCuts.{apart_char, around}
 
 -- ---- cutting at commas

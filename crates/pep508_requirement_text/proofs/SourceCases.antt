@@ -1,9 +1,12 @@
 -- What follows a name, by its first character.
-use Rattle.std.proofs.Common.{◌≡◌, ◌≢◌, ℕ, Bool, true, false, if◌then◌else◌, eqb, List, ◌∷◌, Err, refl, sym, ap, ◌∙◌, arith}
+use Rattle.std.proofs.Common.{◌≡◌, ◌≢◌, ℕ, Bool, true, false, if◌then◌else◌, eqb, List, ◌∷◌, Err, refl, sym}
+use Rattle.std.proofs.Common.{ap, ◌∙◌, arith}
 use Rattle.std.proofs.lemmas.Bool.Decides.{nat_tests}
 use Rattle.std.specs.Str.{skip_leading_whitespace}
 use Rattle.pep508_requirement_text.specs.UrlEnds.{url_split}
-use Rattle.pep508_requirement_text.specs.FrontReading.{Source, Reading, source_at, if_url, listed, alone, cut_before, begins_operator, run_of}
+use Rattle.pep508_requirement_text.specs.FrontReading.{Source, Reading, source_at, if_url, listed, alone}
+use Rattle.pep508_requirement_text.specs.FrontReading.{begins_operator, run_of}
+use Rattle.pep508_error.specs.Cuts.{encoded_cut}
 use Rattle.pep508_requirement_text.specs.FrontReading.Refused.{Nameless}
 use Rattle.pep508_requirement_text.specs.FrontFound.{enclosed_at}
 
@@ -15,7 +18,7 @@ module _ (whole name : List ℕ) (c : ℕ) (inner : List ℕ) where
   tested at opens operator ends =
       if at then if_url (url_split false 0 (skip_leading_whitespace inner))
       else (if opens then enclosed_at inner
-      else (if operator then listed (cut_before (λ d. eqb d 59) (c ∷ inner))
+      else (if operator then listed (encoded_cut (λ d. eqb d 59) (c ∷ inner))
       else (if ends then alone name (c ∷ inner) else Err (Nameless (run_of whole)))))
 
   by_tests : (at opens operator ends : Bool) → eqb c 64 ≡ at → eqb c 40 ≡ opens → begins_operator c ≡ operator
@@ -37,10 +40,10 @@ module _ (whole name : List ℕ) (c : ℕ) (inner : List ℕ) where
     at_bracket h = begun ∙ ap (λ (d : ℕ). source_at whole name (d ∷ inner)) h
 
     pub at_operator : c ≢ 64 → c ≢ 40 → begins_operator c ≡ true
-        → source_at whole name cs ≡ listed (cut_before (λ d. eqb d 59) cs)
+        → source_at whole name cs ≡ listed (encoded_cut (λ d. eqb d 59) cs)
     at_operator p q r =
         begun ∙ by_tests false false true (eqb c 59) (is_not c 64 p) (is_not c 40 q) r refl
-        ∙ ap (λ (xs : List ℕ). listed (cut_before (λ d. eqb d 59) xs)) (sym e)
+        ∙ ap (λ (xs : List ℕ). listed (encoded_cut (λ d. eqb d 59) xs)) (sym e)
 
     pub at_marker : c ≡ 59 → source_at whole name cs ≡ alone name cs
     at_marker h =

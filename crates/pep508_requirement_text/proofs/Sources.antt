@@ -11,24 +11,27 @@ use Rattle.pep440_specifier_list.specs.ListReading.{pieces_of}
 use Rattle.pep440_specifier_list.proofs.Pieces.{all_read}
 use Rattle.pep508_name.specs.Name.{is_name_byte}
 use Rattle.pep508_requirement_text.specs.Archives.{is_archive}
-use Rattle.pep508_requirement_text.specs.UrlEnds.{begins_with, url_split}
+use Rattle.pep508_requirement_text.specs.UrlEnds.{url_split}
+use Rattle.pep508_error.specs.Cuts.{begins_by, encoded_cut, cut_around}
 use Rattle.pep508_requirement_text.specs.FrontReading.{Source, Any, Specifiers, Url, Malformed, Nameless}
-use Rattle.pep508_requirement_text.specs.FrontReading.{Archive, Reading, ◌>>=◌, cut_before, cut_around}
+use Rattle.pep508_requirement_text.specs.FrontReading.{Archive, Reading}
+use Rattle.pep508_error.specs.Steps.{◌>>=◌}
 use Rattle.pep508_requirement_text.specs.FrontReading.{run_of, if_there}
 use Rattle.pep508_requirement_text.specs.FrontReading.{specifiers_of_text, listed, enclosed, if_url}
 use Rattle.pep508_requirement_text.specs.FrontReading.{begins_operator}
 use Rattle.pep508_requirement_text.specs.FrontReading.{alone, source_at}
 use Rattle.pep508_requirement_text.specs.FrontText.{IsBeforeMarker, IsEnclosed, IsOpenList, IsUrlText}
 use Rattle.pep508_requirement_text.specs.FrontText.{IsSourceText}
-use Rattle.pep508_requirement_text.proofs.Tests.{the_same, or_cases, another}
-use Rattle.pep508_requirement_text.proofs.CharacterCuts.{behind_front, NonePasses, Ends, none_joined, spaces_found}
-use Rattle.pep508_requirement_text.proofs.CharacterCuts.{spaces_again, skipped_front}
-use Rattle.pep508_requirement_text.proofs.CharacterCuts.{cut_again, cut_found, cut_is, around_again, around_found}
-use Rattle.pep508_requirement_text.proofs.EncodedCuts.{at_places, from_places}
+use Rattle.pep508_error.proofs.Tests.{the_same, or_cases, another}
+use Rattle.pep508_error.proofs.Cuts.{behind_front, NonePasses, Ends, none_joined, encoded_again, cut_found}
+use Rattle.pep508_error.proofs.Cuts.{encoded_is, around_again, around_found, at_places, from_places}
+use Rattle.pep508_error.proofs.Spaces.{spaces_found, spaces_again, skipped_front}
 use Rattle.pep508_requirement_text.proofs.Pieces.{trimmed_start}
 use Rattle.pep508_requirement_text.proofs.Names.{none_in_spaces}
-use Rattle.pep508_requirement_text.proofs.ExtrasTexts.{answer, ok_same, in_steps, there}
-use Rattle.pep508_requirement_text.proofs.Lists.{TextLaw, list_by_pieces, pieces_by_list, skipped_list, given_found}
+use Rattle.pep508_requirement_text.proofs.ExtrasTexts.{there}
+use Rattle.pep508_error.proofs.Steps.{answer, ok_same, in_steps}
+use Rattle.pep508_requirement_text.proofs.Lists.{TextLaw, list_by_pieces, pieces_by_list, skipped_list}
+use Rattle.pep508_requirement_text.proofs.Lists.{given_found}
 use Rattle.pep508_requirement_text.proofs.Lists.{TextLaw, given_again}
 use Rattle.pep508_requirement_text.proofs.UrlLaws.{url_found, url_joined, url_again, unspaced_whole}
 
@@ -121,7 +124,7 @@ module _ (law : TextLaw) where
   -- without brackets
   open_by : (c : ℕ) (cs front rest : List ℕ) → begins_operator c ≡ true → c ∷ cs ≡ front ++ rest
       → Ends (λ d. d == 59) rest
-      → IsTrue (begins_with begins_operator front)
+      → IsTrue (begins_by begins_operator front)
   open_by c cs [] [] b e k = absurd (cc)
   open_by c cs [] (d ∷ rest) b e k =
       let same : c ≡ d = cc in
@@ -130,11 +133,11 @@ module _ (law : TextLaw) where
   open_by c cs (d ∷ front) rest b e k = (let same : c ≡ d = cc in ap begins_operator (sym same) ∙ b)
 
   open_found : (name : List ℕ) (c : ℕ) (cs : List ℕ) (found : Source × List ℕ)
-      → begins_operator c ≡ true → listed (cut_before (λ d. d == 59) (c ∷ cs)) ≡ Ok found
+      → begins_operator c ≡ true → listed (encoded_cut (λ d. d == 59) (c ∷ cs)) ≡ Ok found
       → SourceFound name (c ∷ cs) found.0 found.1
   open_found name c cs found b h =
       let k = cut_found (λ d. d == 59) (c ∷ cs) in
-      let l = is_listed (encode_utf8_all k.front, k.rest) found (ap listed (sym (cut_is (λ d. d == 59) (c ∷ cs) k)) ∙ h) in
+      let l = is_listed (encode_utf8_all k.front, k.rest) found (ap listed (sym (encoded_is (λ d. d == 59) (c ∷ cs) k)) ∙ h) in
       let read = pieces_by_list (encode_utf8_all k.front) l.given l.read in
       let given : IsOpenList k.front k.rest l.given = record {
         begins = open_by c cs k.front k.rest b k.split k.ends;
@@ -146,11 +149,11 @@ module _ (law : TextLaw) where
       (record { asked = k.front; split = k.split; is_source = inr given })
 
   open_source : (whole name : List ℕ) (c : ℕ) (cs : List ℕ) → begins_operator c ≡ true
-      → source_at whole name (c ∷ cs) ≡ listed (cut_before (λ d. d == 59) (c ∷ cs))
+      → source_at whole name (c ∷ cs) ≡ listed (encoded_cut (λ d. d == 59) (c ∷ cs))
   open_source whole name c cs b =
       let url : Reading Source = if_url (url_split false 0 (skip_leading_whitespace cs)) in
       let inside : Reading Source = if_there (cut_around 41 cs) >>= enclosed in
-      let list : Reading Source = listed (cut_before (λ d. d == 59) (c ∷ cs)) in
+      let list : Reading Source = listed (encoded_cut (λ d. d == 59) (c ∷ cs)) in
       let other : Reading Source = if c == 59 then alone name (c ∷ cs) else Err (Nameless (run_of whole)) in
       ap (λ t. if t then url else (if c == 40 then inside else (if begins_operator c then list else other)))
       (another begins_operator c 64 (c == 64) b refl refl)
@@ -159,13 +162,13 @@ module _ (law : TextLaw) where
       ∙ ap (λ t. if t then list else other) b
 
   open_again_by : (asked rest : List ℕ) (given : List SpecifierRecord) → (whole name : List ℕ)
-      → IsTrue (begins_with begins_operator asked) → NonePasses (λ c. c == 59) asked
+      → IsTrue (begins_by begins_operator asked) → NonePasses (λ c. c == 59) asked
       → all_read (pieces_of (encode_utf8_all asked)) ≡ Some given → Ends (λ c. c == 59) rest
       → source_at whole name (asked ++ rest) ≡ Ok (Specifiers given, rest)
   open_again_by [] rest given whole name b n read k = absurd (cc)
   open_again_by (c ∷ cs) rest given whole name b n read k =
       open_source whole name c (cs ++ rest) b
-      ∙ ap listed (cut_again (λ d. d == 59) (c ∷ cs) rest n k)
+      ∙ ap listed (encoded_again (λ d. d == 59) (c ∷ cs) rest n k)
       ∙ ap (λ found. found >>= λ given. Ok (Specifiers given, rest)) (list_by_pieces (encode_utf8_all (c ∷ cs)) given read)
 
   open_again : (asked rest : List ℕ) (given : List SpecifierRecord) → (whole name : List ℕ)
@@ -231,7 +234,7 @@ module _ (law : TextLaw) where
       → (c == 64) ≡ url → (c == 40) ≡ inside → begins_operator c ≡ list → (c == 59) ≡ none
       → (if url then if_url (url_split false 0 (skip_leading_whitespace cs))
       else (if inside then if_there (cut_around 41 cs) >>= enclosed
-      else (if list then listed (cut_before (λ d. d == 59) (c ∷ cs))
+      else (if list then listed (encoded_cut (λ d. d == 59) (c ∷ cs))
       else (if none then alone name (c ∷ cs) else Err (Nameless (run_of whole)))))) ≡ Ok found
       → SourceFound name (c ∷ cs) found.0 found.1
   source_by whole name c cs found true inside list none e1 e2 e3 e4 h =
@@ -277,23 +280,23 @@ pub record IsApart (test : ℕ → Bool) : Type 0 where
   pub marker : test 59 ≡ false
 
 marker_apart : (test : ℕ → Bool) (rest : List ℕ) → IsApart test → IsBeforeMarker rest
-    → begins_with test rest ≡ false
+    → begins_by test rest ≡ false
 marker_apart test [] a b = refl
 marker_apart test (c ∷ cs) a (inl b) = absurd (cc)
 marker_apart test (c ∷ cs) a (inr b) = ap test (the_same c 59 b) ∙ a.marker
 
 open_apart : (test : ℕ → Bool) (asked rest : List ℕ) → IsApart test
-    → IsTrue (begins_with begins_operator asked)
-    → begins_with test (asked ++ rest) ≡ false
+    → IsTrue (begins_by begins_operator asked)
+    → begins_by test (asked ++ rest) ≡ false
 open_apart test [] rest a b = absurd (cc)
 open_apart test (c ∷ cs) rest a b = a.list c b
 
 pub source_apart : (test : ℕ → Bool) (name asked rest : List ℕ) (source : Source) → IsApart test
-    → IsSourceText name asked rest source → begins_with test (asked ++ rest) ≡ false
-source_apart test name asked rest Any a h = ap (λ ds. begins_with test (ds ++ rest)) h.0 ∙ marker_apart test rest a h.1
-source_apart test name asked rest (Specifiers given) a (inl h) = ap (λ ds. begins_with test (ds ++ rest)) h.split ∙ a.inside
+    → IsSourceText name asked rest source → begins_by test (asked ++ rest) ≡ false
+source_apart test name asked rest Any a h = ap (λ ds. begins_by test (ds ++ rest)) h.0 ∙ marker_apart test rest a h.1
+source_apart test name asked rest (Specifiers given) a (inl h) = ap (λ ds. begins_by test (ds ++ rest)) h.split ∙ a.inside
 source_apart test name asked rest (Specifiers given) a (inr h) = open_apart test asked rest a h.begins
-source_apart test name asked rest (Url url) a h = ap (λ ds. begins_with test (ds ++ rest)) h.split ∙ a.url
+source_apart test name asked rest (Url url) a h = ap (λ ds. begins_by test (ds ++ rest)) h.split ∙ a.url
 
 operator_by : (test : ℕ → Bool) → test 60 ≡ false → test 61 ≡ false → test 62 ≡ false → test 126 ≡ false
     → test 33 ≡ false

@@ -7,9 +7,8 @@ use Rattle.pep508_url.specs.Splits.{is_bracket, IsExtrasSplit}
 use Rattle.pep508_requirement_text.specs.FrontReading.{Reading, extras_of}
 use Rattle.pep508_requirement_text.specs.FrontReading.Refused.{Malformed}
 use Rattle.pep508_requirement_text.specs.UnnamedReading.{UnnamedFront, url_at, IsUnnamedReading}
-use Rattle.pep508_requirement_text.proofs.Tests.{itself, the_same}
-use Rattle.pep508_requirement_text.proofs.CharacterCuts.{NonePasses}
-use Rattle.pep508_requirement_text.proofs.EncodedCuts.{at_places, from_places}
+use Rattle.pep508_error.proofs.Tests.{itself, the_same}
+use Rattle.pep508_error.proofs.Cuts.{NonePasses, at_places, from_places}
 
 -- ---- a closing bracket at the end, and no bracket before it
 

@@ -8,9 +8,10 @@ use Rattle.pep508_requirement_text.specs.UrlEnds.{IsUrlBefore, url_split}
 use Rattle.pep508_requirement_text.specs.FrontReading.{Refused, extras_of}
 use Rattle.pep508_requirement_text.specs.UnnamedReading.{UnnamedFront, url_at, HasExtras, IsUnnamedReading}
 use Rattle.pep508_requirement_text.specs.UnnamedText.{EndsInExtras, IsUnnamedText, IsUnnamedRequirementText}
-use Rattle.pep508_requirement_text.proofs.Tests.{or_first, or_second, neither}
-use Rattle.pep508_requirement_text.proofs.CharacterCuts.{NonePasses, spaces_found, spaces_again}
-use Rattle.pep508_requirement_text.proofs.EncodedCuts.{is, at_places, from_places, around, joined}
+use Rattle.pep508_error.proofs.Tests.{or_first, or_second, neither}
+use Rattle.pep508_error.proofs.Cuts.{NonePasses, at_places, from_places}
+use Rattle.pep508_error.proofs.Spaces.{spaces_found, spaces_again}
+use Rattle.pep508_requirement_text.proofs.EncodedCuts.{is, around, joined}
 use Rattle.pep508_requirement_text.proofs.EncodedCuts.{encoded_apart, apart_again}
 use Rattle.pep508_requirement_text.proofs.Names.{inside_found, inside_again}
 use Rattle.pep508_requirement_text.proofs.UrlLaws.{url_found, url_joined, url_again, unspaced_whole}

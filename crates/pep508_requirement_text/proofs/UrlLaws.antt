@@ -3,19 +3,19 @@ use Rattle.std.proofs.Common.{◌≡◌, ◌≢◌, ◌⊎◌, ◌↔◌, ℕ, �
 use Rattle.std.proofs.Common.{[], ◌∷◌, ◌++◌, inl, inr, refl, ap, sym, subst, ◌∙◌}
 use Rattle.std.specs.Prelude.{fold}
 use Rattle.std.specs.Char.{is_whitespace}
-use Rattle.pep508_requirement_text.specs.UrlEnds.{depth_behind, is_line_break, is_mark, begins_with}
+use Rattle.pep508_requirement_text.specs.UrlEnds.{depth_behind, is_line_break, is_mark}
+use Rattle.pep508_error.specs.Cuts.{begins_by}
 use Rattle.pep508_requirement_text.specs.UrlEnds.{begins_with_end}
 use Rattle.pep508_requirement_text.specs.UrlEnds.{ends_before, ends_behind, with_char, url_split, depth_of}
 use Rattle.pep508_requirement_text.specs.UrlEnds.{EndsWithMark, EndsBetween, IsUrlBefore}
-use Rattle.pep508_requirement_text.proofs.Tests.{the_same, or_left, or_right, or_cases, neither, or_first}
-use Rattle.pep508_requirement_text.proofs.Tests.{or_second}
-use Rattle.pep508_requirement_text.proofs.Tests.{both, and_parts}
+use Rattle.pep508_error.proofs.Tests.{the_same, or_left, or_right, or_cases, neither, or_first, or_second}
+use Rattle.pep508_error.proofs.Tests.{both, and_parts}
 
 -- ---- places at which a URL may end
 
 -- a URL may end here, at this depth, behind a mark or not
 abbrev ends_behind_mark : ℕ → Bool → List ℕ → Bool
-ends_behind_mark depth mark rest = depth == 0 && mark && begins_with is_whitespace rest
+ends_behind_mark depth mark rest = depth == 0 && mark && begins_by is_whitespace rest
 
 abbrev may_end : ℕ → Bool → List ℕ → Bool
 may_end depth mark [] = true
@@ -182,16 +182,16 @@ may_from brackets front (c ∷ cs) (inr (inl e)) =
     let rest : List ℕ = c ∷ cs in
     let depth : ℕ = depth_of brackets front in
     or_left (ends_before depth rest) (ends_behind_mark depth (last_mark false front) rest)
-    (or_left (begins_with is_line_break rest) (depth == 0 && begins_with_end rest) e)
+    (or_left (begins_by is_line_break rest) (depth == 0 && begins_with_end rest) e)
 may_from brackets front (c ∷ cs) (inr (inr h)) =
     let rest : List ℕ = c ∷ cs in
     let depth : ℕ = depth_of brackets front in
     let zero_is : (depth == 0) ≡ true = ap (λ n. n == 0) h.0 in
     elim h.1 [
       | inl e ↦ or_left (ends_before depth rest) (ends_behind_mark depth (last_mark false front) rest)
-          (or_right (begins_with is_line_break rest) (depth == 0 && begins_with_end rest) (both (depth == 0) (begins_with_end rest) zero_is e))
+          (or_right (begins_by is_line_break rest) (depth == 0 && begins_with_end rest) (both (depth == 0) (begins_with_end rest) zero_is e))
       | inr e ↦ or_right (ends_before depth rest) (ends_behind_mark depth (last_mark false front) rest)
-          (both (depth == 0 && last_mark false front) (begins_with is_whitespace rest)
+          (both (depth == 0 && last_mark false front) (begins_by is_whitespace rest)
           (both (depth == 0) (last_mark false front) zero_is (mark_is_last front e.0)) e.1)
     ]
 
@@ -202,11 +202,11 @@ between_from brackets front (c ∷ cs) h =
     let rest : List ℕ = c ∷ cs in
     let depth : ℕ = depth_of brackets front in
     elim (or_cases (ends_before depth rest) (ends_behind_mark depth (last_mark false front) rest) h) [
-      | inl e ↦ elim (or_cases (begins_with is_line_break rest) (depth == 0 && begins_with_end rest) e) [
+      | inl e ↦ elim (or_cases (begins_by is_line_break rest) (depth == 0 && begins_with_end rest) e) [
         | inl l ↦ inr (inl l)
         | inr l ↦ (let p = and_parts (depth == 0) (begins_with_end rest) l in inr (inr (the_same depth 0 p.0, inl p.1)))
       ]
-      | inr e ↦ (let p = and_parts (depth == 0 && last_mark false front) (begins_with is_whitespace rest) e in
+      | inr e ↦ (let p = and_parts (depth == 0 && last_mark false front) (begins_by is_whitespace rest) e in
           let q = and_parts (depth == 0) (last_mark false front) p.0 in
           inr (inr (the_same depth 0 q.0, inr (ends_with_mark front q.1, p.1))))
     ]
@@ -220,12 +220,12 @@ not_true : (t : Bool) → (t ≡ true → ⊥) → t ≡ false
 not_true true h = absurd (h refl)
 not_true false h = refl
 
-unspaced_front : (cs rest : List ℕ) → cs ≢ [] → begins_with is_whitespace (cs ++ rest) ≡ false
-    → begins_with is_whitespace cs ≡ false
+unspaced_front : (cs rest : List ℕ) → cs ≢ [] → begins_by is_whitespace (cs ++ rest) ≡ false
+    → begins_by is_whitespace cs ≡ false
 unspaced_front [] rest some h = absurd (some refl)
 unspaced_front (c ∷ cs) rest some h = h
 
-pub url_found : (brackets : Bool) (cs : List ℕ) → begins_with is_whitespace cs ≡ false
+pub url_found : (brackets : Bool) (cs : List ℕ) → begins_by is_whitespace cs ≡ false
     → (url_split brackets 0 cs).0 ≢ []
     → IsUrlBefore brackets (url_split brackets 0 cs).0 (url_split brackets 0 cs).1
 url_found brackets cs unspaced some =
@@ -234,7 +234,7 @@ url_found brackets cs unspaced some =
     let s = splits brackets 0 false cs (nothing_first cs) in
     record {
       some = some;
-      starts = unspaced_front url rest some (ap (begins_with is_whitespace) (sym s.joined) ∙ unspaced);
+      starts = unspaced_front url rest some (ap (begins_by is_whitespace) (sym s.joined) ∙ unspaced);
       ends = between_from brackets url rest (first_ends brackets 0 false url rest s.first);
       first = λ front back e n h.
           (let no = first_alone brackets 0 false url rest front back s.first e n in
@@ -253,14 +253,14 @@ url_again brackets url rest h =
     (λ t. h.first front back e n (between_from brackets front (back ++ rest) t))) in
     split_again brackets 0 false url rest first (nothing_first (url ++ rest))
 
-pub unspaced_whole : (url rest : List ℕ) → url ≢ [] → begins_with is_whitespace url ≡ false
-    → begins_with is_whitespace (url ++ rest) ≡ false
+pub unspaced_whole : (url rest : List ℕ) → url ≢ [] → begins_by is_whitespace url ≡ false
+    → begins_by is_whitespace (url ++ rest) ≡ false
 unspaced_whole [] rest some h = absurd (some refl)
 unspaced_whole (c ∷ cs) rest some h = h
 
 split_off : (brackets : Bool) (url rest : List ℕ) → url_split brackets 0 (url ++ rest) ≡ (url, rest)
     → url ≢ []
-    → begins_with is_whitespace url ≡ false → IsUrlBefore brackets url rest
+    → begins_by is_whitespace url ≡ false → IsUrlBefore brackets url rest
 split_off brackets url rest e some unspaced =
     let parts : List ℕ × List ℕ = url_split brackets 0 (url ++ rest) in
     let same : (url, rest) ≡ parts = sym e in
@@ -269,7 +269,7 @@ split_off brackets url rest e some unspaced =
     (subst (λ (p : List ℕ × List ℕ). p.0 ≢ []) same some))
 
 pub url_law : (brackets : Bool) (url rest : List ℕ)
-    → (url_split brackets 0 (url ++ rest) ≡ (url, rest)) × (url ≢ []) × (begins_with is_whitespace url ≡ false)
+    → (url_split brackets 0 (url ++ rest) ≡ (url, rest)) × (url ≢ []) × (begins_by is_whitespace url ≡ false)
     ↔ IsUrlBefore brackets url rest
 url_law brackets url rest = (
   λ h. split_off brackets url rest h.0 h.1 h.2,

@@ -1,15 +1,21 @@
 -- How the reading of a URL goes on, ends, and has begun.
-use Rattle.std.proofs.Common.{◌≡◌, ℕ, ◌+◌, ◌-◌, ◌<◌, ◌≤◌, ◌&&◌, ◌||◌, Bool, true, false, cond, if◌then◌else◌, eqb, List, [], ◌∷◌, ◌++◌, length, take, drop, refl, sym, ap, subst, ◌∙◌, arith, append_assoc, length-append, ⊎_elim, None}
-use Rattle.std.proofs.Math.Seq.{drop-append_seam, take-append_seam, drop-length}
-use Rattle.std.proofs.Math.ListN.{drop_of_length-le}
-use Rattle.std.proofs.lemmas.Bool.{cases_lt}
+use Rattle.std.proofs.Common.{◌≡◌, ℕ, ◌+◌, ◌-◌, ◌<◌, ◌≤◌, ◌&&◌, ◌||◌, Bool, true, false, cond, if◌then◌else◌}
+use Rattle.std.proofs.Common.{eqb, List, [], ◌∷◌, ◌++◌, length, take, drop, refl, sym, ap, subst, ◌∙◌, arith}
+use Rattle.std.proofs.Common.{append_assoc, length-append, None}
+use Rattle.std.proofs.Math.Seq.{drop-append_seam, take-append_seam}
 use Rattle.std.proofs.lemmas.Bool.Decides.{nat_tests}
-use Rattle.std.proofs.lemmas.List.{take-append-drop, append-nil, append_cancel_right, length-take-le, length-drop}
-use Rattle.std.proofs.lemmas.Str.{IsUtf8-nil, IsUtf8-append, IsUtf8-take, IsUtf8-drop, IsUtf8-past_char, IsCharBoundary-from_drop, chars-append, chars-nil, chars_past_char, chars_from_encodes, length-encode, len_utf8_bounds, IsCharBoundary-at_seam}
+use Rattle.std.proofs.lemmas.List.{take-append-drop, append-nil, append_cancel_right, length-take-le}
+use Rattle.std.proofs.lemmas.Str.{IsUtf8-nil, IsUtf8-append, IsUtf8-take, IsUtf8-drop, IsUtf8-past_char}
+use Rattle.std.proofs.lemmas.Str.{IsCharBoundary-from_drop, chars-append, chars-nil, chars_past_char}
+use Rattle.std.proofs.lemmas.Str.{chars_from_encodes, length-encode, len_utf8_bounds, IsCharBoundary-at_seam}
 use Rattle.std.specs.Char.{is_whitespace, is_not_whitespace, encode_utf8}
-use Rattle.std.specs.Str.{chars, skip_leading_whitespace, IsUtf8, NonePass, IsCharBoundary, IsTrimStart, trim_start}
+use Rattle.std.specs.Str.{chars, skip_leading_whitespace, IsUtf8, NonePass, IsCharBoundary, IsTrimStart}
+use Rattle.std.specs.Str.{trim_start}
 use Rattle.std.specs.Str.Pattern.{FindsBy, MatchBeginsAt}
-use Rattle.pep508_requirement_text.specs.UrlEnds.{url_split, depth_behind, with_char, begins_with, is_over, is_line_break, is_mark, ends_before, ends_behind}
+use Rattle.pep508_requirement_text.specs.UrlEnds.{url_split, depth_behind, with_char, is_over, is_line_break}
+use Rattle.pep508_requirement_text.specs.UrlEnds.{is_mark, ends_before, ends_behind}
+use Rattle.pep508_error.specs.Cuts.{begins_by}
+use Rattle.pep508_error.proofs.Places.{end_begins}
 use Rattle.pep508_requirement_text.specs.UrlTurns.{IsCut, BeginsWith, AreBlanks, onto, EndsAt, GoesOnAt}
 
 -- ---- one character
@@ -97,8 +103,8 @@ open_blank depth c ws ds h all l e =
     ∙ ap (λ (xs : List ℕ). tests depth false true (is_over xs)) (skip_blank c (ws ++ ds) h ∙ skip_blanks ws ds all)
     ∙ zero_over (eqb depth 0) (is_over (skip_leading_whitespace ds)) e
 
-not_behind : (depth c : ℕ) (cs : List ℕ) (zero : Bool) → is_mark c ≡ false → (zero && is_mark c && begins_with is_whitespace cs) ≡ false
-not_behind depth c cs true h = ap (λ (t : Bool). t && begins_with is_whitespace cs) h
+not_behind : (depth c : ℕ) (cs : List ℕ) (zero : Bool) → is_mark c ≡ false → (zero && is_mark c && begins_by is_whitespace cs) ≡ false
+not_behind depth c cs true h = ap (λ (t : Bool). t && begins_by is_whitespace cs) h
 not_behind depth c cs false h = refl
 
 -- a URL goes on over white space with no line break, which no end follows
@@ -207,14 +213,14 @@ goes_next b depth c text rest h w e =
 
 -- a URL ends before white space that an end follows
 pub ends_blank : (b : Bool) (depth : ℕ) (text run rest : List ℕ) → IsUtf8 text → AreBlanks text run rest
-    → begins_with is_whitespace (chars text) ≡ true → (eqb depth 0 && is_over (chars rest)) ≡ true
+    → begins_by is_whitespace (chars text) ≡ true → (eqb depth 0 && is_over (chars rest)) ≡ true
     → EndsAt b depth text text
 ends_blank b depth text run rest u blanks w h =
     let both = parted (eqb depth 0) (is_over (chars rest)) h in
     let over : is_over (skip_leading_whitespace (chars text)) ≡ true = ap is_over (sym blanks.skipped) ∙ both.1 in
     ends_at_once b depth text u
-    (or_true (begins_with is_line_break (chars text)) (eqb depth 0 && (begins_with is_whitespace (chars text) && is_over (skip_leading_whitespace (chars text))))
-    (all_true (eqb depth 0) (begins_with is_whitespace (chars text)) (is_over (skip_leading_whitespace (chars text))) both.0 w over))
+    (or_true (begins_by is_line_break (chars text)) (eqb depth 0 && (begins_by is_whitespace (chars text) && is_over (skip_leading_whitespace (chars text))))
+    (all_true (eqb depth 0) (begins_by is_whitespace (chars text)) (is_over (skip_leading_whitespace (chars text))) both.0 w over))
 
 -- ---- a run of white space
 
@@ -229,7 +235,7 @@ skip_shorter (c ∷ cs) =
     elim (is_whitespace c) as (λ (t : Bool). length (cond t (skip_leading_whitespace cs) (c ∷ cs)) ≤ length (c ∷ cs))
     [ true ↦ omega (arith, less) | false ↦ omega arith ]
 
-not_same : (cs : List ℕ) → begins_with is_whitespace cs ≡ true → cs ≡ skip_leading_whitespace cs → ⊥
+not_same : (cs : List ℕ) → begins_by is_whitespace cs ≡ true → cs ≡ skip_leading_whitespace cs → ⊥
 not_same [] w e = absurd (cc)
 not_same (c ∷ cs) w e =
     let less = skip_shorter cs in
@@ -239,7 +245,7 @@ not_same (c ∷ cs) w e =
     absurd (omega (arith, less, same))
 
 longer : (run rest text : List ℕ) → text ≡ run ++ rest → chars rest ≡ skip_leading_whitespace (chars text)
-    → begins_with is_whitespace (chars text) ≡ true → length rest < length text
+    → begins_by is_whitespace (chars text) ≡ true → length rest < length text
 longer [] rest text e s w = absurd (not_same (chars text) w (ap chars e ∙ s))
 longer (x ∷ xs) rest text e s w =
     let all : length text ≡ length ((x ∷ xs) ++ rest) = ap length e in
@@ -261,7 +267,7 @@ module _ (b : Bool) (depth : ℕ) (text run rest : List ℕ) (blanks : AreBlanks
       (ap (λ (cs : List ℕ). eqb depth 0 && is_over cs) (skipped_behind ws ds e h) ∙ going) kept
 
   -- no line break stands in the run
-  pub goes_over : begins_with is_whitespace (chars text) ≡ true → (eqb depth 0 && is_over (chars rest)) ≡ false
+  pub goes_over : begins_by is_whitespace (chars text) ≡ true → (eqb depth 0 && is_over (chars rest)) ≡ false
       → depth_behind b depth 32 ≡ depth → FindsBy is_line_break run None
       → GoesOnAt b depth text depth rest × (length rest < length text)
   goes_over w going kept none =
@@ -442,18 +448,6 @@ begun text same rest c u e h =
       cut = record { whole = whole; front_utf8 = char_utf8 text rest c u whole v; rest_utf8 = v };
       characters = chars_past_char text rest c u whole;
     }
-
-end_begins : (n : ℕ) (text : List ℕ) → drop (length text - length (drop n text)) text ≡ drop n text
-end_begins n text =
-    ⊎_elim
-    (λ (over : length text < n).
-    let none : drop n text ≡ [] = drop_of_length-le text (omega (arith, over)) in
-    let all : length text - length (drop n text) ≡ length text = omega (arith, ap length none) in
-    ap (λ k. drop k text) all ∙ drop-length text ∙ sym none)
-    (λ (within : n ≤ length text).
-    let at : length text - length (drop n text) ≡ n = omega (arith, within, length-drop n text) in
-    ap (λ k. drop k text) at)
-    (cases_lt (length text) n)
 
 module _ (text trimmed : List ℕ) (u : IsUtf8 text) (v : IsUtf8 trimmed) (cut : IsTrimStart text trimmed) where
   trimmed_at : drop (length text - length trimmed) text ≡ trimmed

@@ -5,10 +5,13 @@ use Rattle.pep440_specifier_list.specs.Lists.{IsInOrder}
 use Rattle.pep508_error.specs.declared.cursor.Cursor.{Cursor}
 use Rattle.pep508_error.specs.declared.refusal.Refusal.{Refusal}
 use Rattle.pep508_requirement_text.specs.FrontReading as said
-use Rattle.pep508_requirement_text.specs.FrontReading.{Reading, ◌>>=◌, if_there, cut_around}
+use Rattle.pep508_requirement_text.specs.FrontReading.{Reading, if_there}
+use Rattle.pep508_error.specs.Steps.{◌>>=◌}
+use Rattle.pep508_error.specs.Cuts.{cut_around}
 use Rattle.pep508_requirement_text.specs.FrontReading.{enclosed}
 use Rattle.pep508_requirement_text.specs.FrontReading.Source.{Any, Specifiers, Url}
-use Rattle.pep508_requirement_text.specs.FrontOutcome.{Tells, behind}
+use Rattle.pep508_requirement_text.specs.FrontOutcome.{Tells}
+use Rattle.pep508_error.specs.Cursors.{behind}
 use Rattle.pep508_requirement_text.specs.declared.source.Source.{Source}
 use Rattle.pep508_requirement_text.specs.declared.source.Source.TheVariants as found
 use Rattle.pep508_requirement_text.specs.declared.front.Front.{Front}

@@ -1,15 +1,12 @@
 -- What the readers of a requirement's front return, by what there is to read.
-use Rattle.std.specs.Prelude.{◌≡◌, ℕ, ◌++◌, List, Result, Ok, Err}
-use Rattle.std.specs.Str.{chars, IsUtf8}
+use Rattle.std.specs.Prelude.{◌≡◌, List, Result, Ok, Err}
 use Rattle.pep508_url.specs.Vars.{Variables}
 use Rattle.pep440_specifier.specs.Matching.{SpecifierRecord}
 use Rattle.pep440_specifier_list.specs.Lists.{IsInOrder}
-use Rattle.pep508_error.specs.declared.cursor.Cursor.{Cursor}
 use Rattle.pep508_error.specs.declared.refusal.Refusal.{Refusal}
 use Rattle.pep508_error.specs.declared.refusal.RefusalKind.{RefusalKind}
 use Rattle.pep508_error.specs.declared.refusal.RefusalKind.TheVariants.{Memory, String}
 use Rattle.pep508_error.specs.declared.refusal.RefusalKind.TheVariants.{UnsupportedRequirement, NumberAtEnd}
-use Rattle.pep508_error.specs.Cursors.{rest_of, IsBehind}
 use Rattle.pep508_requirement_text.specs.FrontReading.{Refused}
 use Rattle.pep508_requirement_text.specs.FrontReading.Refused.{Malformed, Nameless, Archive}
 use Rattle.pep508_requirement_text.specs.Unnamed.{LooksUnnamed}
@@ -48,28 +45,9 @@ abbrev pub Reads : {X Y : Type 0} → Variables → (X → Y) → Result X Refus
 Reads vars view (Ok x) reading = reading ≡ Ok (view x)
 Reads vars view (Err refusal) reading = Tells vars refusal.kind reading
 
--- the characters behind a place
-abbrev pub behind : Cursor → List ℕ
-behind cursor = chars (rest_of cursor)
-
--- this text stands at the place
-pub record IsAt (cursor : Cursor) (text : List ℕ) : Type 0 where
-  pub rest : List ℕ
-  pub whole : rest_of cursor ≡ text ++ rest
-  pub rest_utf8 : IsUtf8 rest
-
 -- the same of specifiers, which stand by version
 abbrev pub ReadsSpecifiers : Result (List SpecifierRecord) Refusal → Result (List SpecifierRecord) Refused
     → Type 0
 ReadsSpecifiers (Ok list) reading =
     (given : List SpecifierRecord) × (reading ≡ Ok given) × IsInOrder given list
 ReadsSpecifiers (Err refusal) reading = (vars : Variables) → Tells vars refusal.kind reading
-
--- a refusal is of the text of the place, unless it is want of memory
-abbrev pub IsOf : Cursor → Refusal → Type 0
-IsOf cursor refusal = (refusal.kind ≡ Memory → ⊥) → refusal.input.now ≡ cursor.input.now
-
--- where reading ends is behind the place in the same text, and so is what a refusal shows
-abbrev pub StaysIn : {X : Type 0} → Cursor → (X → Cursor) → Result X Refusal → Type 0
-StaysIn cursor place (Ok x) = IsBehind cursor (place x)
-StaysIn cursor place (Err refusal) = IsOf cursor refusal

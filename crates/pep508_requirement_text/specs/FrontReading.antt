@@ -1,14 +1,16 @@
 -- What there is to read at the front of a requirement's text, before its marker: a name, extras, and
 -- specifiers or the text of a URL (PEP 508, "Grammar"); or why there is none.
-use Rattle.std.specs.Prelude.{ℕ, ◌==◌, ◌||◌, nat_lt, not, Bool, false, if◌then◌else◌, List, [], ◌∷◌, length}
-use Rattle.std.specs.Prelude.{drop, Option, Some, None, Result, Ok, Err, encode_utf8_all}
+use Rattle.std.specs.Prelude.{ℕ, ◌==◌, ◌||◌, not, Bool, false, if◌then◌else◌, List, [], ◌∷◌, length}
+use Rattle.std.specs.Prelude.{Option, Some, None, Result, Ok, Err, encode_utf8_all}
 use Rattle.std.specs.Char.{is_whitespace}
-use Rattle.std.specs.List.{before_first, after_first, position_or_len, slice_split}
+use Rattle.std.specs.List.{slice_split}
 use Rattle.std.specs.Option.{option_map}
 use Rattle.std.specs.Str.{chars, skip_leading_whitespace, trim, trim_start}
 use Rattle.pep508_name.specs.Name.{is_name, is_name_byte, is_alphanumeric_at, name_of, normal_name}
 use Rattle.pep440_specifier.specs.Matching.{SpecifierRecord}
 use Rattle.pep440_specifier_list.specs.ListReading.{ListReading, list_reading}
+use Rattle.pep508_error.specs.Cuts.{encoded_cut, cut_around}
+use Rattle.pep508_error.specs.Steps.{◌>>=◌}
 use Rattle.pep508_requirement_text.specs.Archives.{is_archive}
 use Rattle.pep508_requirement_text.specs.UrlEnds.{url_split}
 
@@ -36,27 +38,11 @@ pub data Refused : Type 0 where
 abbrev pub Reading : Type 0 → Type 0
 Reading A = Result (A × List ℕ) Refused
 
-infixl 10 ◌>>=◌
-abbrev pub ◌>>=◌ : {A B : Type 0} → Result A Refused → (A → Result B Refused) → Result B Refused
-(Ok x) >>= next = next x
-(Err refused) >>= next = Err refused
-
 -- ---- pieces
-
--- the text before the first character that passes a test, and the characters from it on
-abbrev pub cut_before : (ℕ → Bool) → List ℕ → List ℕ × List ℕ
-cut_before test cs = (encode_utf8_all (before_first test cs), drop (position_or_len test cs) cs)
-
--- the text before the first such character and the characters behind it, where there is one
-abbrev pub cut_around : ℕ → List ℕ → Option (List ℕ × List ℕ)
-cut_around c cs =
-    if nat_lt (position_or_len (λ d. d == c) cs) (length cs)
-    then Some (encode_utf8_all (before_first (λ d. d == c) cs), after_first (λ d. d == c) cs)
-    else None
 
 -- the run of characters that are no white space
 abbrev pub run_of : List ℕ → List ℕ
-run_of cs = (cut_before is_whitespace cs).0
+run_of cs = (encoded_cut is_whitespace cs).0
 
 -- ---- names and extras
 
@@ -68,7 +54,7 @@ if_name cs parts =
 
 -- the name as it is written: the characters of names at the front
 unfoldable pub name_at : List ℕ → Reading (List ℕ)
-name_at cs = if_name cs (cut_before (λ c. not (is_name_byte c)) cs)
+name_at cs = if_name cs (encoded_cut (λ c. not (is_name_byte c)) cs)
 
 abbrev pub with_name : Option (List ℕ) → Option (List (List ℕ)) → Option (List (List ℕ))
 with_name None names = None
@@ -133,7 +119,7 @@ source_at whole name [] = alone name []
 source_at whole name (c ∷ cs) =
     if c == 64 then if_url (url_split false 0 (skip_leading_whitespace cs))
     else (if c == 40 then if_there (cut_around 41 cs) >>= enclosed
-    else (if begins_operator c then listed (cut_before (λ d. d == 59) (c ∷ cs))
+    else (if begins_operator c then listed (encoded_cut (λ d. d == 59) (c ∷ cs))
     else (if c == 59 then alone name (c ∷ cs) else Err (Nameless (run_of whole)))))
 
 -- ---- the front

@@ -9,7 +9,8 @@ use Rattle.pep440_specifier.specs.Matching.{SpecifierRecord}
 use Rattle.pep440_specifier.specs.SpecifierText.{AreSpaces}
 use Rattle.pep440_specifier_list.specs.ListText.{AreSpecifierTexts}
 use Rattle.pep508_requirement_text.specs.Archives.{is_archive}
-use Rattle.pep508_requirement_text.specs.UrlEnds.{IsUrlBefore, begins_with}
+use Rattle.pep508_requirement_text.specs.UrlEnds.{IsUrlBefore}
+use Rattle.pep508_error.specs.Cuts.{begins_by}
 use Rattle.pep508_requirement_text.specs.FrontReading.{Source, Front, begins_operator}
 use Rattle.pep508_requirement_text.specs.FrontReading.Source.{Any, Specifiers, Url}
 
@@ -41,7 +42,7 @@ IsExtrasText cs names =
 
 -- nothing follows, or a `;`
 abbrev pub IsBeforeMarker : List ℕ → Type 0
-IsBeforeMarker rest = (rest ≡ []) ⊎ IsTrue (begins_with (λ c. c == 59) rest)
+IsBeforeMarker rest = (rest ≡ []) ⊎ IsTrue (begins_by (λ c. c == 59) rest)
 
 -- specifiers in brackets
 pub record IsEnclosed (cs : List ℕ) (given : List SpecifierRecord) : Type 0 where
@@ -54,7 +55,7 @@ pub record IsEnclosed (cs : List ℕ) (given : List SpecifierRecord) : Type 0 wh
 
 -- specifiers without brackets, up to a `;` or the end
 pub record IsOpenList (cs rest : List ℕ) (given : List SpecifierRecord) : Type 0 where
-  pub begins : IsTrue (begins_with begins_operator cs)
+  pub begins : IsTrue (begins_by begins_operator cs)
   pub whole : All (λ c. (c == 59) ≡ false) cs
   pub are_specifiers : AreSpecifierTexts (encode_utf8_all cs) given
   pub before_marker : IsBeforeMarker rest

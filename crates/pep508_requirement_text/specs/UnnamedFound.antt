@@ -4,7 +4,8 @@ use Rattle.pep508_error.specs.declared.cursor.Cursor.{Cursor}
 use Rattle.pep508_error.specs.declared.refusal.Refusal.{Refusal}
 use Rattle.pep508_error.specs.declared.refusal.RefusalKind.TheVariants.{Memory}
 use Rattle.pep508_requirement_text.specs.FrontReading.Refused.{Malformed}
-use Rattle.pep508_requirement_text.specs.FrontOutcome.{IsPlain, behind}
+use Rattle.pep508_requirement_text.specs.FrontOutcome.{IsPlain}
+use Rattle.pep508_error.specs.Cursors.{behind}
 use Rattle.pep508_requirement_text.specs.UnnamedReading.{UnnamedFront, IsUnnamedReading}
 use Rattle.pep508_requirement_text.specs.declared.unnamed.Unnamed.{Unnamed}
 

@@ -6,6 +6,7 @@ use Rattle.std.specs.Prelude.{◌≡◌, ◌≢◌, ◌⊎◌, ℕ, ◌+◌, ◌
 use Rattle.std.specs.Prelude.{List, [], ◌∷◌, ◌++◌, fold, IsTrue}
 use Rattle.std.specs.Char.{is_whitespace}
 use Rattle.std.specs.Str.{skip_leading_whitespace}
+use Rattle.pep508_error.specs.Cuts.{begins_by}
 
 -- how deep in brackets a character leaves the text, by whether brackets count
 abbrev pub depth_behind : Bool → ℕ → ℕ → ℕ
@@ -20,10 +21,6 @@ is_line_break c = c == 10 || c == 13
 abbrev pub is_mark : ℕ → Bool
 is_mark c = c == 59 || c == 35
 
-abbrev pub begins_with : (ℕ → Bool) → List ℕ → Bool
-begins_with test [] = false
-begins_with test (c ∷ cs) = test c
-
 -- nothing is left, or a `;` or a `#`
 abbrev pub is_over : List ℕ → Bool
 is_over [] = true
@@ -31,15 +28,15 @@ is_over (c ∷ cs) = is_mark c
 
 -- white space, and then nothing, a `;` or a `#`
 abbrev pub begins_with_end : List ℕ → Bool
-begins_with_end cs = begins_with is_whitespace cs && is_over (skip_leading_whitespace cs)
+begins_with_end cs = begins_by is_whitespace cs && is_over (skip_leading_whitespace cs)
 
 -- a URL ends before these characters, at this depth
 abbrev pub ends_before : ℕ → List ℕ → Bool
-ends_before depth cs = begins_with is_line_break cs || (depth == 0 && begins_with_end cs)
+ends_before depth cs = begins_by is_line_break cs || (depth == 0 && begins_with_end cs)
 
 -- a URL ends behind this character, which leaves it at this depth, before these
 abbrev pub ends_behind : ℕ → ℕ → List ℕ → Bool
-ends_behind depth c cs = depth == 0 && is_mark c && begins_with is_whitespace cs
+ends_behind depth c cs = depth == 0 && is_mark c && begins_by is_whitespace cs
 
 abbrev pub with_char : ℕ → List ℕ × List ℕ → List ℕ × List ℕ
 with_char c parts = (c ∷ parts.0, parts.1)
@@ -65,14 +62,14 @@ EndsWithMark front = (others : List ℕ) × (c : ℕ) × (front ≡ others ++ c 
 -- a URL may end between these characters
 abbrev pub EndsBetween : Bool → List ℕ → List ℕ → Type 0
 EndsBetween brackets front rest =
-    (rest ≡ []) ⊎ IsTrue (begins_with is_line_break rest)
+    (rest ≡ []) ⊎ IsTrue (begins_by is_line_break rest)
     ⊎ ((depth_of brackets front ≡ 0)
-    × (IsTrue (begins_with_end rest) ⊎ (EndsWithMark front × IsTrue (begins_with is_whitespace rest))))
+    × (IsTrue (begins_with_end rest) ⊎ (EndsWithMark front × IsTrue (begins_by is_whitespace rest))))
 
 -- the characters of a URL, up to the first place behind them at which one may end
 pub record IsUrlBefore (brackets : Bool) (url rest : List ℕ) : Type 0 where
   pub some : url ≢ []
-  pub starts : begins_with is_whitespace url ≡ false
+  pub starts : begins_by is_whitespace url ≡ false
   pub ends : EndsBetween brackets url rest
   pub first : (front back : List ℕ) → url ≡ front ++ back → back ≢ []
       → EndsBetween brackets front (back ++ rest) → ⊥

@@ -5,13 +5,14 @@ ghost use Rattle.std.specs.List.{slice_split};
 ghost use Rattle.std.specs.Str.{trim};
 ghost use Rattle.pep508_url.specs.Vars.{Variables};
 ghost use Rattle.pep508_name.specs.Name.{name_of};
-ghost use Rattle.pep508_error.specs.Cursors.{IsBehind};
-ghost use Rattle.pep508_requirement_text.specs.UrlEnds.{begins_with};
+ghost use Rattle.pep508_error.specs.Cursors.{IsBehind, behind};
+ghost use Rattle.pep508_error.specs.Cuts.{begins_by};
 ghost use Rattle.pep508_requirement_text.specs.FrontReading.{extras_at, extras_of, names_of};
-ghost use Rattle.pep508_requirement_text.specs.FrontOutcome.{behind, Reads, StaysIn, IsPlain, IsOf};
+ghost use Rattle.pep508_requirement_text.specs.FrontOutcome.{Reads, IsPlain};
+ghost use Rattle.pep508_error.specs.Refusals.{StaysIn, IsOf};
 
 use crate::message::{plain, refuse_last};
-use crate::place::{cut_around, cut_name, strip};
+use crate::name_end::NameEnd;
 use pep508_error::{Cursor, Refusal};
 use pep508_name::{ExtraName, InvalidNameError, is_name};
 use std::alloc::{AllocError, Global};
@@ -27,13 +28,13 @@ pub fn read_extras<'a>(
 ) -> Result<(Vec<ExtraName>, Cursor<'a>), Refusal<'a>>
     ensures read { (vars : Variables) → Reads vars (λ found. (found.0.items, behind found.1)) result
         (extras_at (behind start.entry)) }
-    ensures stays { StaysIn start.entry (λ found. found.1) result }
-    ensures none { begins_with (λ c. c == 91) (behind start.entry) ≡ false → IsOk result }
+    ensures stays { StaysIn start.entry result }
+    ensures none { begins_by (λ c. c == 91) (behind start.entry) ≡ false → IsOk result }
 {
-    let Some(inner) = strip(start, '[') else {
+    let Some(inner) = start.strip('[') else {
         return Ok((Vec::new(alloc), start));
     };
-    let Some((inside, later)) = cut_around(inner, ']') else {
+    let Some((inside, later)) = inner.cut_around(']') else {
         return Err(refuse_extras(alloc, start));
     };
     match read_inside(alloc, inside) {
@@ -121,7 +122,7 @@ fn skip_extra<'a>(
     if !c.is_ascii_alphanumeric() {
         return Err(refuse_first(alloc, begin, c, is_first));
     }
-    let (name, later) = cut_name(begin);
+    let (name, later) = begin.cut(NameEnd);
     match later.peek() {
         Some(c) if c != ',' && c != ']' && !c.is_whitespace() => {
             return Err(later.refuse_char(plain(format!(in alloc;

@@ -2,13 +2,14 @@
 
 ghost use Rattle.std.specs.Prelude.{◌≡◌, false, IfOk};
 ghost use Rattle.pep508_url.specs.Vars.{Variables};
-ghost use Rattle.pep508_error.specs.Cursors.{rest_of, IsBehind};
+ghost use Rattle.pep508_error.specs.Cursors.{rest_of, IsBehind, behind};
 ghost use Rattle.std.specs.Str.{skip_leading_whitespace};
 ghost use Rattle.pep508_requirement_text.specs.UrlEnds.{url_split};
 ghost use Rattle.pep508_requirement_text.specs.FrontReading.{front_reading, source_at, alone};
 ghost use Rattle.pep508_requirement_text.specs.FrontReading.{begins_operator, if_url, run_of};
 ghost use Rattle.pep508_requirement_text.specs.FrontReading.Refused.{Nameless};
-ghost use Rattle.pep508_requirement_text.specs.FrontOutcome.{behind, Fits, StaysIn, IsOf};
+ghost use Rattle.pep508_requirement_text.specs.FrontOutcome.{Fits};
+ghost use Rattle.pep508_error.specs.Refusals.{StaysIn, IsOf};
 ghost use Rattle.pep508_requirement_text.specs.FrontFound.{ReadsFront, ReadsAs, IsSource, IsUrlIn};
 
 use crate::archive::is_archive;
@@ -17,10 +18,9 @@ use crate::list::{read_enclosed, read_open};
 use crate::look::looks_unnamed;
 use crate::message::{plain, unsupported};
 use crate::name::{package_name, read_name};
-use crate::place::{cut_run, refuse_between, refuse_none};
 use crate::source::Source;
 use crate::url_cut::cut_url;
-use pep508_error::{Cursor, Refusal};
+use pep508_error::{Cursor, Refusal, Space};
 use pep508_name::{ExtraName, PackageName};
 use pep508_url::Vars;
 use std::alloc::Global;
@@ -48,7 +48,7 @@ pub fn read_front<'a>(
     vars: &Vars,
 ) -> Result<(Front<'a>, Cursor<'a>), Refusal<'a>>
     ensures read { ReadsFront vars.now result (front_reading (rest_of start.entry)) }
-    ensures stays { StaysIn start.entry (λ found. found.1) result }
+    ensures stays { StaysIn start.entry result }
     ensures url { IfOk result (λ found. IsUrlIn start.entry found.0.source) }
 {
     let (name, named) = read_name(alloc, start.after_whitespace(), vars)?;
@@ -76,7 +76,7 @@ fn read_source<'a>(
     requires { IsBehind whole start }
     ensures read { ReadsAs vars.now IsSource result
         (source_at (behind whole.entry) name.now (behind start.entry)) }
-    ensures stays { StaysIn whole.entry (λ found. found.1) result }
+    ensures stays { StaysIn whole.entry result }
     ensures url { IfOk result (λ found. IsUrlIn whole.entry found.0) }
 {
     let Some((c, inner)) = start.split_first() else {
@@ -111,11 +111,11 @@ fn read_alone<'a>(
 ) -> Result<(Source<'a>, Cursor<'a>), Refusal<'a>>
     requires { IsBehind whole start }
     ensures read { (vars : Variables) → ReadsAs vars IsSource result (alone name.now (behind start.entry)) }
-    ensures stays { StaysIn whole.entry (λ found. found.1) result }
+    ensures stays { StaysIn whole.entry result }
     ensures url { IfOk result (λ found. IsUrlIn whole.entry found.0) }
 {
     if is_archive(name) {
-        return Err(refuse_none(whole, unsupported(String::from_str(alloc, PRECEDED_BY_URL))));
+        return Err(whole.refuse_none(unsupported(String::from_str(alloc, PRECEDED_BY_URL))));
     }
     Ok((Source::Any, start))
 }
@@ -124,13 +124,13 @@ fn read_alone<'a>(
 fn read_url<'a>(alloc: Global, start: Cursor<'a>) -> Result<(Source<'a>, Cursor<'a>), Refusal<'a>>
     ensures read { (vars : Variables) → ReadsAs vars IsSource result
         (if_url (url_split false 0 (skip_leading_whitespace (behind start.entry)))) }
-    ensures stays { StaysIn start.entry (λ found. found.1) result }
+    ensures stays { StaysIn start.entry result }
     ensures url { IfOk result (λ found. IsUrlIn start.entry found.0) }
 {
     let place = start.after_whitespace();
     let (piece, later) = cut_url(place, false);
     if piece.text.is_empty() {
-        return Err(refuse_none(place, plain(String::from_str(alloc, "Expected URL"))));
+        return Err(place.refuse_none(plain(String::from_str(alloc, "Expected URL"))));
     }
     Ok((Source::Url(piece), later))
 }
@@ -147,11 +147,11 @@ fn refuse_other<'a>(
     ensures fits { Fits vars.now result.kind (Nameless (run_of (behind whole.entry))) }
     ensures of { IsOf whole.entry result }
 {
-    let (run, end) = cut_run(whole);
+    let (run, end) = whole.cut(Space);
     match looks_unnamed(alloc, run, vars) {
         Ok(true) => {
             let kind = unsupported(String::from_str(alloc, PRECEDED_BY_URL));
-            refuse_between(whole, end, kind)
+            whole.refuse_to(end, kind)
         }
         Ok(false) => place.refuse_char(plain(format!(in alloc;
             "Expected one of `@`, `(`, `<`, `=`, `>`, `~`, `!`, `;`, found `{c}`"

@@ -3,7 +3,8 @@
 
 ghost use Rattle.std.specs.Prelude.{◌≡◌, ◌≢◌, ◌↔◌, ℕ, Bool, false, List, [], ◌++◌, Ok, Err};
 ghost use Rattle.std.specs.Char.{is_whitespace};
-ghost use Rattle.pep508_requirement_text.specs.UrlEnds.{begins_with, url_split, IsUrlBefore};
+ghost use Rattle.pep508_requirement_text.specs.UrlEnds.{url_split, IsUrlBefore};
+ghost use Rattle.pep508_error.specs.Cuts.{begins_by};
 ghost use Rattle.pep508_requirement_text.specs.FrontReading.{Front, Refused, Reading, front_reading};
 ghost use Rattle.pep508_requirement_text.specs.FrontText.{IsFrontText, IsRequirementText};
 ghost use Rattle.pep508_requirement_text.specs.UnnamedReading.{UnnamedFront, IsUnnamedReading};
@@ -55,7 +56,7 @@ pub fn a_refused_text_is_none()
 pub fn a_url_is_split_where_it_ends()
     ensures { (brackets : Bool) (url rest : List ℕ)
         → (url_split brackets 0 (url ++ rest) ≡ (url, rest)) × (url ≢ [])
-        × (begins_with is_whitespace url ≡ false)
+        × (begins_by is_whitespace url ≡ false)
         ↔ IsUrlBefore brackets url rest }
 {}
 

@@ -3,7 +3,6 @@
 #![tactic(auto)]
 
 mod archive;
-mod cuts;
 mod extras;
 mod front;
 pub mod laws;
@@ -11,7 +10,7 @@ mod list;
 mod look;
 mod message;
 mod name;
-mod place;
+mod name_end;
 mod source;
 mod unnamed;
 mod url_cut;

@@ -3,15 +3,15 @@
 ghost use Rattle.std.specs.Prelude.{◌==◌, IfOk, IfErr};
 ghost use Rattle.std.specs.Str.{trim_start};
 ghost use Rattle.std.specs.String.{string_bytes};
-ghost use Rattle.pep508_error.specs.Cursors.{IsBehind};
-ghost use Rattle.pep508_requirement_text.specs.FrontReading.{specifiers_of_text, cut_before, listed};
+ghost use Rattle.pep508_error.specs.Cursors.{IsBehind, behind, IsAt};
+ghost use Rattle.pep508_requirement_text.specs.FrontReading.{specifiers_of_text, listed};
+ghost use Rattle.pep508_error.specs.Cuts.{encoded_cut};
 ghost use Rattle.pep508_url.specs.Vars.{Variables};
 ghost use Rattle.pep508_requirement_text.specs.FrontFound.{ReadsAs, IsSource, IsUrlIn, enclosed_at};
-ghost use Rattle.pep508_requirement_text.specs.FrontOutcome.{behind, IsAt, ReadsSpecifiers, StaysIn, IsPlain};
-ghost use Rattle.pep508_requirement_text.specs.FrontOutcome.{IsOf};
+ghost use Rattle.pep508_requirement_text.specs.FrontOutcome.{ReadsSpecifiers, IsPlain};
+ghost use Rattle.pep508_error.specs.Refusals.{StaysIn, IsOf};
 
 use crate::message::plain;
-use crate::place::{cut_around, cut_before, pass, refuse_none};
 use crate::source::Source;
 use crate::url_end::split_blanks;
 use pep440_specifier::VersionSpecifierParseError;
@@ -25,11 +25,11 @@ pub(crate) fn read_open<'a>(
     start: Cursor<'a>,
 ) -> Result<(Source<'a>, Cursor<'a>), Refusal<'a>>
     ensures read { (vars : Variables) → ReadsAs vars IsSource result
-        (listed (cut_before (λ c. c == 59) (behind start.entry))) }
-    ensures stays { StaysIn start.entry (λ found. found.1) result }
+        (listed (encoded_cut (λ c. c == 59) (behind start.entry))) }
+    ensures stays { StaysIn start.entry result }
     ensures url { IfOk result (λ found. IsUrlIn start.entry found.0) }
 {
-    let (text, later) = cut_before(start, ';');
+    let (text, later) = start.cut(';');
     let list = read_specifiers(alloc, start, text)?;
     Ok((Source::Specifiers(list), later))
 }
@@ -42,10 +42,10 @@ pub(crate) fn read_enclosed<'a>(
 ) -> Result<(Source<'a>, Cursor<'a>), Refusal<'a>>
     requires { IsBehind opening inner }
     ensures read { (vars : Variables) → ReadsAs vars IsSource result (enclosed_at (behind inner.entry)) }
-    ensures stays { StaysIn opening.entry (λ found. found.1) result }
+    ensures stays { StaysIn opening.entry result }
     ensures url { IfOk result (λ found. IsUrlIn opening.entry found.0) }
 {
-    match cut_around(inner, ')') {
+    match inner.cut_around(')') {
         Some((text, later)) => {
             let list = read_trimmed(alloc, inner, text)?;
             Ok((Source::Specifiers(list), later))
@@ -84,7 +84,7 @@ fn read_trimmed<'a>(
     ensures of { IfErr result (IsOf start.entry) }
 {
     let (blanks, list) = split_blanks(text);
-    read_specifiers(alloc, pass(start, blanks), list)
+    read_specifiers(alloc, start.pass(blanks), list)
 }
 
 /// The list of a text at a place.
@@ -117,7 +117,7 @@ fn refuse_empty<'a>(alloc: Global, start: Cursor<'a>) -> Refusal<'a>
     ensures of { IsOf start.entry result }
 {
     let error = VersionSpecifierParseError::MissingOperator;
-    refuse_none(start, plain(format!(in alloc; "{error}")))
+    start.refuse_none(plain(format!(in alloc; "{error}")))
 }
 
 /// The refusal of a piece of the text at a place.

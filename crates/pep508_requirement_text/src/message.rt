@@ -1,9 +1,10 @@
 //! Refusals of a front, by their kind.
 
-ghost use Rattle.pep508_requirement_text.specs.FrontOutcome.{IsPlain, IsUnsupported, IsOf};
+ghost use Rattle.pep508_requirement_text.specs.FrontOutcome.{IsPlain, IsUnsupported};
+ghost use Rattle.pep508_error.specs.Refusals.{IsOf};
 ghost use Rattle.pep508_error.specs.Cursors.{IsBehind};
 
-use crate::cuts::is_of_name;
+use crate::name_end::is_of_name;
 use pep508_error::{Cursor, Refusal, RefusalKind};
 use std::alloc::{AllocError, Global};
 

@@ -5,12 +5,14 @@ ghost use Rattle.pep508_name.specs.Name.{is_name, is_alphanumeric_at, normal_nam
 ghost use Rattle.pep508_error.specs.declared.refusal.RefusalKind.TheVariants.{Memory};
 ghost use Rattle.pep508_requirement_text.specs.FrontReading.{name_at, run_of};
 ghost use Rattle.pep508_requirement_text.specs.FrontReading.Refused.{Nameless};
-ghost use Rattle.pep508_requirement_text.specs.FrontOutcome.{behind, Fits, Reads, StaysIn, IsOf};
+ghost use Rattle.pep508_requirement_text.specs.FrontOutcome.{Fits, Reads};
+ghost use Rattle.pep508_error.specs.Cursors.{behind};
+ghost use Rattle.pep508_error.specs.Refusals.{StaysIn, IsOf};
 
 use crate::look::looks_unnamed;
 use crate::message::{plain, refuse_last, unsupported};
-use crate::place::{cut_name, cut_run, refuse_between};
-use pep508_error::{Cursor, Refusal};
+use crate::name_end::NameEnd;
+use pep508_error::{Cursor, Refusal, Space};
 use pep508_name::{PackageName, is_name};
 use pep508_url::Vars;
 use std::alloc::Global;
@@ -27,10 +29,10 @@ pub(crate) fn read_name<'a>(
 ) -> Result<(&'a str, Cursor<'a>), Refusal<'a>>
     ensures read { Reads vars.now (λ found. (found.0.now, behind found.1)) result
         (name_at (behind start.entry)) }
-    ensures stays { StaysIn start.entry (λ found. found.1) result }
+    ensures stays { StaysIn start.entry result }
     ensures named { IfOk result (λ found. IsTrue (is_name found.0.now)) }
 {
-    let (name, later) = cut_name(start);
+    let (name, later) = start.cut(NameEnd);
     if is_name(name) {
         return Ok((name, later));
     }
@@ -56,14 +58,14 @@ fn refuse_nameless<'a>(alloc: Global, start: Cursor<'a>, vars: &Vars) -> Refusal
     ensures fits { Fits vars.now result.kind (Nameless (run_of (behind start.entry))) }
     ensures of { IsOf start.entry result }
 {
-    let (run, end) = cut_run(start);
+    let (run, end) = start.cut(Space);
     let looks = match looks_unnamed(alloc, run, vars) {
         Ok(looks) => looks,
         Err(_) => return Refusal::memory(),
     };
     if looks {
         let kind = unsupported(String::from_str(alloc, PRECEDED_BY_PATH));
-        return refuse_between(start, end, kind);
+        return start.refuse_to(end, kind);
     }
     match start.peek() {
         Some(c) => start.refuse_char(plain(format!(in alloc;

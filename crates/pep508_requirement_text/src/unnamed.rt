@@ -4,14 +4,14 @@ ghost use Rattle.std.specs.Prelude.{◌≡◌, ◌⊎◌, ◌∷◌, ◌++◌, �
 ghost use Rattle.std.specs.Prelude.{Some, None, IsOk, IfOk, IfErr, IfSome, MatchOption, MatchResult};
 ghost use Rattle.pep508_url.specs.Splits.{IsExtrasSplit};
 ghost use Rattle.pep508_error.specs.declared.refusal.RefusalKind.TheVariants.{Memory};
-ghost use Rattle.pep508_error.specs.Cursors.{rest_of};
-ghost use Rattle.pep508_requirement_text.specs.FrontOutcome.{IsAt, IsOf, IsPlain, StaysIn};
+ghost use Rattle.pep508_error.specs.Cursors.{rest_of, IsAt};
+ghost use Rattle.pep508_requirement_text.specs.FrontOutcome.{IsPlain};
+ghost use Rattle.pep508_error.specs.Refusals.{IsOf, StaysIn};
 ghost use Rattle.pep508_requirement_text.specs.UnnamedReading.{HasExtras, url_at};
 ghost use Rattle.pep508_requirement_text.specs.UnnamedFound.{ReadsUnnamed};
 
 use crate::extras::{read_inside, refuse_extras};
 use crate::message::plain;
-use crate::place::{pass, refuse_none};
 use crate::source::UrlPiece;
 use crate::url_cut::cut_url;
 use pep508_error::{Cursor, Refusal};
@@ -40,7 +40,7 @@ pub fn read_unnamed<'a>(
     start: Cursor<'a>,
 ) -> Result<(Unnamed<'a>, Cursor<'a>), Refusal<'a>>
     ensures read { ReadsUnnamed result (rest_of start.entry) }
-    ensures stays { StaysIn start.entry (λ found. found.1) result }
+    ensures stays { StaysIn start.entry result }
     ensures placed { IfOk result (λ found. found.0.whole.start.input.now ≡ start.entry.input.now) }
     ensures url { IfOk result (λ found. found.0.url.start.input.now ≡ start.entry.input.now) }
     ensures whole { IfOk result (λ found. found.0.whole.text.now
@@ -53,7 +53,7 @@ pub fn read_unnamed<'a>(
     let place = start.after_whitespace();
     let (whole, later) = cut_url(place, true);
     if whole.text.is_empty() {
-        return Err(refuse_none(place, plain(String::from_str(alloc, "Expected URL"))));
+        return Err(place.refuse_none(plain(String::from_str(alloc, "Expected URL"))));
     }
     let (url, extras) = read_parts(alloc, whole)?;
     Ok((Unnamed { whole, url, extras }, later))
@@ -78,7 +78,7 @@ fn read_parts<'a>(
     };
     match read_inside(alloc, inside(extras)) {
         Ok(Some(names)) => Ok((url, names)),
-        Ok(None) => Err(refuse_extras(alloc, pass(url.start, url.text))),
+        Ok(None) => Err(refuse_extras(alloc, url.start.pass(url.text))),
         Err(_) => Err(Refusal::memory()),
     }
 }

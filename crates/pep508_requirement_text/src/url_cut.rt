@@ -2,11 +2,9 @@
 
 ghost use Rattle.std.specs.Prelude.{◌≡◌};
 ghost use Rattle.std.specs.Str.{chars, IsUtf8};
-ghost use Rattle.pep508_error.specs.Cursors.{IsBehind};
+ghost use Rattle.pep508_error.specs.Cursors.{IsBehind, behind, IsAt};
 ghost use Rattle.pep508_requirement_text.specs.UrlEnds.{url_split};
-ghost use Rattle.pep508_requirement_text.specs.FrontOutcome.{behind, IsAt};
 
-use crate::place::pass;
 use crate::source::UrlPiece;
 use crate::url_end::split_url;
 use pep508_error::Cursor;
@@ -20,5 +18,5 @@ pub(crate) fn cut_url<'a>(start: Cursor<'a>, brackets: bool) -> (UrlPiece<'a>, C
     ensures later { IsBehind start.entry result.1 }
 {
     let (text, _) = split_url(start.rest(), brackets);
-    (UrlPiece { text, start }, pass(start, text))
+    (UrlPiece { text, start }, start.pass(text))
 }

@@ -5,7 +5,8 @@ ghost use Rattle.std.specs.Prelude.{MatchOption};
 ghost use Rattle.std.specs.Char.{is_whitespace};
 ghost use Rattle.std.specs.Str.{chars};
 ghost use Rattle.pep508_requirement_text.specs.UrlEnds.{url_split, depth_behind, is_line_break, is_mark};
-ghost use Rattle.pep508_requirement_text.specs.UrlEnds.{is_over, begins_with, ends_behind};
+ghost use Rattle.pep508_requirement_text.specs.UrlEnds.{is_over, ends_behind};
+ghost use Rattle.pep508_error.specs.Cuts.{begins_by};
 ghost use Rattle.pep508_requirement_text.specs.UrlTurns.{BeginsWith, AreBlanks, EndsAt, IsTurn};
 
 /// What reading one character, or a run of white space, of a URL leads to.
@@ -89,7 +90,7 @@ fn ends_behind(depth: usize, c: char, text: &str) -> bool
 /// Reads a run of white space.
 fn read_blanks(text: &str, brackets: bool, depth: usize) -> Turn<'_>
     requires kept { depth_behind brackets depth 32 ≡ depth }
-    requires blank { begins_with is_whitespace (chars text.now) ≡ true }
+    requires blank { begins_by is_whitespace (chars text.now) ≡ true }
     ensures { IsTurn brackets depth text.now result }
 {
     let (run, behind) = split_blanks(text);
@@ -143,7 +144,7 @@ fn first(text: &str) -> Option<(char, &str)>
 }
 
 fn begins_with_blank(text: &str) -> bool
-    ensures { result ≡ begins_with is_whitespace (chars text.now) }
+    ensures { result ≡ begins_by is_whitespace (chars text.now) }
 {
     match first(text) {
         Some((c, _)) => c.is_whitespace(),

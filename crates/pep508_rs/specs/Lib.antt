@@ -9,6 +9,8 @@ pub use Rattle.pep508_url.specs.Paths
 pub use Rattle.pep508_url.specs.UrlTexts
 pub use Rattle.pep508_url.specs.Lacking
 pub use Rattle.pep508_error.specs.Spans
+pub use Rattle.pep508_error.specs.Cuts
+pub use Rattle.pep508_error.specs.Steps
 pub use Rattle.pep508_error.specs.Errors
 pub use Rattle.pep508_marker.specs.Keys
 pub use Rattle.pep508_marker.specs.Operators
@@ -23,10 +25,12 @@ pub use Rattle.pep508_comparison.specs.Comparisons
 pub use Rattle.pep508_diagram.specs.Diagram
 pub use Rattle.pep508_diagram.specs.Question
 pub use Rattle.pep508_diagram.specs.Chains
+pub use Rattle.pep508_diagram.specs.Questions
 pub use Rattle.pep508_diagram.specs.Shortened
 pub use Rattle.pep508_diagram.specs.Text
 pub use Rattle.pep508_tree.specs.Tree
 pub use Rattle.pep508_tree.specs.Meaning
+pub use Rattle.pep508_tree.specs.Truths
 pub use Rattle.pep508_tree.specs.Disjoint
 pub use Rattle.pep508_tree.specs.Interning
 pub use Rattle.pep508_evaluation.specs.Valuations
@@ -97,7 +101,6 @@ pub use Rattle.pep508_reading_back.specs.Diagrams as ReadableDiagrams
 pub use Rattle.pep508_reading_back.specs.ReadableRequirements
 pub use Rattle.pep508_reading_back.specs.Views as ReadableViews
 pub use Rattle.pep508_reading_back.specs.ReadViews
-pub use Rattle.pep508_reading_back.specs.Questions
 pub use Rattle.pep508_reading_back.specs.Asked as AnsweredAlike
 pub use Rattle.pep508_reading_back.specs.Told
 pub use Rattle.pep508_reading_back.specs.Lines

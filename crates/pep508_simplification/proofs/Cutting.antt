@@ -1,5 +1,6 @@
 -- What stands between two bounds, and at both ends.
-use Rattle.std.proofs.Common.{◌≡◌, ◌∙◌, inl, inr, Bool, true, false, not, ◌&&◌, List, [], ◌∷◌, refl, ap, sym, subst, true≢false, Less, Equal, Greater, Ordering, is_lt, is_gt}
+use Rattle.std.proofs.Common.{◌≡◌, ◌∙◌, inl, inr, Bool, true, false, not, ◌&&◌, List, [], ◌∷◌, refl, ap, sym}
+use Rattle.std.proofs.Common.{subst, true≢false, Less, Equal, Greater, Ordering, is_lt, is_gt}
 use Rattle.std.proofs.lemmas.Bool.{cases_Bool}
 use Rattle.std.specs.List.{AllByRecursion}
 use Rattle.std.specs.Ordering.{ordering_reverse}
@@ -15,7 +16,8 @@ use Rattle.version_ranges.specs.Turns.{reaches}
 use Rattle.version_ranges.specs.declared.boundary.Boundary.{Boundary}
 use Rattle.version_ranges.proofs.Membership.{reached_itself}
 use Rattle.pep508_diagram.specs.declared.branch.Branch.{Branch}
-use Rattle.pep508_diagram.specs.Branches.{RisingBranches, branch_at, last_child, AllBranches, NeighboursDiffer}
+use Rattle.pep508_diagram.specs.Branches.{RisingBranches, branch_at, last_child, AllBranches}
+use Rattle.pep508_diagram.specs.Branches.{NeighboursDiffer}
 use Rattle.pep508_diagram.proofs.Branching.{not_gt, gt_of, reached, Before, NoneReached, unreached}
 use Rattle.pep508_simplification.specs.Within.{behind, up_to}
 

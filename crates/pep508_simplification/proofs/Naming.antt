@@ -1,6 +1,8 @@
 -- Trees in which the named extras are present: how they last while nodes are added, and how they are put together
 -- from those that stand in a node.
-use Rattle.std.proofs.Common.{◌≡◌, ◌∙◌, ℕ, ◌+◌, ◌-◌, ◌<◌, ◌≤◌, Bool, true, false, cond, List, [], ◌∷◌, ◌++◌, length, get_or, take, refl, ap, sym, subst, arith, Option, Some, None, IfSome, Less, true≢false}
+use Rattle.std.proofs.Common.{◌≡◌, ◌∙◌, ℕ, ◌+◌, ◌-◌, ◌<◌, ◌≤◌, Bool, true, false, cond, List, [], ◌∷◌, ◌++◌}
+use Rattle.std.proofs.Common.{length, get_or, take, refl, ap, sym, subst, arith, Option, Some, None, IfSome}
+use Rattle.std.proofs.Common.{Less, true≢false}
 use Rattle.std.specs.Prelude.{◌||◌, MatchOption}
 use Rattle.std.specs.Borrow.{Bor}
 use Rattle.std.specs.BTreeMap.{BTreeMap, get}
@@ -13,7 +15,8 @@ use Rattle.pep508_diagram.specs.Text.{text_cmp}
 use Rattle.pep508_diagram.specs.Question.{Valuation}
 use Rattle.pep508_tree.specs.Tree.{Tree}
 use Rattle.pep508_tree.specs.Meaning.{NodeRecord, Versions, Texts, Flagged, holds, IsTree, Extends}
-use Rattle.pep508_tree.specs.Nodes.{AllChildren, IsRising, Above, chosen, no_node, node_at, node_place, first_place, turned}
+use Rattle.pep508_tree.specs.Nodes.{AllChildren, IsRising, Above, chosen, no_node, node_at, node_place}
+use Rattle.pep508_tree.specs.Nodes.{first_place, turned}
 use Rattle.pep508_tree.specs.Joining.{children, node_joined}
 use Rattle.pep508_tree.specs.Conjunctions.{Meet}
 use Rattle.pep508_tree.specs.Roots.{IsRoot}
@@ -21,7 +24,9 @@ use Rattle.pep508_tree.proofs.Diagrams.{holds_kept}
 use Rattle.pep508_tree.proofs.Storing.{above_kept}
 use Rattle.pep508_tree.proofs.Meanings.{chosen_all, holds_turned}
 use Rattle.pep508_tree.proofs.Roots.{constant_is}
-use Rattle.pep508_tree.proofs.Conjoining.{extends_itself, extends_on, tree_kept, meet_push, meet_weaker, meet_with, children_list, children_joined, chosen_joined, place_joined}
+use Rattle.pep508_tree.proofs.Conjoining.{extends_itself, extends_on, tree_kept, meet_push, meet_weaker}
+use Rattle.pep508_tree.proofs.Conjoining.{meet_with, children_list, children_joined, chosen_joined}
+use Rattle.pep508_tree.proofs.Conjoining.{place_joined}
 use Rattle.pep508_simplification.specs.Simplified.{with_named, is_named}
 use Rattle.pep508_simplification.specs.Parts.{children_of, with_set, is_root_named, IsRejoined}
 use Rattle.pep508_simplification.specs.Named.{AnswersBy, IsNamed, IsKnown, AreKnown, IsAsked, plain}

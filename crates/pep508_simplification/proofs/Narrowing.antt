@@ -1,5 +1,6 @@
 -- What a tree says that is simplified to a range of versions of Python.
-use Rattle.std.proofs.Common.{◌≡◌, ◌∙◌, ℕ, true, false, List, [], ◌∷◌, refl, ap, sym, subst, true≢false, Less, not, is_gt}
+use Rattle.std.proofs.Common.{◌≡◌, ◌∙◌, ℕ, true, false, List, [], ◌∷◌, refl, ap, sym, subst, true≢false, Less}
+use Rattle.std.proofs.Common.{not, is_gt}
 use Rattle.std.specs.List.{AllByRecursion}
 use Rattle.std.specs.Cmp.Lexicographic.{nat_list_cmp_total}
 use Rattle.std.specs.declared.ops.Bound.{Bound}
@@ -15,11 +16,14 @@ use Rattle.pep440_text.specs.Record.{VersionRecord, release_record}
 use Rattle.pep440_version.specs.Order.{version_cmp}
 use Rattle.pep440_range.specs.Ranges.{PointTest}
 use Rattle.pep508_diagram.specs.declared.branch.Branch.{Branch}
-use Rattle.pep508_diagram.specs.declared.variable.VersionVariable.TheVariants.{ImplementationVersion, PythonFullVersion}
-use Rattle.pep508_diagram.specs.Branches.{RisingBranches, branch_at, last_child, AllBranches, NeighboursDiffer}
+use Rattle.pep508_diagram.specs.declared.variable.VersionVariable.TheVariants.{ImplementationVersion}
+use Rattle.pep508_diagram.specs.declared.variable.VersionVariable.TheVariants.{PythonFullVersion}
+use Rattle.pep508_diagram.specs.Branches.{RisingBranches, branch_at, last_child, AllBranches}
+use Rattle.pep508_diagram.specs.Branches.{NeighboursDiffer}
 use Rattle.pep508_diagram.specs.Question.{Valuation, VersionBelow, with_version}
 use Rattle.pep508_diagram.specs.Text.{text_cmp}
-use Rattle.pep508_diagram.proofs.Branching.{reached, NoneReached, none_reached, all_children, branch_at_child, branch_at_below, branch_at_own}
+use Rattle.pep508_diagram.proofs.Branching.{reached, NoneReached, none_reached, all_children, branch_at_child}
+use Rattle.pep508_diagram.proofs.Branching.{branch_at_below, branch_at_own}
 use Rattle.pep508_diagram.proofs.Pairing.{first_child, weaker_branches}
 use Rattle.pep508_tree.specs.Tree.{Tree, never}
 use Rattle.pep508_tree.specs.Meaning.{NodeRecord, Versions, holds, IsTree}
@@ -33,7 +37,11 @@ use Rattle.pep508_tree.proofs.Roots.{constant_is}
 use Rattle.pep508_simplification.specs.Simplified.{between, with_python, IsNarrowed, IsFree, IsSimplified}
 use Rattle.pep508_simplification.specs.Within.{behind, up_to}
 use Rattle.pep508_simplification.specs.Narrowed.{python_place, implementation_place}
-use Rattle.pep508_simplification.proofs.Cutting.{last_of, within_of, from_within, start_within, start_goes, behind_rises, behind_differs, behind_children, behind_none, behind_at, up_to_rises, up_to_differs, up_to_children, up_to_none, up_to_goes, up_to_at, none_earlier, all_reached, after_all, towards}
+use Rattle.pep508_simplification.proofs.Cutting.{last_of, within_of, from_within, start_within, start_goes}
+use Rattle.pep508_simplification.proofs.Cutting.{behind_rises, behind_differs, behind_children, behind_none}
+use Rattle.pep508_simplification.proofs.Cutting.{behind_at, up_to_rises, up_to_differs, up_to_children}
+use Rattle.pep508_simplification.proofs.Cutting.{up_to_none, up_to_goes, up_to_at, none_earlier, all_reached}
+use Rattle.pep508_simplification.proofs.Cutting.{after_all, towards}
 
 pub above_earlier : (nodes : List NodeRecord) (place other : List ℕ) (t : Tree) → text_cmp other place ≡ Less →
     Above nodes place t → Above nodes other t

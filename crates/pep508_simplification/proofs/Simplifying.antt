@@ -1,6 +1,8 @@
 -- Trees that are simplified to a range of versions of Python: how they are found from a tree's root, how they last
 -- while nodes are added, and how they are put together from those that stand in a node.
-use Rattle.std.proofs.Common.{◌≡◌, ◌∙◌, inl, inr, ℕ, ◌+◌, ◌-◌, ◌<◌, ◌≤◌, Bool, true, false, cond, List, [], ◌∷◌, ◌++◌, length, get_or, take, refl, ap, sym, subst, arith, Option, Some, None, IfSome, Less, Equal, true≢false}
+use Rattle.std.proofs.Common.{◌≡◌, ◌∙◌, inl, inr, ℕ, ◌+◌, ◌-◌, ◌<◌, ◌≤◌, Bool, true, false, cond, List, []}
+use Rattle.std.proofs.Common.{◌∷◌, ◌++◌, length, get_or, take, refl, ap, sym, subst, arith, Option, Some}
+use Rattle.std.proofs.Common.{None, IfSome, Less, Equal, true≢false}
 use Rattle.std.specs.Prelude.{◌==◌, if◌then◌else◌, MatchOption}
 use Rattle.std.specs.BTreeMap.{BTreeMap, get}
 use Rattle.std.specs.Cmp.{nat_cmp_is, unsigned_Decides}
@@ -17,14 +19,16 @@ use Rattle.pep440_version.specs.Order.{version_cmp}
 use Rattle.pep440_range.specs.Ranges.{PointTest}
 use Rattle.pep508_marker.specs.Keys.{text_key_rank}
 use Rattle.pep508_diagram.specs.declared.branch.Branch.{Branch}
-use Rattle.pep508_diagram.specs.declared.variable.VersionVariable.TheVariants.{ImplementationVersion, PythonFullVersion}
+use Rattle.pep508_diagram.specs.declared.variable.VersionVariable.TheVariants.{ImplementationVersion}
+use Rattle.pep508_diagram.specs.declared.variable.VersionVariable.TheVariants.{PythonFullVersion}
 use Rattle.pep508_diagram.specs.Branches.{RisingBranches, AllBranches, NeighboursDiffer, branch_at}
 use Rattle.pep508_diagram.specs.Question.{Valuation, flag_rank, flag_text}
 use Rattle.pep508_diagram.specs.Text.{text_cmp}
 use Rattle.pep508_diagram.proofs.Places.{equal_from, flag_rank_from}
 use Rattle.pep508_tree.specs.Tree.{Tree, never}
 use Rattle.pep508_tree.specs.Meaning.{NodeRecord, Versions, Texts, Flagged, holds, IsTree, Extends}
-use Rattle.pep508_tree.specs.Nodes.{AllChildren, AreSound, Above, Made, chosen, node_at, node_place, first_child, signed}
+use Rattle.pep508_tree.specs.Nodes.{AllChildren, AreSound, Above, Made, chosen, node_at, node_place}
+use Rattle.pep508_tree.specs.Nodes.{first_child, signed}
 use Rattle.pep508_tree.specs.Joining.{children, node_joined}
 use Rattle.pep508_tree.specs.Conjunctions.{Meet}
 use Rattle.pep508_tree.specs.Roots.{root_of, IsRoot}
@@ -33,12 +37,17 @@ use Rattle.pep508_tree.proofs.NodeChildren.{first_of_children}
 use Rattle.pep508_tree.proofs.Storing.{above_kept, trees_same}
 use Rattle.pep508_tree.proofs.OneTree.{top_or_node, tree_is}
 use Rattle.pep508_tree.proofs.Roots.{root_is}
-use Rattle.pep508_tree.proofs.Conjoining.{extends_on, tree_kept, meet_push, meet_weaker, meet_with, children_list, children_joined, chosen_joined}
-use Rattle.pep508_simplification.specs.Simplified.{between, with_python, IsNarrowed, IsEmptied, IsFree, IsSimplified}
+use Rattle.pep508_tree.proofs.Conjoining.{extends_on, tree_kept, meet_push, meet_weaker, meet_with}
+use Rattle.pep508_tree.proofs.Conjoining.{children_list, children_joined, chosen_joined}
+use Rattle.pep508_simplification.specs.Simplified.{between, with_python, IsNarrowed, IsEmptied, IsFree}
+use Rattle.pep508_simplification.specs.Simplified.{IsSimplified}
 use Rattle.pep508_simplification.specs.Parts.{children_of, IsRejoined}
-use Rattle.pep508_simplification.specs.Narrowed.{python_of, asks_python, asks_implementation, cut, implementation_place, python_place, named_by, name_cmp, IsSimpler, IsRecalled, AreRecalled}
+use Rattle.pep508_simplification.specs.Narrowed.{python_of, asks_python, asks_implementation, cut}
+use Rattle.pep508_simplification.specs.Narrowed.{implementation_place, python_place, named_by, name_cmp}
+use Rattle.pep508_simplification.specs.Narrowed.{IsSimpler, IsRecalled, AreRecalled}
 use Rattle.pep508_simplification.proofs.Naming.{above_back, above_none, above_first}
-use Rattle.pep508_simplification.proofs.Narrowing.{unchanged, cut_made, cut_above, cut_rises, cut_differs, simplified_some, simplified_none}
+use Rattle.pep508_simplification.proofs.Narrowing.{unchanged, cut_made, cut_above, cut_rises, cut_differs}
+use Rattle.pep508_simplification.proofs.Narrowing.{simplified_some, simplified_none}
 
 -- ---- roots
 

@@ -11,7 +11,7 @@ ghost use Rattle.pep508_simplification.specs.Simplified.{is_listed, is_named, wi
 ghost use Rattle.pep508_simplification.specs.Parts.{record_of, is_root_named, IsRejoined};
 ghost use Rattle.pep508_simplification.specs.Named.{AnswersBy, IsNamed, IsKnown, AreKnown, IsFound, IsAsked};
 
-use crate::root::{Root, copy_of_root, turned};
+use crate::root::{Root, copy_of_root};
 use pep508_diagram::Flag;
 use pep508_name::ExtraName;
 use pep508_tree::{Interner, MarkerTree};
@@ -140,16 +140,16 @@ pub(crate) fn with_named<F: Fn(&ExtraName) -> bool>(
     let place = tree.place();
     let negated = tree.is_negated();
     if let Some(simple) = recalled(interner, known, predicate, place) {
-        let found = turned(simple, negated);
+        let found = simple.turned(negated);
         return Ok(found);
     }
-    let plain = turned(tree, negated);
+    let plain = tree.turned(negated);
     let root = named_root(alloc, interner, predicate, plain)?;
     let children = root.children(alloc)?;
     let trees = all_with_named(alloc, interner, known, predicate, plain, &children)?;
     let simple = rejoined(alloc, interner, root, plain, &trees)?;
     remember(interner, known, predicate, place, simple)?;
-    let signed = turned(simple, negated);
+    let signed = simple.turned(negated);
     Ok(signed)
 }
 

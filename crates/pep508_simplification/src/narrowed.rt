@@ -11,7 +11,7 @@ ghost use Rattle.pep508_simplification.specs.Simplified.{between, IsSimplified};
 ghost use Rattle.pep508_simplification.specs.Narrowed.{python_of, asks_python, asks_implementation, cut};
 ghost use Rattle.pep508_simplification.specs.Narrowed.{implementation_place, IsSimpler, AreRecalled};
 
-use crate::root::{copy_of_root, turned};
+use crate::root::copy_of_root;
 use crate::within::{behind, copy_up_to, hold_some};
 use pep440_version::Version;
 use pep508_diagram::{Branch, VersionVariable};
@@ -60,7 +60,7 @@ fn cut(
         TreeNode::Versions(VersionVariable::PythonFullVersion, children) => {
             let (first, later) = behind(children.first, children.later, lower);
             let later = copy_up_to(alloc, later, children.negated, upper)?;
-            Ok((turned(first, children.negated), later))
+            Ok((first.turned(children.negated), later))
         }
         _ => Ok((tree, Vec::new(alloc))),
     }

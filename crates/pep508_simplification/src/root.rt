@@ -4,7 +4,7 @@ ghost use Rattle.std.specs.Prelude.{◌≡◌, ◌∷◌, map, Some, IfOk, IfSom
 ghost use Rattle.pep508_tree.specs.Meaning.{IsTree, Extends};
 ghost use Rattle.pep508_tree.specs.Roots.{root_of, IsRoot};
 ghost use Rattle.pep508_tree.specs.Joining.{joined, head, tail, node_joined};
-ghost use Rattle.pep508_tree.specs.Nodes.{turned, tree_cmp, AllChildren, Above, IsRising, node_place};
+ghost use Rattle.pep508_tree.specs.Nodes.{AllChildren, Above, IsRising, node_place};
 ghost use Rattle.pep508_simplification.specs.Parts.{record_of, signs, children_of, with_set, IsRejoined};
 
 use pep440_version::Version;
@@ -12,7 +12,6 @@ use pep508_diagram::{Branch, Flag, MarkerText, NodeValue, VersionVariable};
 use pep508_marker::MarkerValueString;
 use pep508_tree::{Interner, MarkerTree, TreeNode};
 use std::alloc::{AllocError, Global};
-use std::cmp::Ordering;
 use version_ranges::Boundary;
 
 /// What is asked first in a tree, and what stands for each answer. A constant tree asks nothing.
@@ -22,13 +21,6 @@ pub(crate) enum Root {
     Versions(VersionVariable, MarkerTree, Vec<Branch<Version, MarkerTree>>),
     Texts(MarkerValueString, MarkerTree, Vec<Branch<MarkerText, MarkerTree>>),
     Flagged(Flag, MarkerTree, MarkerTree),
-}
-
-/// The tree, negated where the flag is set.
-pub(crate) fn turned(tree: MarkerTree, turns: bool) -> MarkerTree
-    ensures { result ≡ turned turns tree }
-{
-    if turns { tree.negate() } else { tree }
 }
 
 pub(crate) fn copy_of_boundary<T: NodeValue>(
@@ -54,7 +46,7 @@ fn copy_of_branches<T: NodeValue>(
     for branch in later {
         branches.push(Branch {
             boundary: copy_of_boundary(alloc, &branch.boundary)?,
-            child: turned(branch.child, negated),
+            child: branch.child.turned(negated),
         })?;
     }
     Ok(branches)
@@ -87,11 +79,11 @@ pub(crate) fn copy_of_root(
         TreeNode::Constant(_) => Root::Constant,
         TreeNode::Versions(key, children) => {
             let later = copy_of_branches(alloc, children.later, children.negated)?;
-            Root::Versions(key, turned(children.first, children.negated), later)
+            Root::Versions(key, children.first.turned(children.negated), later)
         }
         TreeNode::Texts(key, children) => {
             let later = copy_of_branches(alloc, children.later, children.negated)?;
-            Root::Texts(key, turned(children.first, children.negated), later)
+            Root::Texts(key, children.first.turned(children.negated), later)
         }
         TreeNode::Flagged(flag, set, unset) => {
             Root::Flagged(copy_of_flag(alloc, flag)?, set, unset)
@@ -114,15 +106,6 @@ fn children_between<T>(
     Ok(trees)
 }
 
-/// The order in which trees were made, a tree before its negation.
-fn cmp_trees(a: MarkerTree, b: MarkerTree) -> Ordering
-    ensures { result ≡ tree_cmp a b }
-{
-    a.place()
-        .cmp(&b.place())
-        .then(a.is_negated().cmp(&b.is_negated()))
-}
-
 /// Branches between the same boundaries with other trees. Neighbours that are one tree are joined.
 fn joined<T: Drop>(
     alloc: Global,
@@ -138,7 +121,7 @@ fn joined<T: Drop>(
     for branch in later {
         if let Some((tree, rest)) = left.split_first() {
             left = rest;
-            if cmp_trees(*tree, last).is_ne() {
+            if tree.cmp_places(last).is_ne() {
                 last = *tree;
                 branches.push(Branch {
                     boundary: branch.boundary,

@@ -13,7 +13,7 @@ ghost use Rattle.pep508_diagram.specs.Branches.{branch_at};
 ghost use Rattle.pep508_simplification.specs.Parts.{signs};
 ghost use Rattle.pep508_simplification.specs.Within.{behind, up_to};
 
-use crate::root::{copy_of_boundary, turned};
+use crate::root::copy_of_boundary;
 use pep440_version::Version;
 use pep508_diagram::Branch;
 use pep508_tree::MarkerTree;
@@ -101,7 +101,7 @@ pub(crate) fn copy_up_to(
         }
         branches.push(Branch {
             boundary: copy_of_boundary(alloc, &branch.boundary)?,
-            child: turned(branch.child, negated),
+            child: branch.child.turned(negated),
         })?;
     }
     Ok(branches)

@@ -1,5 +1,5 @@
 -- Each child of a node stands at some valuation, which can be one that differs in the node's variable alone.
-use Rattle.std.proofs.Common.{◌≡◌, inl, inr, ℕ, Bool, true, false, cond, List, [], ◌∷◌, refl, ap, sym, ◌∙◌}
+use Rattle.std.proofs.Common.{◌≡◌, inl, inr, ℕ, ◌<◌, Bool, true, false, cond, List, [], ◌∷◌, refl, ap, sym, ◌∙◌}
 use Rattle.std.specs.Ordering.{is_eq}
 use Rattle.std.specs.Cmp.{unsigned_Decides, tied_itself}
 use Rattle.std.specs.Cmp.Lexicographic.{nat_list_cmp_total}
@@ -14,9 +14,11 @@ use Rattle.pep508_diagram.specs.declared.variable.VersionVariable.{VersionVariab
 use Rattle.pep508_diagram.specs.declared.variable.Flag.{Flag}
 use Rattle.pep508_diagram.specs.Text.{text_cmp}
 use Rattle.pep508_diagram.specs.Branches.{branch_at}
-use Rattle.pep508_diagram.specs.Question.{VersionBelow, TextBelow, IsSet, Valuation, version_rank, flag_place, lies_below, with_version, with_text, with_flag, shares_variable, answer, marker}
+use Rattle.pep508_diagram.specs.Question.{VersionBelow, TextBelow, IsSet, Valuation, version_rank, flag_place}
+use Rattle.pep508_diagram.specs.Question.{flag_rank, flag_text, lies_below, with_version, with_text, with_flag}
+use Rattle.pep508_diagram.specs.Question.{shares_variable, answer, marker}
 use Rattle.pep508_diagram.proofs.Moved.{DiffersAt}
-use Rattle.pep508_diagram.proofs.Questions.{versions_share, texts_share}
+use Rattle.pep508_diagram.proofs.Questions.{before_differs, versions_share, texts_share}
 use Rattle.pep508_diagram.proofs.Chains.{child_point}
 use Rattle.pep508_tree.specs.Tree.{Tree}
 use Rattle.pep508_tree.specs.Meaning.{NodeOf, NodeRecord, Versions, Texts, Flagged, holds, IsTree}
@@ -61,18 +63,46 @@ pub flag_given : (v : Valuation) (flag : Flag) (set : Bool) → (with_flag v fla
 flag_given v flag set =
     ap (λ same. cond same set (v.flag flag)) (ap is_eq (tied_itself nat_list_cmp_total (flag_place flag)))
 
+-- a flag of a later kind stays
+flag_kept : (v : Valuation) (flag other : Flag) (set : Bool) → flag_rank flag < flag_rank other →
+    (with_flag v flag set).flag other ≡ v.flag other
+flag_kept v flag other set low =
+    ap (λ same. cond same set (v.flag other))
+    (before_differs (flag_rank flag) (flag_rank other) (text_cmp (flag_text flag) (flag_text other)) low)
+
 -- ---- children
+
+-- a flag of a later kind than the one that the node asks for, if it asks for one
+abbrev pub IsLaterFlag : {C : Type 0} → NodeOf C → Flag → Type 0
+IsLaterFlag (Versions key first later) other = Unit {0}
+IsLaterFlag (Texts key first later) other = Unit {0}
+IsLaterFlag (Flagged flag set unset) other = flag_rank flag < flag_rank other
 
 module _ (nodes : List NodeRecord) (sound : AreSound nodes) (v : Valuation) where
   -- a valuation at which the child stands in the node, and at which all trees behind the node's variable hold
-  -- as they do at v
+  -- and all flags of later kinds are as at v
   pub record StandsAt {C : Type 0} (n : NodeOf C) (c : C) (w : Valuation) : Type 0 where
     pub stands : chosen n w ≡ c
     pub still : (t : Tree) → IsTree nodes t → Above nodes (node_place n) t → holds nodes t w ≡ holds nodes t v
+    pub flags : (other : Flag) → IsLaterFlag n other → w.flag other ≡ v.flag other
+
+  flag_moved : {C : Type 0} (flag : Flag) (set unset : C) (side : Bool) (c : C) → cond side set unset ≡ c →
+      (w : Valuation) × StandsAt (Flagged flag set unset) c w
+  flag_moved flag set unset side c is = (
+    with_flag v flag side,
+    record {
+      stands = ap (λ b. cond b set unset) (flag_given v flag side) ∙ is;
+      still = λ t made above.
+          unmoved nodes sound (IsSet flag) t made above v (with_flag v flag side)
+          (flag_differs v flag side);
+      flags = λ other later. flag_kept v flag other side later;
+    },
+  )
 
   pub moved_to : {C : Type 0} (n : NodeOf C) → IsRising n → (c : C) → IsChildIn c n →
       (w : Valuation) × StandsAt n c w
-  moved_to (Versions key first []) rising c is = (v, record { stands = sym is; still = λ t made above. refl })
+  moved_to (Versions key first []) rising c is =
+      (v, record { stands = sym is; still = λ t made above. refl; flags = λ other later. refl })
   moved_to (Versions key first (branch ∷ later)) rising c is =
       let point = child_point version_cmp_total first (branch ∷ later) c rising is in
       let w = with_version v key point.0 in (
@@ -82,9 +112,11 @@ module _ (nodes : List NodeRecord) (sound : AreSound nodes) (v : Valuation) wher
           still = λ t made above.
               unmoved nodes sound (VersionBelow key branch.boundary) t made above v w
               (version_differs v key point.0 branch.boundary);
+          flags = λ other later. refl;
         },
       )
-  moved_to (Texts key first []) rising c is = (v, record { stands = sym is; still = λ t made above. refl })
+  moved_to (Texts key first []) rising c is =
+      (v, record { stands = sym is; still = λ t made above. refl; flags = λ other later. refl })
   moved_to (Texts key first (branch ∷ later)) rising c is =
       let point = child_point nat_list_cmp_total first (branch ∷ later) c rising is in
       let w = with_text v key point.0 in (
@@ -94,23 +126,8 @@ module _ (nodes : List NodeRecord) (sound : AreSound nodes) (v : Valuation) wher
           still = λ t made above.
               unmoved nodes sound (TextBelow key branch.boundary) t made above v w
               (text_differs v key point.0 branch.boundary);
+          flags = λ other later. refl;
         },
       )
-  moved_to (Flagged flag set unset) rising c (inl is) = (
-    with_flag v flag true,
-    record {
-      stands = ap (λ b. cond b set unset) (flag_given v flag true) ∙ sym is;
-      still = λ t made above.
-          unmoved nodes sound (IsSet flag) t made above v (with_flag v flag true)
-          (flag_differs v flag true);
-    },
-  )
-  moved_to (Flagged flag set unset) rising c (inr is) = (
-    with_flag v flag false,
-    record {
-      stands = ap (λ b. cond b set unset) (flag_given v flag false) ∙ sym is;
-      still = λ t made above.
-          unmoved nodes sound (IsSet flag) t made above v (with_flag v flag false)
-          (flag_differs v flag false);
-    },
-  )
+  moved_to (Flagged flag set unset) rising c (inl is) = flag_moved flag set unset true c (sym is)
+  moved_to (Flagged flag set unset) rising c (inr is) = flag_moved flag set unset false c (sym is)

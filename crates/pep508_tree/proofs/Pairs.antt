@@ -11,7 +11,8 @@ use Rattle.pep508_diagram.specs.Branches.{RisingBranches, branch_at, AllBranches
 use Rattle.pep508_diagram.specs.Chains.{IsChild}
 use Rattle.pep508_diagram.specs.declared.variable.Flag.{Flag}
 use Rattle.pep508_diagram.specs.Question.{version_rank, text_rank, flag_rank}
-use Rattle.pep508_diagram.proofs.Places.{both_equal, numbers_same, texts_same, versions_same, text_keys_same, flags_same, version_rank_below, rank_below, flag_rank_from}
+use Rattle.pep508_diagram.proofs.Places.{numbers_same, texts_same, versions_same, text_keys_same, flags_same, version_rank_below, rank_below, flag_rank_from}
+use Rattle.version_ranges.specs.HashingLaws.{then_equal}
 use Rattle.pep508_tree.specs.Tree.{Tree}
 use Rattle.pep508_tree.specs.Meaning.{NodeRecord, Versions, Texts, Flagged}
 use Rattle.pep508_tree.specs.Nodes.{counterpart, Paired, node_rank, node_text, node_place, first_child, second_child, version_branches, text_branches}
@@ -76,6 +77,6 @@ counterpart_by (Flagged flag s u) (Flagged other x y) e t = ap (λ f. Flagged f 
 pub counterpart_same : (a b : NodeRecord) → text_cmp (node_place a) (node_place b) ≡ Equal →
     counterpart a (first_child b) (version_branches b) (text_branches b) (second_child b) ≡ b
 counterpart_same a b e =
-    let parts = both_equal (nat_cmp (node_rank a) (node_rank b)) (text_cmp (node_text a) (node_text b)) e in
+    let parts = then_equal (nat_cmp (node_rank a) (node_rank b)) (text_cmp (node_text a) (node_text b)) e in
     counterpart_by a b (numbers_same (node_rank a) (node_rank b) parts.0)
     (texts_same (node_text a) (node_text b) parts.1)

@@ -17,7 +17,8 @@ use Rattle.pep508_diagram.specs.declared.branch.Branch.{Branch}
 use Rattle.pep508_diagram.specs.Text.{text_cmp}
 use Rattle.pep508_diagram.specs.Branches.{branch_at, AllBranches, NeighboursDiffer}
 use Rattle.pep508_diagram.specs.Question.{Valuation, version_rank, text_rank, flag_rank, flag_text}
-use Rattle.pep508_diagram.proofs.Places.{both_equal, not_less, numbers_same, texts_same, versions_same, text_keys_same, version_rank_below, rank_below, flag_rank_from, flag_from_place}
+use Rattle.pep508_diagram.proofs.Places.{not_less, numbers_same, texts_same, versions_same, text_keys_same, version_rank_below, rank_below, flag_rank_from, flag_from_place}
+use Rattle.version_ranges.specs.HashingLaws.{then_equal}
 use Rattle.pep508_diagram.proofs.Turned.{flips_twice, flips_back}
 use Rattle.pep508_tree.specs.Tree.{Tree, negation}
 use Rattle.pep508_tree.specs.Meaning.{NodeRecord, Versions, Texts, Flagged, holds, IsTree, Extends}
@@ -110,7 +111,7 @@ bools_same false false e = refl
 
 pub trees_same : (a b : Tree) → tree_cmp a b ≡ Equal → a ≡ b
 trees_same a b e =
-    let parts = both_equal (nat_cmp a.place b.place) (bool_cmp a.negated b.negated) e in
+    let parts = then_equal (nat_cmp a.place b.place) (bool_cmp a.negated b.negated) e in
     let place = numbers_same a.place b.place parts.0 in
     let negated = bools_same a.negated b.negated parts.1 in
     λ i. record { place = place i; negated = negated i }
@@ -123,8 +124,8 @@ branches_alike total first [] other [] p same e = same
 branches_alike total first [] other (c ∷ m) p same e = absurd (not_less (sym e))
 branches_alike total first (b ∷ l) other [] p same e = absurd (true≢false (ap is_gt e))
 branches_alike {cmp = cmp} total first (b ∷ l) other (c ∷ m) p same e =
-    let parts = both_equal (branch_cmp cmp b c) (slice_cmp (branch_cmp cmp) l m) e in
-    let inner = both_equal (boundary_cmp cmp b.boundary c.boundary) (tree_cmp b.child c.child) parts.0 in
+    let parts = then_equal (branch_cmp cmp b c) (slice_cmp (branch_cmp cmp) l m) e in
+    let inner = then_equal (boundary_cmp cmp b.boundary c.boundary) (tree_cmp b.child c.child) parts.0 in
     let child = trees_same b.child c.child inner.1 in
     let up = ap (λ o. not (is_gt o))
     ((points_total cmp total).congr (point_of b.boundary) (point_of c.boundary) p inner.0) in
@@ -148,10 +149,10 @@ alike_parts n m e =
     let versions = slice_cmp (branch_cmp version_cmp) (version_branches n) (version_branches m) in
     let place = text_cmp (node_place n) (node_place m) in
     let behind = ordering_then place (ordering_then versions texts) in
-    let one = both_equal first (ordering_then second behind) e in
-    let two = both_equal second behind one.1 in
-    let three = both_equal place (ordering_then versions texts) two.1 in
-    let four = both_equal versions texts three.1 in
+    let one = then_equal first (ordering_then second behind) e in
+    let two = then_equal second behind one.1 in
+    let three = then_equal place (ordering_then versions texts) two.1 in
+    let four = then_equal versions texts three.1 in
     record {
       place = three.0;
       versions = four.0;
@@ -164,7 +165,7 @@ pub alike_place : (n m : NodeRecord) → node_cmp n m ≡ Equal → node_place n
 alike_place n m e = texts_same (node_place n) (node_place m) (alike_parts n m e).place
 
 ranks_same : (r q : ℕ) (xs ys : List ℕ) → text_cmp (r ∷ xs) (q ∷ ys) ≡ Equal → r ≡ q
-ranks_same r q xs ys e = numbers_same r q (both_equal (nat_cmp r q) (text_cmp xs ys) e).0
+ranks_same r q xs ys e = numbers_same r q (then_equal (nat_cmp r q) (text_cmp xs ys) e).0
 
 chosen_by : (n m : NodeRecord) (v : Valuation) → AreAlike n m → chosen n v ≡ chosen m v
 chosen_by (Versions key first later) (Versions other f l) v a =

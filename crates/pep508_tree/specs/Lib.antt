@@ -1,5 +1,6 @@
 pub mod Tree
 pub mod Meaning
+pub mod Truths
 pub mod Forms
 pub mod Roots
 pub mod Leaves
@@ -8,8 +9,7 @@ pub mod Conjunctions
 pub mod Disjoint
 pub mod Places
 pub mod NodeLaws
-pub mod Asked
-pub mod AskedLaws
+pub mod PairOrder
 pub mod Known
 pub mod Interning
 pub mod Joining

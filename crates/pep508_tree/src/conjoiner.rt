@@ -1,9 +1,7 @@
 //! Conjunctions of marker trees.
 
 ghost use Rattle.std.specs.Prelude.{◌≡◌, ◌⊎◌, ◌+◌, ◌-◌, ◌<◌, false, [], List, MatchOption, IfOk, IfSome};
-ghost use Rattle.std.specs.Prelude.{refl};
-ghost use Rattle.std.specs.Cmp.{eq_by_cmp_equiv, partial_equiv_from_equiv, partial_order_from_agreeing_total};
-ghost use Rattle.std.specs.Ordering.{eq_by_cmp, as_partial_cmp, is_gt};
+ghost use Rattle.std.specs.Ordering.{is_gt};
 ghost use Rattle.std.specs.List.{AllByRecursion};
 ghost use Rattle.pep508_diagram.specs.Text.{text_cmp};
 ghost use Rattle.pep508_tree.specs.Meaning.{NodeRecord, IsTree, Extends};
@@ -12,77 +10,19 @@ ghost use Rattle.pep508_tree.specs.Nodes.{AreSound, first_place, node_place, nod
 ghost use Rattle.pep508_tree.specs.Nodes.{IsRising, IsJoined, Splits, Made};
 ghost use Rattle.pep508_tree.specs.Joining.{node_joined};
 ghost use Rattle.pep508_tree.specs.Conjunctions.{Conjunction, ArePairs, Meet};
-ghost use Rattle.pep508_tree.specs.Asked.{asked_cmp};
-ghost use Rattle.pep508_tree.specs.AskedLaws.{asked_total};
 
 use crate::node::{Form, Node, Pair};
 use crate::table::NodeTable;
-use crate::tree::MarkerTree;
+use crate::{MarkerTree, TreePair};
 use std::alloc::{AllocError, Global};
-use std::cmp::Ordering;
 use std::collections::BTreeMap;
 use std::marker::Model;
-
-/// Two trees of which something was asked.
-#[derive(Drop)]
-pub(crate) struct Asked {
-    first: MarkerTree,
-    second: MarkerTree,
-}
-
-impl Asked {
-    pub fn new(first: MarkerTree, second: MarkerTree) -> Asked
-        ensures { result ≡ record { first = first; second = second } }
-    {
-        Asked { first, second }
-    }
-}
-
-impl PartialEq for Asked {
-    ghost eq = { eq_by_cmp asked_cmp };
-
-    ghost laws = { partial_equiv_from_equiv (eq_by_cmp_equiv asked_total) };
-
-    fn eq(&self, other: &Asked) -> bool {
-        self.cmp(other).is_eq()
-    }
-}
-
-impl Eq for Asked {
-    ghost laws = { eq_by_cmp_equiv asked_total };
-}
-
-impl PartialOrd for Asked {
-    ghost partial_cmp = { as_partial_cmp asked_cmp };
-
-    ghost laws = { partial_order_from_agreeing_total asked_cmp asked_total (λ x y. refl) (λ x y. refl) };
-
-    fn partial_cmp(&self, other: &Asked) -> Option<Ordering> {
-        Some(self.cmp(other))
-    }
-}
-
-impl Ord for Asked {
-    ghost cmp = { asked_cmp };
-
-    ghost total = { asked_total };
-
-    ghost matches_partial_cmp = { λ x y. refl };
-
-    ghost matches_eq = { λ x y. refl };
-
-    fn cmp(&self, other: &Asked) -> Ordering {
-        self.first
-            .cmp_places(other.first)
-            .then(self.second.cmp_places(other.second))
-    }
-}
 
 /// Combines trees, and keeps what it combined.
 #[derive(Drop)]
 pub(crate) struct Conjoiner {
     table: NodeTable,
-    known: BTreeMap<Asked, MarkerTree>,
+    known: BTreeMap<TreePair, MarkerTree>,
 }
 
 impl Model for Conjoiner {
@@ -129,10 +69,6 @@ impl Conjoiner {
         }
     }
 
-    fn allocator(&self) -> Global {
-        self.table.allocator()
-    }
-
     /// What the nodes keep. Does nothing.
     pub fn are_sound(&self)
         ensures { AreSound self.now }
@@ -145,7 +81,7 @@ impl Conjoiner {
     fn recall(&self, a: MarkerTree, b: MarkerTree) -> Option<MarkerTree>
         ensures { IfSome result (λ tree. Conjunction self.now self.now a b tree) }
     {
-        self.known.get(&Asked::new(a, b)).copied()
+        self.known.get(&TreePair::new(a, b)).copied()
     }
 
     /// The node of a tree that is not constant.
@@ -162,7 +98,7 @@ impl Conjoiner {
     pub fn forget(&mut self)
         ensures { self.new ≡ self.old }
     {
-        self.known = BTreeMap::new(self.allocator());
+        self.known = BTreeMap::new(self.table.allocator());
     }
 
     /// Keeps the conjunction of two trees.
@@ -173,7 +109,7 @@ impl Conjoiner {
         requires conjunction { Conjunction self.old self.old a b tree }
         ensures { self.new ≡ self.old }
     {
-        self.known.insert(Asked::new(a, b), tree)?;
+        self.known.insert(TreePair::new(a, b), tree)?;
         Ok(())
     }
 
@@ -207,7 +143,7 @@ impl Conjoiner {
         requires ordered { is_gt (text_cmp (first_place self.now a) (first_place self.now b)) ≡ false }
         ensures { IfOk result (λ pairs. Splits self.now a b (record_of pairs.value)) }
     {
-        Ok(Box::new(self.allocator(), self.table.split(a, b)?)?)
+        Ok(Box::new(self.table.allocator(), self.table.split(a, b)?)?)
     }
 
     /// The tree of a form, of which each child asks for later variables only.
@@ -238,7 +174,7 @@ impl Conjoiner {
             Made self.old self.new (node_joined (record_of pairs.value) trees.now) tree) }
         ensures keeps { Extends self.old self.new }
     {
-        let form = Box::into_inner(pairs).joined(self.allocator(), trees)?;
+        let form = Box::into_inner(pairs).joined(self.table.allocator(), trees)?;
         self.store(form)
     }
 

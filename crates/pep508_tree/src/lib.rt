@@ -13,7 +13,9 @@ mod node_making;
 mod root;
 mod table;
 mod tree;
+mod tree_pair;
 
 pub use interner::{Interner, uncounted_conjunction};
 pub use root::{Children, TreeNode};
 pub use tree::MarkerTree;
+pub use tree_pair::TreePair;

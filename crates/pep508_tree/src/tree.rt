@@ -72,7 +72,7 @@ impl MarkerTree {
     }
 
     /// The tree, negated where the flag is set.
-    pub(crate) fn turned(self, turns: bool) -> MarkerTree
+    pub fn turned(self, turns: bool) -> MarkerTree
         ensures { result ≡ turned turns self }
     {
         MarkerTree {
@@ -82,7 +82,7 @@ impl MarkerTree {
     }
 
     /// The order in which trees were made, a tree before its negation. It is no order of meanings.
-    pub(crate) fn cmp_places(self, other: MarkerTree) -> Ordering
+    pub fn cmp_places(self, other: MarkerTree) -> Ordering
         ensures { result ≡ tree_cmp self other }
     {
         self.place

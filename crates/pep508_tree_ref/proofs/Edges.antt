@@ -1,5 +1,6 @@
 -- The order of trees by the edges at their roots.
-use Rattle.std.proofs.Common.{◌≡◌, ℕ, ◌<◌, ◌≤◌, Bool, true, false, not, List, [], ◌∷◌, map, length, Option, Some, None, refl, sym, ap, ap₂, subst, ◌∙◌, Less, Greater, nat_cmp, get_or}
+use Rattle.std.proofs.Common.{◌≡◌, ℕ, ◌<◌, ◌≤◌, Bool, true, false, not, List, [], ◌∷◌, map, length, Option}
+use Rattle.std.proofs.Common.{Some, None, refl, sym, ap, ap₂, subst, ◌∙◌, Less, Greater, nat_cmp, get_or}
 use Rattle.std.specs.Prelude.{option_map}
 use Rattle.std.specs.List.{slice_get}
 use Rattle.std.specs.Ordering.{bool_cmp, ordering_then}
@@ -17,9 +18,10 @@ use Rattle.pep508_diagram.specs.Diagram.{Diagram, Leaf, Test}
 use Rattle.pep508_diagram.specs.Branches.{AllBranches}
 use Rattle.pep508_diagram.specs.Chains.{chain}
 use Rattle.pep508_diagram.specs.Children.{RootBehind}
-use Rattle.pep508_diagram.specs.Question.{Question, VersionBelow, TextBelow, IsSet, question_cmp, shares_variable, version_boundaries, text_boundaries, place_of}
+use Rattle.pep508_diagram.specs.Question.{Question, VersionBelow, TextBelow, IsSet, question_cmp}
+use Rattle.pep508_diagram.specs.Question.{shares_variable, version_boundaries, text_boundaries, place_of}
 use Rattle.pep508_diagram.proofs.Chains.{versions_key, texts_key, behind_above}
-use Rattle.pep508_diagram.proofs.Places.{then_equal}
+use Rattle.pep440_version.proofs.Stripped.{then_equal_last}
 use Rattle.pep508_tree.specs.Tree.{Tree}
 use Rattle.pep508_tree.specs.Joining.{children}
 use Rattle.pep508_tree.specs.Meaning.{NodeOf, NodeRecord, Versions, Texts, Flagged, node_diagram}
@@ -140,7 +142,7 @@ module _ {C D : Type 0} (at : C → Diagram Question) (other_at : D → Diagram 
   later_sides q [] (c ∷ []) r [] (d ∷ e ∷ ds) h g = absurd g
   later_sides q [] (c ∷ []) r [] (d ∷ []) h g =
       ap₂ (λ a b. ordering_then (bool_cmp a b) (diagram_cmp (at c) (other_at d))) h g
-      ∙ sym (then_equal (diagram_cmp (at c) (other_at d)))
+      ∙ sym (then_equal_last (diagram_cmp (at c) (other_at d)))
   later_sides q [] (c ∷ []) r (s ∷ rs) (d ∷ ds) h g =
       ap₂ (λ a b. ordering_then (bool_cmp a (not b)) (diagram_cmp (at c) (build other_at (s ∷ rs) (d ∷ ds)))) h g.0
   later_sides q (p ∷ qs) (c ∷ cs) r rs [] h g = absurd g

@@ -1,10 +1,12 @@
 -- Diagrams tie where they are one.
-use Rattle.std.proofs.Common.{◌≡◌, ◌↔◌, Bool, true, false, not, refl, sym, ap, ◌∙◌, true≢false, IsTrue, Ordering, Less, Equal, Greater, is_eq}
+use Rattle.std.proofs.Common.{◌≡◌, ◌↔◌, Bool, true, false, not, refl, sym, ap, ◌∙◌, true≢false, IsTrue}
+use Rattle.std.proofs.Common.{Ordering, Less, Equal, Greater, is_eq}
 use Rattle.std.specs.Ordering.{bool_cmp, ordering_then, eq_by_cmp}
 use Rattle.pep508_diagram.specs.Diagram.{Diagram, Leaf, Test}
 use Rattle.pep508_diagram.specs.Question.{Question, Valuation, question_cmp, truth, AreOne, IsCanonical}
 use Rattle.pep508_diagram.proofs.Alike.{shares_equal, alike_truth}
-use Rattle.pep508_diagram.proofs.Places.{both_equal, equal_from}
+use Rattle.pep508_diagram.proofs.Places.{equal_from}
+use Rattle.version_ranges.specs.HashingLaws.{then_equal}
 use Rattle.pep508_diagram.proofs.Questions.{asks, one_marker_diagram}
 use Rattle.pep508_tree_ref.specs.TreeOrder.{is_last, diagram_cmp}
 
@@ -33,9 +35,9 @@ tied_are_one (Leaf b) (Leaf c) t = level_leaves b c t
 tied_are_one (Leaf b) (Test r m k) t = absurd (never_less t)
 tied_are_one (Test q l h) (Leaf c) t = absurd (never_greater t)
 tied_are_one (Test q l h) (Test r m k) t =
-    let first = both_equal (question_cmp q r) _ t in
-    let low = both_equal (diagram_cmp l m) _ first.1 in
-    let last = both_equal (bool_cmp (is_last q h) (is_last r k)) _ low.1 in
+    let first = then_equal (question_cmp q r) _ t in
+    let low = then_equal (diagram_cmp l m) _ first.1 in
+    let last = then_equal (bool_cmp (is_last q h) (is_last r k)) _ low.1 in
     (first.0, tied_are_one l m low.0, tied_are_one h k last.1)
 
 -- diagrams that are one end an edge alike

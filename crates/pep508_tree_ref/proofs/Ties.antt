@@ -1,12 +1,13 @@
 -- Pairs of trees that are known to tie.
-use Rattle.std.proofs.Common.{◌≡◌, ◌||◌, Bool, true, false, List, [], ◌∷◌, refl, sym, ap, ap₂, subst, ◌∙◌, true≢false, Ordering}
+use Rattle.std.proofs.Common.{◌≡◌, ◌||◌, Bool, true, false, List, [], ◌∷◌, refl, sym, ap, ap₂, subst, ◌∙◌}
+use Rattle.std.proofs.Common.{true≢false, Ordering}
 use Rattle.std.specs.Prelude.{Result, Ok, Err, OnOk, OnErr}
 use Rattle.std.specs.declared.cmp.Ordering.TheVariants.{Less, Equal, Greater}
 use Rattle.std.specs.BTreeMap.{is_at}
 use Rattle.std.specs.BTreeSet.{insert_key}
 use Rattle.std.specs.List.{AllByRecursion, list_any}
 use Rattle.std.specs.Ordering.{match_ordering, ordering_then, nat_cmp, bool_cmp, is_eq}
-use Rattle.pep508_diagram.proofs.Places.{both_equal}
+use Rattle.version_ranges.specs.HashingLaws.{then_equal}
 use Rattle.pep508_tree.proofs.Storing.{trees_same}
 use Rattle.pep508_tree.specs.Meaning.{NodeRecord, diagram_of}
 use Rattle.pep508_tree.specs.Tree.{Tree}
@@ -31,7 +32,7 @@ module _ (nodes others : List NodeRecord) where
   tie_at : (tree other : Tree) (names : Name × Name) →
       pair_cmp (named tree, named other) names ≡ Equal → AreTied nodes others names → Ties tree other
   tie_at tree other names e tied =
-      let parts = both_equal _ _ e in
+      let parts = then_equal _ _ e in
       ap₂ (λ a b. diagram_cmp (diagram_of nodes a) (diagram_of others b))
       (trees_same tree (tree_named names.0) parts.0) (trees_same other (tree_named names.1) parts.1)
       ∙ tied

@@ -1,5 +1,7 @@
 -- The order of trees, as it is found edge by edge.
-use Rattle.std.proofs.Common.{◌≡◌, ◌↔◌, ℕ, zero, suc, ◌+◌, ◌-◌, ◌==◌, ◌<◌, ◌≤◌, arith, add-one, Bool, true, false, cond, List, [], ◌∷◌, length, drop, Option, Some, None, IsTrue, inl, inr, refl, sym, ap, ap₂, subst, ◌∙◌, true≢false, Ordering, Less, Equal, Greater}
+use Rattle.std.proofs.Common.{◌≡◌, ◌↔◌, ℕ, zero, suc, ◌+◌, ◌-◌, ◌==◌, ◌<◌, ◌≤◌, arith, add-one, Bool, true}
+use Rattle.std.proofs.Common.{false, cond, List, [], ◌∷◌, length, drop, Option, Some, None, IsTrue, inl, inr}
+use Rattle.std.proofs.Common.{refl, sym, ap, ap₂, subst, ◌∙◌, true≢false, Ordering, Less, Equal, Greater}
 use Rattle.std.proofs.lemmas.Bool.{cases_Bool}
 use Rattle.std.specs.Prelude.{option_map, IfSome, if◌then◌else◌}
 use Rattle.std.specs.List.{slice_get}
@@ -9,7 +11,7 @@ use Rattle.std.specs.Cmp.Lexicographic.{slice_cmp}
 use Rattle.version_ranges.specs.Turns.{flips}
 use Rattle.pep508_diagram.specs.Diagram.{Diagram, Leaf, turned_by}
 use Rattle.pep508_diagram.specs.Question.{Question}
-use Rattle.pep508_diagram.proofs.Places.{then_equal}
+use Rattle.pep440_version.proofs.Stripped.{then_equal_last}
 use Rattle.pep508_tree.specs.Tree.{Tree, never}
 use Rattle.pep508_tree.specs.Joining.{children}
 use Rattle.pep508_tree.specs.Meaning.{NodeOf, NodeRecord, Versions, Texts, Flagged, diagram_of, IsTree}
@@ -92,7 +94,7 @@ first_decides Greater d r t e = refl
 second_decides : (o p r t : Ordering) → is_ne o ≡ false → is_ne p ≡ true →
     p ≡ ordering_then (ordering_then (ordering_then o p) r) t
 second_decides Less p r t e f = absurd (true≢false e)
-second_decides Equal p r t e f = first_decides p Equal r t f ∙ ap (λ o. ordering_then (ordering_then o r) t) (then_equal p)
+second_decides Equal p r t e f = first_decides p Equal r t f ∙ ap (λ o. ordering_then (ordering_then o r) t) (then_equal_last p)
 second_decides Greater p r t e f = absurd (true≢false e)
 
 both_level : (o p r : Ordering) → is_ne o ≡ false → is_ne p ≡ false → ordering_then (ordering_then o p) r ≡ r
@@ -210,7 +212,7 @@ module _ (nodes : List NodeRecord) (sound : AreSound nodes) (a : Tree) (made : I
       ∙ nodes_by_sides (diagram_of nodes) (diagram_of others) n m known.wide other_known.wide
       (root_children_behind nodes sound a made n known)
       (root_children_behind others other_sound b other_made m other_known)
-      ∙ sym (then_equal (slice_cmp side_cmp (sides (diagram_of nodes) (ends n) (children n))
+      ∙ sym (then_equal_last (slice_cmp side_cmp (sides (diagram_of nodes) (ends n) (children n))
       (sides (diagram_of others) (ends m) (children m))))
       ∙ ap₂ (λ x y. ordering_then (slice_cmp side_cmp (sides (diagram_of nodes) (ends n) (children n))
       (sides (diagram_of others) (ends m) (children m))) (bool_cmp x y))

@@ -6,7 +6,7 @@ use Rattle.std.specs.Cmp.{IsTotalOrder, then_total, on_total, bool_cmp_total}
 use Rattle.std.specs.Cmp.Lexicographic.{slice_cmp, lists_total}
 use Rattle.pep508_diagram.specs.Diagram.{Diagram, Leaf, Test}
 use Rattle.pep508_diagram.specs.Question.{Question, question_cmp}
-use Rattle.pep508_diagram.proofs.Places.{then_equal}
+use Rattle.pep440_version.proofs.Stripped.{then_equal_last}
 use Rattle.pep508_diagram.proofs.Questions.{questions_total}
 use Rattle.pep508_tree_ref.specs.TreeOrder.{is_last, diagram_cmp}
 use Rattle.pep508_tree_ref.specs.TreeIn.{diagram_in, tree_in_cmp}
@@ -53,7 +53,7 @@ by_tokens (Test q l h) (Test r m k) xs ys =
     ap₂ (λ us vs. ordering_then (ordering_then (ordering_then (question_cmp q r) Equal) Equal)
     (slice_cmp token_cmp us vs))
     (append_assoc (tokens l) (end ∷ tokens h) xs) (append_assoc (tokens m) (other_end ∷ tokens k) ys)
-    ∙ ap₂ ordering_then (then_equal (ordering_then (question_cmp q r) Equal) ∙ then_equal (question_cmp q r))
+    ∙ ap₂ ordering_then (then_equal_last (ordering_then (question_cmp q r) Equal) ∙ then_equal_last (question_cmp q r))
     (by_tokens l m (end ∷ (tokens h ++ xs)) (other_end ∷ (tokens k ++ ys))
     ∙ ap (λ o. ordering_then (diagram_cmp l m) (ordering_then last o)) (by_tokens h k xs ys))
     ∙ sym (then_then (question_cmp q r) _ (slice_cmp token_cmp xs ys)
@@ -64,7 +64,7 @@ by_tokens (Test q l h) (Test r m k) xs ys =
 token_order : (d e : Diagram Question) → slice_cmp token_cmp (tokens d) (tokens e) ≡ diagram_cmp d e
 token_order d e =
     ap₂ (slice_cmp token_cmp) (sym (append-nil (tokens d))) (sym (append-nil (tokens e)))
-    ∙ by_tokens d e [] [] ∙ then_equal (diagram_cmp d e)
+    ∙ by_tokens d e [] [] ∙ then_equal_last (diagram_cmp d e)
 
 pub diagrams_total : IsTotalOrder diagram_cmp
 diagrams_total = subst IsTotalOrder (λ i d e. token_order d e i) (on_total tokens tokens_total)

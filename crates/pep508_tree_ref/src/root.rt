@@ -9,23 +9,16 @@ ghost use Rattle.pep508_evaluation.specs.Steps.{children_of};
 
 use pep508_tree::{Children, Interner, MarkerTree, TreeNode};
 
-/// The tree, negated where the flag is set.
-fn turned(tree: MarkerTree, turns: bool) -> MarkerTree
-    ensures { result ≡ turned turns tree }
-{
-    if turns { tree.negate() } else { tree }
-}
-
 /// The child between two boundaries, by its place.
 fn child_between<T>(children: Children<T>, index: usize) -> Option<MarkerTree>
     ensures { result ≡ option_map (turned children.entry.negated)
         (slice_get (children.entry.first ∷ map (λ branch. branch.child) children.entry.later.now) index) }
 {
     if index == 0 {
-        return Some(turned(children.first, children.negated));
+        return Some(children.first.turned(children.negated));
     }
     match children.later.get(index - 1) {
-        Some(branch) => Some(turned(branch.child, children.negated)),
+        Some(branch) => Some(branch.child.turned(children.negated)),
         None => None,
     }
 }

@@ -5,3 +5,4 @@ pub mod PathParts
 pub mod UrlLaws
 pub mod NormalPaths
 pub mod Places
+pub mod References

@@ -58,11 +58,11 @@ lacks_behind : (b : ℕ) (bs : List ℕ) → LacksOpening (b ∷ bs) → LacksOp
 lacks_behind b bs lacks front back e = lacks (b ∷ front) back (ap (λ xs. b ∷ xs) e)
 
 -- the first part, where there is one
-abbrev first_of_parts : List (List ℕ) → List ℕ
+abbrev pub first_of_parts : List (List ℕ) → List ℕ
 first_of_parts [] = []
 first_of_parts (part ∷ parts) = part
 
-same_number : (a b : ℕ) → eqb a b ≡ true → a ≡ b
+pub same_number : (a b : ℕ) → eqb a b ≡ true → a ≡ b
 same_number a b h = grind (arith, nat_tests)
 
 no_brace_by : (c : ℕ) (cs : List ℕ) (found : Bool) → starts_with eqb (c ∷ cs) (codes "{") ≡ found → found ≡ false
@@ -73,10 +73,10 @@ no_brace_by c cs found e f = ap (λ t. if t then Some (drop (length (codes "{"))
 other_byte : (c : ℕ) → c ≢ 123 → (eqb 123 c && true) ≡ false
 other_byte c h = grind (arith, nat_tests)
 
-no_brace : (c : ℕ) (cs : List ℕ) → c ≢ 123 → behind (codes "{") (c ∷ cs) ≡ None
+pub no_brace : (c : ℕ) (cs : List ℕ) → c ≢ 123 → behind (codes "{") (c ∷ cs) ≡ None
 no_brace c cs h = no_brace_by c cs (starts_with eqb (c ∷ cs) (codes "{")) refl (other_byte c h)
 
-nothing_behind : behind (codes "{") [] ≡ None
+pub nothing_behind : behind (codes "{") [] ≡ None
 unfolding behind
 nothing_behind = refl
 
@@ -102,7 +102,7 @@ onto_some : (c : ℕ) (parts : List (List ℕ)) → onto_first c parts ≢ []
 onto_some c [] e = absurd (cc)
 onto_some c (part ∷ parts) e = absurd (cc)
 
-split_some : (bs : List ℕ) → slice_split (λ b. eqb b 36) bs ≢ []
+pub split_some : (bs : List ℕ) → slice_split (λ b. eqb b 36) bs ≢ []
 split_some [] e = absurd (cc)
 split_some (c ∷ cs) e = elim (two (eqb c 36)) [
   | inl dollar ↦ absurd (cc (sym (slice_split-cons_yes (λ b. eqb b 36) c cs dollar) ∙ e))
@@ -114,7 +114,7 @@ behind_first : (vars : Variables) (parts : List (List ℕ)) → parts ≢ [] →
 behind_first vars [] some none = absurd (some refl)
 behind_first vars (part ∷ parts) some none = ap (λ xs. xs ++ flat_map (behind_dollar vars) parts) (dollar_stays vars part none)
 
-onto_parts : (vars : Variables) (c : ℕ) (parts : List (List ℕ)) → parts ≢ []
+pub onto_parts : (vars : Variables) (c : ℕ) (parts : List (List ℕ)) → parts ≢ []
     → expanded_parts vars (onto_first c parts) ≡ c ∷ expanded_parts vars parts
 onto_parts vars c [] some = absurd (some refl)
 onto_parts vars c (part ∷ parts) some = refl

@@ -1,6 +1,6 @@
 -- A text with the values of the variables that it names: each `${NAME}` whose NAME is a known variable's is
 -- replaced by the value, from left to right, once: what a value brings is not looked at again.
-use Rattle.std.specs.Prelude.{◌≢◌, ℕ, ◌==◌, nat_lt, ◌&&◌, ◌||◌, Bool, if◌then◌else◌, List, [], ◌∷◌, ◌++◌}
+use Rattle.std.specs.Prelude.{◌≡◌, ◌≢◌, true, ℕ, ◌==◌, nat_lt, ◌&&◌, ◌||◌, Bool, if◌then◌else◌, List, [], ◌∷◌, ◌++◌}
 use Rattle.std.specs.Prelude.{length, codes, flat_map, Option, Some, None, option_and_then, option_map}
 use Rattle.std.specs.List.{slice_split, list_all}
 use Rattle.std.specs.Char.{is_ascii_uppercase, is_ascii_digit}
@@ -45,3 +45,16 @@ expanded vars text = expanded_parts vars (slice_split (λ b. b == 36) text)
 -- no `${` stands in the text
 abbrev pub LacksOpening : List ℕ → Type 0
 LacksOpening text = (front back : List ℕ) → text ≢ front ++ codes "${" ++ back
+
+-- a name in braces behind a `$`
+abbrev pub reference_text : List ℕ → List ℕ
+reference_text name = codes "${" ++ name ++ codes "}"
+
+-- the name is a variable's of this value
+abbrev pub IsKnown : Variables → List ℕ → List ℕ → Type 0
+IsKnown vars name value = (is_variable_name name ≡ true) × (value_of vars name ≡ Some value)
+
+-- no known variable's name stands in the text in braces behind a `$`
+abbrev pub LacksReference : Variables → List ℕ → Type 0
+LacksReference vars text =
+    (front name value back : List ℕ) → IsKnown vars name value → text ≢ front ++ reference_text name ++ back

@@ -6,12 +6,15 @@ use Rattle.std.specs.Ordering.{nat_cmp}
 use Rattle.std.specs.Cmp.Lexicographic.{slice_cmp}
 use Rattle.std.specs.List.{list_any}
 use Rattle.std.specs.Char.{is_ascii_alphanumeric}
+use Rattle.std.specs.Cow.{cow_str_bytes}
 use Rattle.percent_encoding.specs.Percent.{percent_encode_byte}
 use Rattle.url.specs.Parser.{Parsed, parse_url}
 use Rattle.url.specs.Parts.{Parts, has_host, serialize}
 use Rattle.url.specs.Setters.{set_fragment}
 use Rattle.pep508_url.specs.declared.scheme.Scheme.{Scheme}
 use Rattle.pep508_url.specs.declared.scheme.Scheme.TheVariants.{File}
+use Rattle.pep508_url.specs.declared.place.Place.{Place}
+use Rattle.pep508_url.specs.declared.place.Place.TheVariants as places
 use Rattle.pep508_url.specs.Cuts.{cut}
 use Rattle.pep508_url.specs.Vars.{Variables}
 use Rattle.pep508_url.specs.Expansion.{expanded}
@@ -83,20 +86,37 @@ path_reading path directory =
 
 -- ---- a requirement's URL (PEP 508, "Grammar")
 
--- how a text of a scheme is read: that of `file` as a path, that of another listed scheme by the crate
--- `url`, and any other as a path
-abbrev pub by_scheme : List ℕ → Option (List ℕ) → List ℕ → Option Scheme → Result Parts UrlFault
-by_scheme text directory rest None = path_reading text directory
-by_scheme text directory rest (Some File) = path_reading (decoded (without_host rest)) directory
-by_scheme text directory rest (Some scheme) = text_reading text
+-- what a text names: a path, or what the crate `url` reads
+pub data Named : Type 0 where
+  Path : List ℕ → Named
+  Url : Named
 
-abbrev pub by_split : List ℕ → Option (List ℕ) → Option (List ℕ × List ℕ) → Result Parts UrlFault
-by_split text directory None = path_reading text directory
-by_split text directory (Some parts) = by_scheme text directory parts.1 (scheme_of parts.0)
+-- what a text of a scheme names: that of `file` a path, that of another listed scheme a URL, and any other a
+-- path
+abbrev pub by_scheme : List ℕ → List ℕ → Option Scheme → Named
+by_scheme text rest None = Path text
+by_scheme text rest (Some File) = Path (decoded (without_host rest))
+by_scheme text rest (Some scheme) = Url
+
+abbrev pub by_split : List ℕ → Option (List ℕ × List ℕ) → Named
+by_split text None = Path text
+by_split text (Some parts) = by_scheme text parts.1 (scheme_of parts.0)
+
+-- what a text names whose variables have their values
+unfoldable pub place_of : List ℕ → Named
+place_of text = by_split text (scheme_split text)
+
+abbrev pub named_by : Place → Named
+named_by (places.Path path) = Path (cow_str_bytes path)
+named_by places.Url = Url
+
+abbrev pub named_reading : List ℕ → Option (List ℕ) → Named → Result Parts UrlFault
+named_reading text directory (Path path) = path_reading path directory
+named_reading text directory Url = text_reading text
 
 -- the URL of a text whose variables have their values
 unfoldable pub url_reading : List ℕ → Option (List ℕ) → Result Parts UrlFault
-url_reading text directory = by_split text directory (scheme_split text)
+url_reading text directory = named_reading text directory (place_of text)
 
 -- the URL, given as a text or as none
 abbrev pub given_as : Option (List ℕ) → Result Parts UrlFault → Result Verbatim UrlFault

@@ -8,6 +8,7 @@ mod cuts;
 mod error;
 pub mod laws;
 mod path;
+mod place;
 mod reading;
 mod requirement_url;
 mod scheme;
@@ -17,6 +18,7 @@ mod verbatim_url;
 
 pub use error::VerbatimUrlError;
 pub use path::{normalize_absolute_path, normalize_url_path};
+pub use place::{Place, place_of};
 pub use requirement_url::{Pep508Url, UnnamedRequirementUrl};
 pub use scheme::{Scheme, split_scheme};
 pub use splits::{split_extras, strip_host};

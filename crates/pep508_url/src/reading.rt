@@ -7,9 +7,10 @@ ghost use Rattle.pep508_url.specs.UrlTexts.{text_reading, file_text, with_fragme
 ghost use Rattle.pep508_url.specs.UrlTexts.{path_reading, url_reading, path_of, local_path, is_local_file};
 ghost use Rattle.pep508_url.specs.UrlTexts.{path_byte, is_path_byte};
 
+use crate::VerbatimUrlError;
 use crate::cuts::cut;
-use crate::path::{absolute_path, normalize_absolute_path, normalize_url_path, utf8_decoded};
-use crate::{Scheme, VerbatimUrlError, split_scheme, strip_host};
+use crate::path::{absolute_path, normalize_absolute_path, utf8_decoded};
+use crate::place::{Place, place_of};
 use percent_encoding::percent_encode_byte;
 use std::alloc::{AllocError, Global};
 use url::{ParseError, Url};
@@ -23,16 +24,9 @@ pub(crate) fn read_requirement_url(
 ) -> Result<Url, VerbatimUrlError>
     ensures { Answers (λ url. url) told_url result (url_reading text.now (option_copied working_dir.entry)) }
 {
-    let Some((scheme, rest)) = split_scheme(text) else {
-        return read_path(alloc, text, working_dir);
-    };
-    match Scheme::parse(scheme) {
-        None => read_path(alloc, text, working_dir),
-        Some(Scheme::File) => {
-            let path = normalize_url_path(alloc, strip_host(rest))?;
-            read_path(alloc, path.as_str(), working_dir)
-        }
-        Some(_) => read_url(alloc, text),
+    match place_of(alloc, text)? {
+        Place::Path(path) => read_path(alloc, path.as_str(), working_dir),
+        Place::Url => read_url(alloc, text),
     }
 }
 

@@ -29,7 +29,8 @@ use Rattle.pep508_tree.specs.Roots.{root_of, IsRoot}
 use Rattle.pep508_view.specs.declared.kind.MarkerTreeKind.{MarkerTreeKind}
 use Rattle.pep508_view.specs.declared.kind.MarkerTreeKind.TheVariants as kind
 use Rattle.pep508_view.specs.Edges.{edges_from, edges}
-use Rattle.pep508_view.specs.Views.{version_node, text_node, in_node, contains_node, extra_node, version_edges, text_edges, flag_of, IsKind}
+use Rattle.pep508_view.specs.Views.{version_node, text_node, in_node, contains_node, extra_node}
+use Rattle.pep508_view.specs.Views.{version_edges, text_edges, flag_of, IsKind}
 use Rattle.pep508_view.specs.Reading.{JustOne, SpanAll, LeadApart}
 use Rattle.pep508_view.specs.ReadOff.{HoldsAs, IsReadOff, IsBelow, IsLaidOut, subtrees}
 use Rattle.pep508_view.proofs.Reading.{one_holds, span_all, lead_apart, weaker_lead}

@@ -1,5 +1,6 @@
 -- Edges side by side, and the one that holds a point.
-use Rattle.std.proofs.Common.{◌≡◌, Bool, true, false, not, ◌&&◌, cond, List, [], ◌∷◌, map, refl, ap, sym, subst, ◌∙◌}
+use Rattle.std.proofs.Common.{◌≡◌, Bool, true, false, not, ◌&&◌, cond, List, [], ◌∷◌, map, refl, ap, sym}
+use Rattle.std.proofs.Common.{subst, ◌∙◌}
 use Rattle.std.specs.List.{AllByRecursion}
 use Rattle.std.specs.declared.cmp.Ordering.{Ordering}
 use Rattle.std.specs.declared.cmp.Ordering.TheVariants.{Less}
@@ -20,7 +21,8 @@ use Rattle.pep508_diagram.specs.declared.branch.Branch.{Branch}
 use Rattle.pep508_tree.specs.Tree.{Tree}
 use Rattle.pep508_diagram.specs.Branches.{RisingBranches, branch_at, NeighboursDiffer}
 use Rattle.pep508_view.specs.Edges.{EdgeOf, edges_from, edges}
-use Rattle.pep508_view.specs.Reading.{BeginsBelowAll, AreAdjoining, LeadApart, starts, edge_holds, JustOne, SpanAll}
+use Rattle.pep508_view.specs.Reading.{BeginsBelowAll, AreAdjoining, LeadApart, starts, edge_holds, JustOne}
+use Rattle.pep508_view.specs.Reading.{SpanAll}
 
 -- ---- how edges lie
 

@@ -11,15 +11,15 @@ use Rattle.reqtable_requirements.specs.Asks.{asks_of}
 use Rattle.reqtable_requirements.specs.LineReading.{LineRecord}
 use Rattle.reqtable_requirements.specs.Requirements.{StandsFor}
 use Rattle.reqtable_requirements.specs.declared.requirements.Line.{Line}
-use Rattle.reqs.specs.Check.{any}
+use Rattle.reqs.specs.Check.{on_request}
 
 -- the text of rows that are the answer
 pub answer_is : {Y E : Type 0} (nodes : List NodeRecord) (environment : EnvironmentRecord) (extras : List (List ℕ)) (lines : List Line) (candidates : List Candidate)
     (rows : List RowRecord) (text : Result (String Y) E)
     → ((vars : Variables) (said : List LineRecord) → AllZip (StandsFor vars nodes) lines said
-    → IsAnswer any (asks_of (valuation_of environment extras) said) candidates rows)
+    → IsAnswer on_request (asks_of (valuation_of environment extras) said) candidates rows)
     → IfOk text (λ t. string_bytes t ≡ answer_text candidates rows)
     → IfOk text (λ t. (vars : Variables) (said : List LineRecord) → AllZip (StandsFor vars nodes) lines said
-    → IsAnswerText any (asks_of (valuation_of environment extras) said) candidates (string_bytes t))
+    → IsAnswerText on_request (asks_of (valuation_of environment extras) said) candidates (string_bytes t))
 answer_is nodes environment extras lines candidates rows (Ok text) is h = λ vars said stands. (rows, is vars said stands, h)
 answer_is nodes environment extras lines candidates rows (Err error) is h = tt

@@ -1,6 +1,7 @@
 -- What `check` does, from the bytes of its inputs to the bytes of its answer.
-use Rattle.std.specs.Prelude.{◌≡◌, ℕ, true, List, [], ◌∷◌, Option, Result, Ok, Err, String}
+use Rattle.std.specs.Prelude.{◌≡◌, ◌||◌, ℕ, not, List, [], ◌∷◌, Option, Result, Ok, Err, String}
 use Rattle.std.specs.String.{string_bytes}
+use Rattle.pep440_version.specs.Changes.{is_prerelease}
 use Rattle.pep508_url.specs.Vars.{Variables}
 use Rattle.pep508_environment.specs.Environment.{EnvironmentRecord}
 use Rattle.pep508_evaluation.specs.Valuations.{valuation_of}
@@ -15,9 +16,10 @@ use Rattle.reqs_ends.specs.Inputs.{environment_from}
 use Rattle.reqs_ends.specs.Ends.{of_input, Runs}
 use Rattle.reqs.specs.Texts.{ReadTexts, texts_of}
 
--- every candidate is admitted
-abbrev pub any : Admits
-any = λ version names_prerelease. true
+-- a pre-release or a developmental release is admitted where an applying line has a specifier with one, and
+-- any other version always
+abbrev pub on_request : Admits
+on_request = λ version names_prerelease. names_prerelease || not (is_prerelease version)
 
 -- what the texts of `check` are
 abbrev pub CheckTexts : Type 0
@@ -27,7 +29,7 @@ CheckTexts = Result (ReadTexts EnvironmentRecord) Cause
 pub record IsCheckText (texts : CheckTexts) (text : List ℕ) : Type 0 where
   pub read : ReadTexts EnvironmentRecord
   pub is_read : texts ≡ Ok read
-  pub is_text : IsAnswerText any (asks_of (valuation_of read.second read.extras) read.lines)
+  pub is_text : IsAnswerText on_request (asks_of (valuation_of read.second read.extras) read.lines)
       read.candidates text
 
 -- the text is the answer's; or the texts are refused for what the fault says

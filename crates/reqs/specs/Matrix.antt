@@ -24,7 +24,7 @@ use Rattle.reqs_ends.specs.declared.fault.Status.TheVariants.{Answered}
 use Rattle.reqs_ends.specs.Faults.{Cause, IsOfTexts, Refuses}
 use Rattle.reqs_ends.specs.Inputs.{environments_from}
 use Rattle.reqs_ends.specs.Ends.{of_input, Runs}
-use Rattle.reqs.specs.Check.{any}
+use Rattle.reqs.specs.Check.{on_request}
 use Rattle.reqs.specs.Texts.{ReadTexts, texts_of}
 
 -- ---- the text
@@ -57,7 +57,7 @@ MatrixTexts = Result (ReadTexts (List EnvironmentRecord)) Cause
 pub record IsWithinLimit (limit : ℕ) (read : ReadTexts (List EnvironmentRecord)) (text : List ℕ)
     : Type 0 where
   pub few : (name : List ℕ) → HasTooMany limit read.lines name → ⊥
-  pub is_text : IsMatrixText any read.extras read.lines read.candidates 1 read.second text
+  pub is_text : IsMatrixText on_request read.extras read.lines read.candidates 1 read.second text
 
 -- the fault names the first package that has more
 abbrev pub IsOverLimit : ℕ → List LineRecord → RunFault → Type 0

@@ -11,9 +11,10 @@ ghost use Rattle.reqtable_requirements.specs.Requirements.{StandsFor};
 ghost use Rattle.reqs_ends.specs.declared.fault.Input.TheVariants.{First, Second};
 ghost use Rattle.reqs_ends.specs.Faults.{IsPlain, IsOfTexts};
 ghost use Rattle.reqs_ends.specs.Inputs.{environment_from};
-ghost use Rattle.reqs.specs.Check.{any, AnswersText, RunsCheck};
+ghost use Rattle.reqs.specs.Check.{on_request, AnswersText, RunsCheck};
 ghost use Rattle.reqs.specs.Texts.{behind_lines, texts_of};
 
+use crate::admitting::is_admitted;
 use pep508_environment::MarkerEnvironment;
 use pep508_name::ExtraName;
 use pep508_tree::Interner;
@@ -31,7 +32,8 @@ use std::io::{Read, Write};
 /// Reads a list of requirements, an environment and a list of candidates, and writes for each
 /// package that a line which applies asks for, with the extras that these lines ask for, the greatest
 /// candidate that all of them take, the first among equals, or `none`; or `direct` where one of them has
-/// a URL. Rows stand in the order of the names' bytes.
+/// a URL. A pre-release or a developmental release is a candidate only where a specifier of the package's
+/// lines that apply names one. Rows stand in the order of the names' bytes.
 ///
 /// All inputs are read whole, in this order; then the extras are read as names, and then each
 /// input as what it is. The answer is made whole before the first write, by one call of
@@ -133,10 +135,10 @@ fn answer_text(
     requires { AreOfNodes interner.now.nodes requirements.now }
     ensures { IfOk result (λ text. (vars : Variables) (said : List LineRecord) →
         AllZip (StandsFor vars interner.now.nodes) requirements.now said →
-        IsAnswerText any (asks_of (valuation_of environment.now extras.now) said) candidates.now
+        IsAnswerText on_request (asks_of (valuation_of environment.now extras.now) said) candidates.now
         (string_bytes text)) }
 {
-    let admission = Admission::new(|_, _| true);
+    let admission = Admission::new(|version, named| is_admitted(version, named));
     let answer = requirements.judge(alloc, interner, environment, extras, candidates, &admission)?;
     answer.text(alloc, candidates)
 }

@@ -8,14 +8,14 @@ ghost use Rattle.reqtable_answer.specs.Answer.{IsAnswerText};
 ghost use Rattle.reqtable_requirements.specs.Asks.{asks_of};
 ghost use Rattle.reqtable_requirements.specs.LineReading.{LineRecord};
 ghost use Rattle.reqtable_text.specs.declared.candidates.Candidate.{Candidate};
-ghost use Rattle.reqs.specs.Check.{any};
+ghost use Rattle.reqs.specs.Check.{on_request};
 ghost use Rattle.reqs.specs.Matrix.{IsMatrixText, numbered};
 
 /// What `matrix` writes is what `check` writes for one environment after another, each behind its line.
 pub fn matrix_writes_what_check_writes()
     ensures { (extras : List (List ℕ)) (lines : List LineRecord) (candidates : List Candidate)
         (environments : List EnvironmentRecord) (answers : List (List ℕ)) (text : List ℕ) → AllZip
-        (λ e answer. IsAnswerText any (asks_of (valuation_of e extras) lines) candidates answer)
+        (λ e answer. IsAnswerText on_request (asks_of (valuation_of e extras) lines) candidates answer)
         environments answers →
-        IsMatrixText any extras lines candidates 1 environments text → text ≡ numbered 1 answers }
+        IsMatrixText on_request extras lines candidates 1 environments text → text ≡ numbered 1 answers }
 {}

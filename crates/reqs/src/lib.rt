@@ -2,6 +2,7 @@
 //! lists alone are of `reqs_lists`.
 #![tactic(auto)]
 
+mod admitting;
 mod checks;
 pub mod laws;
 mod matrices;

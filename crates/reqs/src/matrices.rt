@@ -16,11 +16,12 @@ ghost use Rattle.reqtable_table.specs.Runs.{AreRunsOf, AreTold};
 ghost use Rattle.reqs_ends.specs.declared.fault.Input.TheVariants.{First, Second};
 ghost use Rattle.reqs_ends.specs.Faults.{IsPlain, IsOfTexts};
 ghost use Rattle.reqs_ends.specs.Inputs.{environments_from};
-ghost use Rattle.reqs.specs.Check.{any};
+ghost use Rattle.reqs.specs.Check.{on_request};
 ghost use Rattle.reqs.specs.Matrix.{environment_line, IsMatrixText, AreRead, AnswersAll, TablesAs};
 ghost use Rattle.reqs.specs.Matrix.{RunsMatrix};
 ghost use Rattle.reqs.specs.Texts.{behind_lines, texts_of};
 
+use crate::admitting::is_admitted;
 use pep440_version::Version;
 use pep508_environment::MarkerEnvironment;
 use pep508_name::ExtraName;
@@ -169,11 +170,11 @@ fn answers_text(
 ) -> Result<String, AllocError>
     requires { AllByRecursion (HasItsCases interner.now.nodes) table.old }
     ensures { IfOk result (λ text. (said : List LineRecord) → KeepsAll interner.now.nodes table.old said →
-        IsMatrixText any extras.now said candidates.now 1 environments.now (string_bytes text)) }
+        IsMatrixText on_request extras.now said candidates.now 1 environments.now (string_bytes text)) }
 {
     let ordered = candidates.in_order(alloc)?;
     let mut runs = table.runs(alloc, &ordered)?;
-    let admission = Admission::new(|_, _| true);
+    let admission = Admission::new(|version, named| is_admitted(version, named));
     answers_among(
         alloc,
         table,
@@ -199,12 +200,12 @@ fn answers_among<F: Fn(&Version, bool) -> bool>(
 ) -> Result<String, AllocError>
     requires cases { AllByRecursion (HasItsCases interner.now.nodes) table.old }
     requires callable { F.IsAlwaysCallable admission.now }
-    requires admits { AnswersBy (F.post admission.now) any }
+    requires admits { AnswersBy (F.post admission.now) on_request }
     requires runs { AreRunsOf table.old runs.old }
     requires told { AreTold (F.post admission.now) table.old runs.old }
     requires candidates { runs.old.candidates ≡ candidates.now }
     ensures { IfOk result (λ text. (said : List LineRecord) → KeepsAll interner.now.nodes table.old said →
-        IsMatrixText any extras.now said candidates.now 1 environments.now (string_bytes text)) }
+        IsMatrixText on_request extras.now said candidates.now 1 environments.now (string_bytes text)) }
 {
     let mut text = String::new(alloc);
     for (place, environment) in environments.iter().enumerate() {

@@ -143,7 +143,9 @@ fn same_command<'a>(alloc: Global) -> Result<Command<'a>, AllocError> {
 
 fn conflicts_command<'a>(alloc: Global) -> Result<Command<'a>, AllocError> {
     Command::new(alloc, "conflicts")
-        .about("Prints each package with the numbers of its lines that contradict each other")
+        .about(
+            "Prints each package with its lines that contradict each other, and pre where one names a pre-release",
+        )
         .arg(limit_argument(alloc))?
         .arg(list_argument(alloc))
 }
@@ -182,7 +184,9 @@ fn with_inputs<'a>(
         )
         .required(true);
     let candidates = Arg::new(alloc, "CANDIDATES")
-        .help("The candidates, a name and a version a line, a file")
+        .help(
+            "The candidates, a name and a version a line, a file; pre-releases are taken where a line names one",
+        )
         .required(true);
     let extras = Arg::new(alloc, "EXTRA")
         .help("The extras that are asked for")

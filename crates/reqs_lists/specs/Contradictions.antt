@@ -1,5 +1,5 @@
 -- What `conflicts` does, from the bytes of a list to those of its conflicts.
-use Rattle.std.specs.Prelude.{◌≡◌, ℕ, List, [], ◌∷◌, ◌++◌, map, codes, Option, Result, Ok}
+use Rattle.std.specs.Prelude.{◌≡◌, ℕ, Bool, true, false, List, [], ◌∷◌, ◌++◌, map, codes, Option, Result, Ok}
 use Rattle.std.specs.List.{flat_map, join_with_byte}
 use Rattle.std.specs.Fmt.{decimal}
 use Rattle.pep508_url.specs.Vars.{Variables}
@@ -16,10 +16,16 @@ use Rattle.reqs_lists.specs.Lists.{IsOfLists, one_list, IsRead, RefusesLists}
 
 -- ---- the text
 
+-- behind the lines of a conflict, where some specifier of them has a pre-release
+abbrev pub prerelease_text : Bool → List ℕ
+prerelease_text true = codes " pre"
+prerelease_text false = []
+
 -- the package of a conflict, and the numbers of its lines with commas between them
 abbrev pub conflict_text : ConflictRecord → List ℕ
 conflict_text found =
-    found.name ++ (codes " " ++ (join_with_byte 44 (map decimal found.numbers) ++ codes "\n"))
+    found.name ++ (codes " " ++ (join_with_byte 44 (map decimal found.numbers)
+    ++ (prerelease_text found.prerelease ++ codes "\n")))
 
 abbrev pub conflicts_text : List ConflictRecord → List ℕ
 conflicts_text found = flat_map conflict_text found

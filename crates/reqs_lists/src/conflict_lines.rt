@@ -4,7 +4,7 @@ ghost use Rattle.std.specs.Prelude.{◌≡◌, ◌∷◌, ◌++◌, map, IfOk, O
 ghost use Rattle.std.specs.List.{flat_map, join_with_byte};
 ghost use Rattle.std.specs.Fmt.{decimal};
 ghost use Rattle.reqtable_conflicts.specs.Contradictions.{conflict_record};
-ghost use Rattle.reqs_lists.specs.Contradictions.{conflict_text, conflicts_text};
+ghost use Rattle.reqs_lists.specs.Contradictions.{conflict_text, conflicts_text, prerelease_text};
 
 use reqtable_conflicts::Conflict;
 use std::alloc::{AllocError, Global};
@@ -30,7 +30,16 @@ fn push_conflict(text: &mut String, conflict: &Conflict) -> Result<(), AllocErro
     text.push_str(conflict.package.as_str())?;
     text.push(' ')?;
     push_numbers(text, &conflict.lines)?;
+    text.push_str(prerelease_text(conflict.pre))?;
     text.push('\n')
+}
+
+/// What stands behind the numbers of a conflict's lines, where one of them names a pre-release and where none
+/// does.
+fn prerelease_text(names_prerelease: bool) -> &'static str
+    ensures { result.now ≡ prerelease_text names_prerelease }
+{
+    if names_prerelease { " pre" } else { "" }
 }
 
 /// Adds numbers with commas between them.

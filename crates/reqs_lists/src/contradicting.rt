@@ -22,7 +22,8 @@ use std::alloc::Global;
 use std::io::{Read, Write};
 
 /// Reads a list of requirements, and writes a line for each case of a package in which its lines contradict
-/// each other: the package, and the numbers of the lines that apply then, as `name 1,3`.
+/// each other: the package, and the numbers of the lines that apply then, as `name 1,3`; behind them ` pre`
+/// where a specifier of these lines names a pre-release, so that pre-releases would be candidates.
 ///
 /// Lines stand in the order of the packages' names, and those of a package in the order of its cases, by
 /// `reqtable_conflicts::conflicts`. A package that has more cases than the limit is refused: the first by

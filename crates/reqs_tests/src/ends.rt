@@ -7,21 +7,25 @@ use std::alloc::{AllocError, Global};
 use std::io::{self, ErrorKind, Read, Write};
 use std::test::Fail;
 
-/// Gives one byte an ask, each behind an interruption, and fails at its end where it is told to.
+/// Gives one byte an ask, each behind so many interruptions, of which so many are left, and fails at its end
+/// where it is told to. It counts how often it was asked.
 #[derive(Drop)]
 struct Hesitant<'a> {
     rest: &'a [u8],
-    ready: bool,
+    pause: u64,
+    left: u64,
+    asked: u64,
     fails: bool,
 }
 
 impl Read for Hesitant<'_> {
     fn read(&mut self, buf: &mut [u8]) -> io::Result<usize> {
-        if !self.ready {
-            self.ready = true;
+        self.asked = self.asked.saturating_add(1);
+        if self.left > 0 {
+            self.left -= 1;
             return Err(io::Error::from(ErrorKind::Interrupted));
         }
-        self.ready = false;
+        self.left = self.pause;
         match self.rest.split_first() {
             Some((first, rest)) => {
                 if buf.is_empty() {
@@ -47,89 +51,70 @@ impl Read for Endless {
     }
 }
 
-/// Takes one byte a write, as many as it has room for, and is interrupted before each.
-#[derive(Drop)]
-struct Narrow {
-    taken: Vec<u8>,
-    room: usize,
-    ready: bool,
+/// What a writer bears: so many writes, so many bytes at a write, and so many interruptions before each, of
+/// which so many are left before the first.
+type Width = (usize, usize, u32, u32);
+
+/// Takes all at once.
+const WIDE: Width = (usize::MAX, usize::MAX, 0, 0);
+
+/// Takes nothing.
+const CLOSED: Width = (usize::MAX, 0, 0, 0);
+
+/// Takes one byte a write, so many in all, and is interrupted before each.
+const fn narrow(room: usize) -> Width {
+    (room, 1, 1, 1)
 }
 
-impl Write for Narrow {
+/// Is interrupted so often, and then takes all.
+const fn busy(interruptions: u32) -> Width {
+    (usize::MAX, usize::MAX, 0, interruptions)
+}
+
+/// A writer that keeps what it takes.
+#[derive(Drop)]
+struct Outlet {
+    taken: Vec<u8>,
+    room: usize,
+    step: usize,
+    pause: u32,
+    left: u32,
+}
+
+impl Outlet {
+    fn new(alloc: Global, (room, step, pause, left): Width) -> Outlet {
+        Outlet {
+            taken: Vec::new(alloc),
+            room,
+            step,
+            pause,
+            left,
+        }
+    }
+}
+
+impl Write for Outlet {
     fn write(&mut self, buf: &[u8]) -> io::Result<usize> {
-        if !self.ready {
-            self.ready = true;
+        if self.left > 0 {
+            self.left -= 1;
             return Err(io::Error::from(ErrorKind::Interrupted));
         }
-        self.ready = false;
+        self.left = self.pause;
         if self.room == 0 {
             return Err(io::Error::from(ErrorKind::Other));
         }
         self.room -= 1;
-        match buf.first() {
-            Some(byte) => {
-                self.taken.push(*byte)?;
-                Ok(1)
-            }
-            None => Ok(0),
-        }
+        let front = if self.step < buf.len() {
+            &buf[..self.step]
+        } else {
+            buf
+        };
+        self.taken.extend_from_slice(front)?;
+        Ok(front.len())
     }
 
     fn flush(&mut self) -> io::Result<()> {
         Ok(())
-    }
-}
-
-/// Takes nothing.
-#[derive(Drop)]
-struct Closed;
-
-impl Write for Closed {
-    fn write(&mut self, _buf: &[u8]) -> io::Result<usize> {
-        Ok(0)
-    }
-
-    fn flush(&mut self) -> io::Result<()> {
-        Ok(())
-    }
-}
-
-/// Is interrupted so often, and then takes all.
-#[derive(Drop)]
-struct Busy {
-    interruptions: u32,
-    taken: Vec<u8>,
-}
-
-impl Write for Busy {
-    fn write(&mut self, buf: &[u8]) -> io::Result<usize> {
-        if self.interruptions > 0 {
-            self.interruptions -= 1;
-            return Err(io::Error::from(ErrorKind::Interrupted));
-        }
-        self.taken.extend_from_slice(buf)?;
-        Ok(buf.len())
-    }
-
-    fn flush(&mut self) -> io::Result<()> {
-        Ok(())
-    }
-}
-
-/// Is interrupted until it ends at the ask of this number, and counts how often it was asked.
-#[derive(Drop)]
-struct Interrupted {
-    asked: u64,
-    last: u64,
-}
-
-impl Read for Interrupted {
-    fn read(&mut self, _buf: &mut [u8]) -> io::Result<usize> {
-        self.asked = self.asked.saturating_add(1);
-        if self.asked == self.last {
-            return Ok(0);
-        }
-        Err(io::Error::from(ErrorKind::Interrupted))
     }
 }
 
@@ -168,23 +153,6 @@ fn told(
     }
 }
 
-/// Runs `check` on the texts above with this writer.
-fn write_to<W: Write>(alloc: Global, output: &mut W) -> Result<Status, RunFault> {
-    let mut requirements = REQUIREMENTS;
-    let mut environment = ENVIRONMENT.as_bytes();
-    let mut candidates = CANDIDATES;
-    let vars = Vars::new(alloc, &[], "/")?;
-    check(
-        alloc,
-        &mut requirements,
-        &mut environment,
-        &mut candidates,
-        &[],
-        &vars,
-        output,
-    )
-}
-
 /// Runs `check` with this reader of requirements.
 fn read_from<R: Read>(alloc: Global, requirements: &mut R) -> Result<String, AllocError> {
     let mut output = Vec::new(alloc);
@@ -206,40 +174,118 @@ fn read_from<R: Read>(alloc: Global, requirements: &mut R) -> Result<String, All
 fn hesitantly(rest: &[u8], fails: bool) -> Hesitant<'_> {
     Hesitant {
         rest,
-        ready: false,
+        pause: 1,
+        left: 1,
+        asked: 0,
         fails,
     }
 }
 
-/// Runs `check` with a reader in the place of each input, of which the one of this number fails at its end.
-fn with_failing(alloc: Global, failing: usize) -> Result<String, AllocError> {
-    let mut output = Vec::new(alloc);
+/// Runs `matrix`, or else `check`, with a reader in the place of each input, of which the one of this number
+/// fails at its end.
+fn run(
+    alloc: Global,
+    is_matrix: bool,
+    failing: usize,
+    environments: &[u8],
+    output: &mut Outlet,
+) -> Result<Status, RunFault> {
     let mut requirements = hesitantly(REQUIREMENTS, failing == 1);
-    let mut environment = hesitantly(ENVIRONMENT.as_bytes(), failing == 2);
+    let mut environments = hesitantly(environments, failing == 2);
     let mut candidates = hesitantly(CANDIDATES, failing == 3);
     let vars = Vars::new(alloc, &[], "/")?;
-    let result = check(
-        alloc,
-        &mut requirements,
-        &mut environment,
-        &mut candidates,
-        &[],
-        &vars,
-        &mut output,
-    );
-    told(alloc, &output, result)
+    let (requirements, environments) = (&mut requirements, &mut environments);
+    if is_matrix {
+        let (candidates, limit) = (&mut candidates, 4096);
+        matrix(
+            alloc,
+            requirements,
+            environments,
+            candidates,
+            &[],
+            &vars,
+            limit,
+            output,
+        )
+    } else {
+        check(
+            alloc,
+            requirements,
+            environments,
+            &mut candidates,
+            &[],
+            &vars,
+            output,
+        )
+    }
 }
 
-// A reader that is interrupted is asked again, and the one that failed is named.
+/// What a writer took of the command's answer, how the command ended, and how many interruptions were left.
+fn run_told(
+    alloc: Global,
+    is_matrix: bool,
+    failing: usize,
+    environments: &[u8],
+    output: &mut Outlet,
+) -> Result<String, AllocError> {
+    let ended = run(alloc, is_matrix, failing, environments, output);
+    let text = told(alloc, &output.taken, ended)?;
+    let left = output.left;
+    format!(in alloc; "{text}, {left} left")
+}
+
+/// `check` with these ends.
+fn checked(alloc: Global, failing: usize, width: Width) -> Result<String, AllocError> {
+    let mut output = Outlet::new(alloc, width);
+    run_told(alloc, false, failing, ENVIRONMENT.as_bytes(), &mut output)
+}
+
+// A reader that is interrupted is asked again, and the one that failed is named. A writer takes all of the
+// answer, or a front of it where it fails, and may be interrupted 1024 times in a row.
 #[test]
-fn names_the_reader_that_failed(rt: HostRuntime) -> Result<(), Fail> {
-    for (failing, wanted) in [
-        (0, "bar none\nfoo 1.5\nstatus 0"),
-        (1, "status 3, REQS: read fault"),
-        (2, "status 3, ENV: read fault"),
-        (3, "status 3, CANDIDATES: read fault"),
+fn tells_how_check_ends(rt: HostRuntime) -> Result<(), Fail> {
+    for (failing, width, wanted) in [
+        (0, WIDE, "bar none\nfoo 1.5\nstatus 0, 0 left"),
+        (1, WIDE, "status 3, REQS: read fault, 0 left"),
+        (2, WIDE, "status 3, ENV: read fault, 0 left"),
+        (3, WIDE, "status 3, CANDIDATES: read fault, 0 left"),
+        (
+            0,
+            narrow(ANSWER.len()),
+            "bar none\nfoo 1.5\nstatus 0, 1 left",
+        ),
+        (0, narrow(3), "barstatus 3, write fault, 1 left"),
+        (0, busy(1024), "bar none\nfoo 1.5\nstatus 0, 0 left"),
+        (0, busy(1025), "status 3, write fault, 0 left"),
+        (0, CLOSED, "status 3, write fault, 0 left"),
     ] {
-        assert_eq!(rt; with_failing(rt.alloc(), failing)?.as_str(), wanted);
+        assert_eq!(rt; checked(rt.alloc(), failing, width)?.as_str(), wanted);
+    }
+    Ok(())
+}
+
+/// `matrix` with these ends, on the environment above twice.
+fn matrix_told(alloc: Global, failing: usize, room: usize) -> Result<String, AllocError> {
+    let environments = format!(in alloc; "[{ENVIRONMENT}, {ENVIRONMENT}]")?;
+    let mut output = Outlet::new(alloc, narrow(room));
+    run_told(alloc, true, failing, environments.as_bytes(), &mut output)
+}
+
+// Each reader and the writer, with all of the answers or a front of them.
+#[test]
+fn tells_how_matrix_ends(rt: HostRuntime) -> Result<(), Fail> {
+    for (failing, room, wanted) in [
+        (
+            0,
+            ANSWERS.len(),
+            "env 1\nbar none\nfoo 1.5\nenv 2\nbar none\nfoo 1.5\nstatus 0, 1 left",
+        ),
+        (0, 8, "env 1\nbastatus 3, write fault, 1 left"),
+        (1, 8, "status 3, REQS: read fault, 1 left"),
+        (2, 8, "status 3, ENV: read fault, 1 left"),
+        (3, 8, "status 3, CANDIDATES: read fault, 1 left"),
+    ] {
+        assert_eq!(rt; matrix_told(rt.alloc(), failing, room)?.as_str(), wanted);
     }
     Ok(())
 }
@@ -253,69 +299,9 @@ fn refuses_an_input_that_never_ends(rt: HostRuntime) -> Result<(), Fail> {
     Ok(())
 }
 
-/// What a narrow writer with room for so many bytes took, and how `check` ended.
-fn to_narrow(alloc: Global, room: usize) -> Result<String, AllocError> {
-    let mut output = Narrow {
-        taken: Vec::new(alloc),
-        room,
-        ready: false,
-    };
-    let result = write_to(alloc, &mut output);
-    told(alloc, &output.taken, result)
-}
-
-// All of the answer, or a front of it where the writer fails.
-#[test]
-fn writes_to_a_narrow_writer(rt: HostRuntime) -> Result<(), Fail> {
-    for (room, wanted) in [
-        (ANSWER.len(), "bar none\nfoo 1.5\nstatus 0"),
-        (3, "barstatus 3, write fault"),
-    ] {
-        assert_eq!(rt; to_narrow(rt.alloc(), room)?.as_str(), wanted);
-    }
-    Ok(())
-}
-
-/// What a writer took that is interrupted so often, how `check` ended, and how many interruptions were left.
-fn to_busy(alloc: Global, interruptions: u32) -> Result<String, AllocError> {
-    let mut output = Busy {
-        interruptions,
-        taken: Vec::new(alloc),
-    };
-    let result = write_to(alloc, &mut output);
-    let text = told(alloc, &output.taken, result)?;
-    let left = output.interruptions;
-    format!(in alloc; "{text}, {left} left")
-}
-
-#[test]
-fn bears_with_1024_interruptions_in_a_row(rt: HostRuntime) -> Result<(), Fail> {
-    for (interruptions, wanted) in [
-        (1024, "bar none\nfoo 1.5\nstatus 0, 0 left"),
-        (1025, "status 3, write fault, 0 left"),
-    ] {
-        assert_eq!(rt; to_busy(rt.alloc(), interruptions)?.as_str(), wanted);
-    }
-    Ok(())
-}
-
-#[test]
-fn gives_up_on_a_writer_that_takes_nothing(rt: HostRuntime) -> Result<(), Fail> {
-    let ended = write_to(rt.alloc(), &mut Closed);
-    assert_eq!(rt;
-        told(rt.alloc(), b"", ended)?.as_str(),
-        "status 3, write fault"
-    );
-    Ok(())
-}
-
 #[test]
 fn writes_each_piece_behind_interruptions(rt: HostRuntime) -> Result<(), Fail> {
-    let mut output = Narrow {
-        taken: Vec::new(rt.alloc()),
-        room: 2000,
-        ready: false,
-    };
+    let mut output = Outlet::new(rt.alloc(), narrow(2000));
     let text = [7u8; 2000];
     assert_eq!(rt; write_whole(&mut output, &text), Ok(()));
     assert_eq!(rt; output.taken.len(), 2000);
@@ -323,21 +309,24 @@ fn writes_each_piece_behind_interruptions(rt: HostRuntime) -> Result<(), Fail> {
     Ok(())
 }
 
-#[test]
-fn asks_a_reader_up_to_its_limit(rt: HostRuntime) -> Result<(), Fail> {
-    assert_eq!(rt; ASK_LIMIT, 33_554_432);
-    let mut reader = Interrupted {
+/// Is interrupted so often, and ends.
+fn interrupted(left: u64) -> Hesitant<'static> {
+    Hesitant {
+        rest: b"",
+        pause: 0,
+        left,
         asked: 0,
-        last: 100_000,
-    };
-    assert_eq!(rt; read_from(rt.alloc(), &mut reader)?.as_str(), "status 0");
-    assert_eq!(rt; reader.asked, 100_000);
-    Ok(())
+        fails: false,
+    }
 }
 
 #[test]
-fn gives_up_after_its_asks(rt: HostRuntime) -> Result<(), Fail> {
-    let mut reader = Interrupted { asked: 0, last: 0 };
+fn asks_a_reader_up_to_its_limit(rt: HostRuntime) -> Result<(), Fail> {
+    assert_eq!(rt; ASK_LIMIT, 33_554_432);
+    let mut reader = interrupted(99_999);
+    assert_eq!(rt; read_from(rt.alloc(), &mut reader)?.as_str(), "status 0");
+    assert_eq!(rt; reader.asked, 100_000);
+    let mut reader = interrupted(u64::MAX);
     let read = read_whole(rt.alloc(), &mut reader, 10, 1000);
     assert_eq!(rt; read.err(), Some(ReadFault::Read));
     assert_eq!(rt; reader.asked, 1000);
@@ -353,55 +342,5 @@ fn reads_up_to_its_limit(rt: HostRuntime) -> Result<(), Fail> {
     let mut reader = text.as_slice();
     let read = read_whole(rt.alloc(), &mut reader, text.len() - 1, 2);
     assert_eq!(rt; read.err(), Some(ReadFault::TooLong));
-    Ok(())
-}
-
-/// The environment above twice, as a list.
-fn environments(alloc: Global) -> Result<String, AllocError> {
-    format!(in alloc; "[{ENVIRONMENT}, {ENVIRONMENT}]")
-}
-
-/// Runs `matrix` with a reader in the place of each input, of which the one of this number fails at its end,
-/// and with a narrow writer with room for so many bytes.
-fn matrix_with(alloc: Global, failing: usize, room: usize) -> Result<String, AllocError> {
-    let environments = environments(alloc)?;
-    let mut requirements = hesitantly(REQUIREMENTS, failing == 1);
-    let mut environments = hesitantly(environments.as_bytes(), failing == 2);
-    let mut candidates = hesitantly(CANDIDATES, failing == 3);
-    let mut output = Narrow {
-        taken: Vec::new(alloc),
-        room,
-        ready: false,
-    };
-    let vars = Vars::new(alloc, &[], "/")?;
-    let result = matrix(
-        alloc,
-        &mut requirements,
-        &mut environments,
-        &mut candidates,
-        &[],
-        &vars,
-        4096,
-        &mut output,
-    );
-    told(alloc, &output.taken, result)
-}
-
-// Each reader and the writer, with all of the answers or a front of them.
-#[test]
-fn tells_what_failed_for_matrix(rt: HostRuntime) -> Result<(), Fail> {
-    for (failing, room, wanted) in [
-        (
-            0,
-            ANSWERS.len(),
-            "env 1\nbar none\nfoo 1.5\nenv 2\nbar none\nfoo 1.5\nstatus 0",
-        ),
-        (0, 8, "env 1\nbastatus 3, write fault"),
-        (1, 8, "status 3, REQS: read fault"),
-        (2, 8, "status 3, ENV: read fault"),
-        (3, 8, "status 3, CANDIDATES: read fault"),
-    ] {
-        assert_eq!(rt; matrix_with(rt.alloc(), failing, room)?.as_str(), wanted);
-    }
     Ok(())
 }

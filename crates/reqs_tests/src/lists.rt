@@ -1,3 +1,8 @@
+//! Lists of requirements and of candidates as they are read, and the answer to them.
+
+ghost use Rattle.std.specs.Prelude.{All, IfOk, length};
+ghost use Rattle.reqtable_answer.specs.Rows.{IsTakenBelow};
+
 use pep440_version::Version;
 use pep508_tree::Interner;
 use pep508_url::Vars;
@@ -5,44 +10,53 @@ use reqtable_answer::{Admission, Answer, answer_to, ask_of};
 use reqtable_requirements::{Line, Requirements, RequirementsError};
 use reqtable_text::{CandidateFault, Candidates, CandidatesError};
 use std::alloc::{AllocError, Global};
-use std::fmt;
+use std::fmt::Write;
 use std::test::Fail;
 
 /// A line as `2 foo[a]>=1.0`, with `; ..` behind it where it has a marker that may fail.
-fn shown(alloc: Global, line: &Line) -> Result<String, fmt::Error> {
+fn push_line(text: &mut String, line: &Line) -> Result<(), AllocError> {
     let requirement = &line.requirement;
-    let mut text = format!(in alloc; "{} {}", line.number, requirement.name)?;
+    write!(text, "{} {}", line.number, requirement.name)?;
     for extra in &requirement.extras {
         write!(text, "[{extra}]")?;
     }
     if let Some(wanted) = &requirement.version_or_url {
         write!(text, "{wanted}")?;
     }
-    if !requirement.marker.is_true() {
-        text.push_str(" ; ..")?;
-    }
-    Ok(text)
+    text.push_str(if requirement.marker.is_true() {
+        "\n"
+    } else {
+        " ; ..\n"
+    })
 }
 
-/// The lines of a text as they are shown, or what is wrong with it.
-fn read(alloc: Global, text: &str) -> Result<String, fmt::Error> {
+fn push_lines(text: &mut String, read: Requirements) -> Result<(), AllocError> {
+    for line in read.into_lines() {
+        push_line(text, &line)?;
+    }
+    Ok(())
+}
+
+/// The lines of a list as they are shown, or what is wrong with it.
+fn push_read(
+    text: &mut String,
+    read: Result<Requirements, RequirementsError>,
+) -> Result<(), AllocError> {
+    match read {
+        Ok(read) => push_lines(text, read),
+        Err(RequirementsError::Line { number, error }) => write!(text, "{number}: {error}"),
+        Err(error) => write!(text, "{error:?}"),
+    }
+}
+
+fn read(alloc: Global, lines: &str) -> Result<String, AllocError> {
     let vars = Vars::new(alloc, &[], "/w")?;
     let mut interner = Interner::new(alloc);
-    match Requirements::parse(alloc, text.as_bytes(), &mut interner, &vars) {
-        Ok(read) => shown_lines(alloc, read),
-        Err(RequirementsError::Line { number, error }) => {
-            Ok(format!(in alloc; "{number}: {error}")?)
-        }
-        Err(error) => Ok(format!(in alloc; "{error:?}")?),
-    }
-}
-
-fn shown_lines(alloc: Global, read: Requirements) -> Result<String, fmt::Error> {
     let mut text = String::new(alloc);
-    for line in read.into_lines() {
-        text.push_str(shown(alloc, &line)?.as_str())?;
-        text.push('\n')?;
-    }
+    push_read(
+        &mut text,
+        Requirements::parse(alloc, lines.as_bytes(), &mut interner, &vars),
+    )?;
     Ok(text)
 }
 
@@ -65,25 +79,41 @@ fn reads_requirement_lines(rt: HostRuntime) -> Result<(), Fail> {
     Ok(())
 }
 
-/// The answer to all lines of a text, where only a line that names a pre-release admits versions.
-fn answered(alloc: Global, lines: &str, candidates: &str) -> Result<String, fmt::Error> {
+/// The lists of two texts. A text that is refused is told as want of memory, which no test has.
+pub fn lists_of(
+    alloc: Global,
+    lines: &str,
+    candidates: &str,
+) -> Result<(Requirements, Candidates), AllocError> {
     let vars = Vars::new(alloc, &[], "/w")?;
     let mut interner = Interner::new(alloc);
-    let read = Requirements::parse(alloc, lines.as_bytes(), &mut interner, &vars);
-    match (read, Candidates::parse(alloc, candidates.as_bytes())) {
-        (Ok(read), Ok(candidates)) => Ok(rows(alloc, &read, &candidates)?),
-        _ => Ok(String::from_str(alloc, "refused")?),
+    let candidates = Candidates::parse(alloc, candidates.as_bytes()).or(Err(AllocError))?;
+    match Requirements::parse(alloc, lines.as_bytes(), &mut interner, &vars) {
+        Ok(read) => Ok((read, candidates)),
+        Err(_) => Err(AllocError),
     }
 }
 
-fn rows(alloc: Global, read: &Requirements, candidates: &Candidates) -> Result<String, AllocError> {
+/// The answer to all lines of a list, where only a line that names a pre-release admits versions.
+pub fn answer_of(
+    alloc: Global,
+    read: &Requirements,
+    candidates: &Candidates,
+) -> Result<Answer, AllocError>
+    ensures { IfOk result (λ answer.
+        All (λ row. IsTakenBelow (length candidates.now) row.outcome) answer.rows.items) }
+{
     let admission = Admission::new(|_: &Version, names_prerelease: bool| names_prerelease);
     let mut asks = Vec::new(alloc);
     for line in read.lines() {
         asks.push(ask_of(&line.requirement))?;
     }
-    let answer: Answer = answer_to(alloc, &asks, candidates, &admission)?;
-    answer.text(alloc, candidates)
+    answer_to(alloc, &asks, candidates, &admission)
+}
+
+fn answered(alloc: Global, lines: &str, candidates: &str) -> Result<String, AllocError> {
+    let (read, candidates) = lists_of(alloc, lines, candidates)?;
+    answer_of(alloc, &read, &candidates)?.text(alloc, &candidates)
 }
 
 #[test]
@@ -103,29 +133,34 @@ fn admits_as_its_closure_says(rt: HostRuntime) -> Result<(), Fail> {
     Ok(())
 }
 
-#[test]
-fn reads_candidates(rt: HostRuntime) -> Result<(), Fail> {
-    let alloc = rt.alloc();
-    let text = "Foo.Bar\u{3000} 1.2.0 # best\n#foo 1\n\t foo \t 2\t\r\nfoo 1\r";
-    let read = Candidates::parse(alloc, text.as_bytes()).expect(&rt, "a candidate list");
-    let want = ["foo-bar 1.2.0", "foo 2", "foo 1"];
-    assert_eq!(rt; read.items().len(), want.len());
-    for (candidate, want) in read.items().iter().zip(want) {
-        let text = format!(in alloc; "{} {}", candidate.name, candidate.version)?;
-        assert_eq!(rt; text.as_str(), want);
+fn push_candidates(text: &mut String, read: &Candidates) -> Result<(), AllocError> {
+    for candidate in read.items() {
+        writeln!(text, "{} {}", candidate.name, candidate.version)?;
     }
     Ok(())
 }
 
+/// The candidates of a list, each in a line.
+fn candidates_read(alloc: Global, lines: &str) -> Result<String, AllocError> {
+    let read = Candidates::parse(alloc, lines.as_bytes()).or(Err(AllocError))?;
+    let mut text = String::new(alloc);
+    push_candidates(&mut text, &read)?;
+    Ok(text)
+}
+
 #[test]
-fn reads_candidates_by_the_whole_grammar(rt: HostRuntime) -> Result<(), Fail> {
-    let alloc = rt.alloc();
-    let text = "foo v1.0-ALPHA\nfoo 1.0.post1\nfoo 1!2.0-1.DEV3+Ubuntu-1\n";
-    let read = Candidates::parse(alloc, text.as_bytes()).expect(&rt, "a candidate list");
-    let want = ["1.0a0", "1.0.post1", "1!2.0.post1.dev3+ubuntu.1"];
-    assert_eq!(rt; read.items().len(), want.len());
-    for (candidate, want) in read.items().iter().zip(want) {
-        assert_eq!(rt; candidate.version.to_string(alloc)?.as_str(), want);
+fn reads_candidates(rt: HostRuntime) -> Result<(), Fail> {
+    for (lines, wanted) in [
+        (
+            "Foo.Bar\u{3000} 1.2.0 # best\n#foo 1\n\t foo \t 2\t\r\nfoo 1\r",
+            "foo-bar 1.2.0\nfoo 2\nfoo 1\n",
+        ),
+        (
+            "foo v1.0-ALPHA\nfoo 1.0.post1\nfoo 1!2.0-1.DEV3+Ubuntu-1\n",
+            "foo 1.0a0\nfoo 1.0.post1\nfoo 1!2.0.post1.dev3+ubuntu.1\n",
+        ),
+    ] {
+        assert_eq!(rt; candidates_read(rt.alloc(), lines)?.as_str(), wanted);
     }
     Ok(())
 }

@@ -1,3 +1,8 @@
+//! Tables, and candidates in their order.
+
+ghost use Rattle.std.specs.List.{AllByRecursion};
+ghost use Rattle.reqtable_table.specs.Cases.{HasItsCases};
+
 use pep440_version::Version;
 use pep508_environment::{MarkerEnvironment, MarkerEnvironmentBuilder};
 use pep508_name::PackageName;
@@ -5,14 +10,14 @@ use pep508_tree::Interner;
 use pep508_url::Vars;
 use reqtable_answer::Admission;
 use reqtable_requirements::Requirements;
-use reqtable_table::{Table, TableError};
+use reqtable_table::{Case, Table, TableError};
 use reqtable_text::{Candidates, Ordered, Placed};
 use std::alloc::{AllocError, Global};
-use std::fmt;
+use std::fmt::Write;
 use std::test::Fail;
 
 /// CPython 3.11.4 on Linux.
-fn environment(alloc: Global) -> Result<Option<MarkerEnvironment>, AllocError> {
+fn environment(alloc: Global) -> Result<MarkerEnvironment, AllocError> {
     let builder = MarkerEnvironmentBuilder {
         implementation_name: "cpython",
         implementation_version: "3.11.4",
@@ -26,130 +31,146 @@ fn environment(alloc: Global) -> Result<Option<MarkerEnvironment>, AllocError> {
         python_version: "3.11",
         sys_platform: "linux",
     };
-    Ok(MarkerEnvironment::try_from(alloc, builder).ok())
+    MarkerEnvironment::try_from(alloc, builder).or(Err(AllocError))
 }
 
 /// The text of a table's answer, and how many specifiers were asked for it.
-fn answered(
-    alloc: Global,
-    lines: &str,
-    environment: &MarkerEnvironment,
-    candidates: &Candidates,
-) -> Result<String, fmt::Error> {
+fn answered(alloc: Global, lines: &str, candidates: &str) -> Result<String, AllocError> {
     let vars = Vars::new(alloc, &[], "/w")?;
     let mut interner = Interner::new(alloc);
     let Ok(read) = Requirements::parse(alloc, lines.as_bytes(), &mut interner, &vars) else {
-        return Ok(String::from_str(alloc, "refused")?);
+        return String::from_str(alloc, "refused");
     };
-    let Ok(table) = Table::build(alloc, read, &mut interner, 8) else {
-        return Ok(String::from_str(alloc, "refused")?);
-    };
+    match Table::build(alloc, read, &mut interner, 8) {
+        Ok(table) => asked(alloc, table, &interner, candidates),
+        Err(_) => String::from_str(alloc, "refused"),
+    }
+}
+
+fn asked(
+    alloc: Global,
+    table: Table,
+    interner: &Interner,
+    candidates: &str,
+) -> Result<String, AllocError>
+    requires { AllByRecursion (HasItsCases interner.now.nodes) table }
+{
     let mut table = table;
+    let candidates = Candidates::parse(alloc, candidates.as_bytes()).or(Err(AllocError))?;
+    let environment = environment(alloc)?;
+    answered_by(alloc, &mut table, interner, &environment, &candidates)
+}
+
+fn answered_by(
+    alloc: Global,
+    table: &mut Table,
+    interner: &Interner,
+    environment: &MarkerEnvironment,
+    candidates: &Candidates,
+) -> Result<String, AllocError>
+    requires { AllByRecursion (HasItsCases interner.now.nodes) table.old }
+{
     let admission = Admission::new(|_: &Version, _: bool| true);
-    let answer = table.answer(alloc, &interner, environment, &[], candidates, &admission)?;
+    let answer = table.answer(alloc, interner, environment, &[], candidates, &admission)?;
     let text = answer.text(alloc, candidates)?;
     let tests = table.tests();
-    Ok(format!(in alloc; "{text}{tests}")?)
+    format!(in alloc; "{text}{tests}")
 }
 
 #[test]
 fn only_candidates_that_are_not_plain_are_asked(rt: HostRuntime) -> Result<(), Fail> {
-    let alloc = rt.alloc();
-    let environment = environment(alloc)?.expect(&rt, "an environment");
-    let told = [
+    for (lines, candidates, want) in [
         ("foo>=1\nfoo<2", "foo 1.0\nfoo 1.5\nfoo 2.0", "foo 1.5\n0"),
         ("foo==1.0", "foo 1.0\nfoo 1.0+x", "foo 1.0+x\n1"),
         ("foo===1.0", "foo 1.0.0\nfoo 1.0", "foo 1.0\n2"),
         ("foo @ ./c\nfoo>=1", "foo 1.0", "foo direct\n0"),
         ("foo>1.0a1", "foo 1.0a2.post1", "foo none\n1"),
         ("foo ; os_name == 'nt'", "foo 1.0", "0"),
-    ];
-    for (lines, candidates, want) in told {
-        let read = Candidates::parse(alloc, candidates.as_bytes());
-        let candidates = read.expect(&rt, "candidates");
-        let text = answered(alloc, lines, &environment, &candidates)?;
-        assert_eq!(rt; text.as_str(), want);
+    ] {
+        assert_eq!(rt; answered(rt.alloc(), lines, candidates)?.as_str(), want);
     }
     Ok(())
 }
 
-/// The cases of a package by the numbers of their lines, or why there is no table.
-fn cases_shown(
-    alloc: Global,
-    lines: &str,
-    name: &PackageName,
-    limit: u64,
-) -> Result<String, fmt::Error> {
+/// The cases of a package by the numbers of their lines, each with whether a specifier of theirs has a
+/// pre-release; or why there is no table.
+fn cases_shown(alloc: Global, lines: &str, name: &str, limit: u64) -> Result<String, AllocError> {
     let vars = Vars::new(alloc, &[], "/w")?;
     let mut interner = Interner::new(alloc);
     let Ok(read) = Requirements::parse(alloc, lines.as_bytes(), &mut interner, &vars) else {
-        return Ok(String::from_str(alloc, "refused")?);
+        return String::from_str(alloc, "refused");
     };
     match Table::build(alloc, read, &mut interner, limit) {
-        Ok(table) => numbers_shown(alloc, &table, name),
-        Err(TableError::TooManyCases { package }) => Ok(format!(in alloc; "too many: {package}")?),
-        Err(TableError::Memory) => Ok(String::from_str(alloc, "memory")?),
+        Ok(table) => cases_of(alloc, &table, name),
+        Err(TableError::TooManyCases { package }) => format!(in alloc; "too many: {package}"),
+        Err(TableError::Memory) => Err(AllocError),
     }
 }
 
-fn numbers_shown(alloc: Global, table: &Table, name: &PackageName) -> Result<String, fmt::Error> {
+fn cases_of(alloc: Global, table: &Table, name: &str) -> Result<String, AllocError> {
+    let name = PackageName::from_str(alloc, name).or(Err(AllocError))?;
     let mut text = String::new(alloc);
-    let Some(cases) = table.cases(name) else {
-        return Ok(text);
-    };
-    for case in cases {
-        let numbers = format!(in alloc; "{:?}", case.lines)?;
-        text.push_str(numbers.as_str())?;
-    }
+    push_cases(&mut text, table.cases(&name).unwrap_or(&[]))?;
     Ok(text)
+}
+
+fn push_cases(text: &mut String, cases: &[Case]) -> Result<(), AllocError> {
+    for case in cases {
+        let pre = if case.pre { " pre " } else { "" };
+        write!(text, "{:?}{pre}", case.lines)?;
+    }
+    Ok(())
 }
 
 #[test]
 fn cases_stand_by_their_lines(rt: HostRuntime) -> Result<(), Fail> {
-    let alloc = rt.alloc();
-    let foo = PackageName::from_str(alloc, "foo").expect(&rt, "a name");
-    let other = PackageName::from_str(alloc, "other").expect(&rt, "a name");
-    let lines = "foo ; os_name == 'nt'\nbar\nfoo ; os_name == 'posix'";
-    let want = "[1][3][]";
-    assert_eq!(rt; cases_shown(alloc, lines, &foo, 3)?.as_str(), want);
-    assert_eq!(rt; cases_shown(alloc, lines, &other, 3)?.as_str(), "");
-    assert_eq!(rt;
-        cases_shown(alloc, lines, &foo, 2)?.as_str(),
-        "too many: foo"
-    );
+    let lines = "foo>1a1 ; os_name == 'nt'\nbar\nfoo ; os_name == 'posix'";
+    for (name, limit, want) in [
+        ("foo", 3, "[1] pre [3][]"),
+        ("other", 3, ""),
+        ("foo", 2, "too many: foo"),
+    ] {
+        assert_eq!(rt; cases_shown(rt.alloc(), lines, name, limit)?.as_str(), want);
+    }
     Ok(())
 }
 
 /// Candidates by their places.
-fn places_shown(alloc: Global, placed: &[Placed<'_>]) -> Result<String, fmt::Error> {
-    let mut text = String::new(alloc);
+fn push_places(text: &mut String, placed: &[Placed<'_>]) -> Result<(), AllocError> {
     for one in placed {
         let place = one.place;
-        text.push_str(format!(in alloc; " {place}")?.as_str())?;
+        write!(text, " {place}")?;
     }
-    Ok(text)
+    Ok(())
 }
 
 /// How many candidates there are, their order, and those of a package.
-fn order_shown(
-    alloc: Global,
+fn push_order(
+    text: &mut String,
     ordered: &Ordered<'_>,
     name: &PackageName,
-) -> Result<String, fmt::Error> {
+) -> Result<(), AllocError> {
     let count = ordered.candidates().items().len();
-    let all = places_shown(alloc, ordered.placed())?;
-    let own = places_shown(alloc, ordered.run_of(name))?;
-    Ok(format!(in alloc; "{count}:{all}:{own}")?)
+    write!(text, "{count}:")?;
+    push_places(text, ordered.placed())?;
+    text.push(':')?;
+    push_places(text, ordered.run_of(name))
+}
+
+fn order_shown(alloc: Global, candidates: &str, name: &str) -> Result<String, AllocError> {
+    let candidates = Candidates::parse(alloc, candidates.as_bytes()).or(Err(AllocError))?;
+    let name = PackageName::from_str(alloc, name).or(Err(AllocError))?;
+    let mut text = String::new(alloc);
+    push_order(&mut text, &candidates.in_order(alloc)?, &name)?;
+    Ok(text)
 }
 
 #[test]
 fn candidates_stand_by_name_and_version(rt: HostRuntime) -> Result<(), Fail> {
-    let alloc = rt.alloc();
-    let read = Candidates::parse(alloc, b"foo 1.0\nbar 3\nfoo 2.0\nfoo 1\nfoo 1.0+x");
-    let candidates = read.expect(&rt, "candidates");
-    let ordered = candidates.in_order(alloc)?;
-    let foo = PackageName::from_str(alloc, "foo").expect(&rt, "a name");
-    let text = order_shown(alloc, &ordered, &foo)?;
-    assert_eq!(rt; text.as_str(), "5: 1 2 4 0 3: 2 4 0 3");
+    let candidates = "foo 1.0\nbar 3\nfoo 2.0\nfoo 1\nfoo 1.0+x";
+    assert_eq!(rt;
+        order_shown(rt.alloc(), candidates, "foo")?.as_str(),
+        "5: 1 2 4 0 3: 2 4 0 3"
+    );
     Ok(())
 }

@@ -4,6 +4,7 @@ pub use Rattle.reqtable_text.specs.CandidateText
 pub use Rattle.reqtable_text.specs.Candidates
 pub use Rattle.reqtable_text.specs.Errors as CandidateErrors
 pub use Rattle.reqtable_text.specs.Ordered
+pub use Rattle.reqtable_run.specs.Told
 pub use Rattle.reqtable_range.specs.Together
 pub use Rattle.reqtable_answer.specs.Admission
 pub use Rattle.reqtable_answer.specs.Asks

@@ -5,7 +5,7 @@ use Rattle.std.specs.Str.{bytes_eq}
 use Rattle.pep440_version.specs.Record.{VersionRecord}
 use Rattle.pep440_version.specs.Changes.{is_prerelease}
 use Rattle.pep440_specifier.specs.Matching as matching
-use Rattle.pep440_specifier_list.specs.Lists.{matches_all}
+use Rattle.pep440_specifier_list.specs.Lists.{matches_all, any_prerelease}
 use Rattle.pep508_requirement_text.specs.FrontReading.{Source, Front}
 use Rattle.pep508_requirement_text.specs.FrontReading.Source.{Any, Specifiers, Url}
 use Rattle.reqtable_answer.specs.Asks.{specifiers_of, is_url, is_of, has_extra, has_url, ask_takes, has_prerelease}
@@ -38,7 +38,7 @@ all_said v (Url shown) (Specifiers given) h = absurd h
 all_said v (Url shown) (Url text) h = refl
 
 prerelease_said : (shown said : Source) → SaysSource shown said
-    → list_any (λ s. is_prerelease s.version) (specifiers_of shown) ≡ list_any (λ s. is_prerelease s.version) (specifiers_of said)
+    → any_prerelease (specifiers_of shown) ≡ any_prerelease (specifiers_of said)
 prerelease_said Any Any h = refl
 prerelease_said Any (Specifiers given) h = absurd h
 prerelease_said Any (Url text) h = absurd h

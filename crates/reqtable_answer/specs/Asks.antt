@@ -4,9 +4,8 @@ use Rattle.std.specs.Prelude.{◌&&◌, ℕ, Bool, true, false, List, []}
 use Rattle.std.specs.List.{list_any, list_all}
 use Rattle.std.specs.Str.{bytes_eq}
 use Rattle.pep440_version.specs.Record.{VersionRecord}
-use Rattle.pep440_version.specs.Changes.{is_prerelease}
 use Rattle.pep440_specifier.specs.Matching.{SpecifierRecord}
-use Rattle.pep440_specifier_list.specs.Lists.{matches_all}
+use Rattle.pep440_specifier_list.specs.Lists.{matches_all, any_prerelease}
 use Rattle.pep508_requirement_text.specs.FrontReading.{Source, Front}
 use Rattle.pep508_requirement_text.specs.FrontReading.Source.{Any, Specifiers, Url}
 use Rattle.reqtable_text.specs.declared.candidates.Candidate.{Candidate}
@@ -41,7 +40,7 @@ ask_takes version ask = matches_all (specifiers_of ask.source) version
 
 -- some specifier of the ask has a pre-release or a developmental release
 abbrev pub has_prerelease : Front → Bool
-has_prerelease ask = list_any (λ s. is_prerelease s.version) (specifiers_of ask.source)
+has_prerelease ask = any_prerelease (specifiers_of ask.source)
 
 -- some specifier of the asks has
 abbrev pub names_prerelease : List Front → Bool

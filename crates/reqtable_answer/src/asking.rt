@@ -2,7 +2,6 @@
 
 ghost use Rattle.std.specs.Prelude.{◌≡◌, ◌&&◌, IfOk};
 ghost use Rattle.std.specs.List.{list_any, list_all};
-ghost use Rattle.pep440_version.specs.Changes.{is_prerelease};
 ghost use Rattle.reqtable_answer.specs.Admission.{Admits, AnswersBy};
 ghost use Rattle.reqtable_answer.specs.Asks.{has_url, has_prerelease, ask_takes};
 ghost use Rattle.reqtable_answer.specs.Ranged.{TellsTaken};
@@ -10,7 +9,6 @@ ghost use Rattle.reqtable_answer.specs.Says.{ask_seen};
 
 use crate::admission::Admission;
 use crate::lent::{Ask, AskSource};
-use pep440_specifier_list::VersionSpecifiers;
 use pep440_version::Version;
 use reqtable_range::OneRange;
 use std::alloc::{AllocError, Global};
@@ -42,17 +40,9 @@ fn has_prerelease(ask: &Ask<'_>) -> bool
     ensures { result ≡ has_prerelease (ask_seen ask.now) }
 {
     match ask.source {
-        AskSource::Specifiers(list) => has_prerelease_in(list),
+        AskSource::Specifiers(list) => list.any_prerelease(),
         AskSource::Url | AskSource::Any => false,
     }
-}
-
-fn has_prerelease_in(list: &VersionSpecifiers) -> bool
-    ensures { result ≡ list_any (λ s. is_prerelease s.version) list.now }
-{
-    list.as_slice()
-        .iter()
-        .any(|specifier| specifier.version().any_prerelease())
 }
 
 /// Whether all asks take the version, and it is admitted.

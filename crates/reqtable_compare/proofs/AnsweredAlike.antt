@@ -21,37 +21,11 @@ use Rattle.reqtable_cases.specs.Usable.{members_asked, points_of}
 use Rattle.reqtable_cases.specs.Requires.{AskAlike, RequireAlike, RequireTheSame}
 use Rattle.reqtable_cases.proofs.Alike.{same_back}
 use Rattle.reqtable_cases.proofs.Taken.{usable_takes}
+use Rattle.reqtable_conflicts.proofs.Taken.{its_asks}
 use Rattle.reqtable_compare.specs.Refusals.{line_refusal}
-use Rattle.reqtable_compare.specs.Answered.{IsOfText, AreOfTexts, GoesByVersion, ArePlain}
+use Rattle.reqtable_compare.specs.Answered.{IsOfText, AreOfTexts, ArePlain}
 use Rattle.reqtable_compare.proofs.Comparable.{IsComparable, AreComparable, both_comparable}
 use Rattle.reqtable_compare.proofs.Comparable.{no_urls, are_usable}
-
--- ---- what is asked of a package is what its lines ask for
-
-its_by : (v : Valuation) (name : List ℕ) (line : LineRecord) (lines its : List LineRecord) →
-    filter (is_of name) (map (λ l. l.front) lines) ≡ map (λ l. l.front) (filter (applies v) its) →
-    (a b : Bool) → is_of name line.front ≡ a → applies v line ≡ b →
-    filter (is_of name) (map (λ l. l.front) (cond b (line ∷ lines) lines))
-    ≡ map (λ l. l.front) (filter (applies v) (cond a (line ∷ its) its))
-its_by v name line lines its h true true e g =
-    let X = filter (is_of name) (map (λ l. l.front) lines) in
-    let Y = filter (applies v) its in
-    ap (λ t. cond t (line.front ∷ X) X) e ∙ ap (λ l. line.front ∷ l) h
-    ∙ sym (ap (λ t. map (λ l. l.front) (cond t (line ∷ Y) Y)) g)
-its_by v name line lines its h false true e g =
-    let X = filter (is_of name) (map (λ l. l.front) lines) in
-    ap (λ t. cond t (line.front ∷ X) X) e ∙ h
-its_by v name line lines its h true false e g =
-    let Y = filter (applies v) its in
-    h ∙ sym (ap (λ t. map (λ l. l.front) (cond t (line ∷ Y) Y)) g)
-its_by v name line lines its h false false e g = h
-
-its_asks : (v : Valuation) (name : List ℕ) (lines : List LineRecord) →
-    filter (is_of name) (asks_of v lines) ≡ asks_of v (lines_of name lines)
-its_asks v name [] = refl
-its_asks v name (line ∷ lines) =
-    its_by v name line (filter (applies v) lines) (lines_of name lines) (its_asks v name lines)
-    (is_of name line.front) (applies v line) refl refl
 
 -- ---- whether a package is asked for
 
@@ -78,7 +52,7 @@ some_alike (ask ∷ asks) [] h = absurd h
 some_alike (ask ∷ asks) (other ∷ others) h = refl
 
 ask_alike : (asks others : List Front) → RequireAlike asks others → AskAlike asks others
-ask_alike [] [] h = record { extras = λ extra. refl; points = λ p. refl }
+ask_alike [] [] h = record { extras = λ extra. refl; points = λ p. refl; prerelease = refl }
 ask_alike [] (other ∷ others) h = absurd h
 ask_alike (ask ∷ asks) [] h = absurd h
 ask_alike (ask ∷ asks) (other ∷ others) h = h
@@ -113,38 +87,31 @@ take_alike asks others h k alike version plain =
 
 -- ---- one row
 
-module _ (admits : Admits) (goes : GoesByVersion admits) where
-  admitted : (version : VersionRecord) (a b : Bool) → admits version a ≡ admits version b
-  admitted version true true = refl
-  admitted version true false = goes version
-  admitted version false true = sym (goes version)
-  admitted version false false = refl
+module _ (admits : Admits) (asks others : List Front) (h : AreTold asks) (k : AreTold others)
+    (alike : AskAlike asks others) where
+  same_kept : (own : List (ℕ × Candidate)) → AllByRecursion (λ c. IsPlain c.1.version) own →
+      filter (may_be_taken admits asks) own ≡ filter (may_be_taken admits others) own
+  same_kept [] plain = refl
+  same_kept (c ∷ own) plain =
+      let takes = take_alike asks others h k alike c.1.version plain.0 in
+      let admission = ap (admits c.1.version) alike.prerelease in
+      let rest = same_kept own plain.1 in
+      λ i. cond (takes i && admission i) (c ∷ rest i) (rest i)
 
-  module _ (asks others : List Front) (h : AreTold asks) (k : AreTold others)
-      (alike : AskAlike asks others) where
-    same_kept : (own : List (ℕ × Candidate)) → AllByRecursion (λ c. IsPlain c.1.version) own →
-        filter (may_be_taken admits asks) own ≡ filter (may_be_taken admits others) own
-    same_kept [] plain = refl
-    same_kept (c ∷ own) plain =
-        let takes = take_alike asks others h k alike c.1.version plain.0 in
-        let admission = admitted c.1.version (names_prerelease asks) (names_prerelease others) in
-        let rest = same_kept own plain.1 in
-        λ i. cond (takes i && admission i) (c ∷ rest i) (rest i)
+  same_outcome : (own : List (ℕ × Candidate)) → AllByRecursion (λ c. IsPlain c.1.version) own →
+      outcome_of admits asks own ≡ outcome_of admits others own
+  same_outcome own plain =
+      let urls = no_urls asks h.comparable ∙ sym (no_urls others k.comparable) in
+      let kept = same_kept own plain in
+      λ i. cond (urls i) Direct (chosen (option_map (λ c. c.0) (first_greatest by_version (kept i))))
 
-    same_outcome : (own : List (ℕ × Candidate)) → AllByRecursion (λ c. IsPlain c.1.version) own →
-        outcome_of admits asks own ≡ outcome_of admits others own
-    same_outcome own plain =
-        let urls = no_urls asks h.comparable ∙ sym (no_urls others k.comparable) in
-        let kept = same_kept own plain in
-        λ i. cond (urls i) Direct (chosen (option_map (λ c. c.0) (first_greatest by_version (kept i))))
-
-    row_of : (own : List (ℕ × Candidate)) (row : RowRecord) → AllByRecursion (λ c. IsPlain c.1.version) own →
-        IsRowOf admits asks own row → IsRowOf admits others own row
-    row_of own row plain is = record {
-      extras_rise = is.extras_rise;
-      extras_are = λ extra. is.extras_are extra ∙ alike.extras extra;
-      outcome = is.outcome ∙ same_outcome own plain;
-    }
+  row_of : (own : List (ℕ × Candidate)) (row : RowRecord) → AllByRecursion (λ c. IsPlain c.1.version) own →
+      IsRowOf admits asks own row → IsRowOf admits others own row
+  row_of own row plain is = record {
+    extras_rise = is.extras_rise;
+    extras_are = λ extra. is.extras_are extra ∙ alike.extras extra;
+    outcome = is.outcome ∙ same_outcome own plain;
+  }
 
 -- ---- the answer
 
@@ -174,8 +141,8 @@ its_told v name lines h = record {
 }
 
 module _ (left right : List LineRecord) (told : IsToldWhole left) (others : IsToldWhole right)
-    (same : RequireTheSame left right) (v : Valuation) (admits : Admits) (goes : GoesByVersion admits)
-    (candidates : List Candidate) (plain : ArePlain candidates) where
+    (same : RequireTheSame left right) (v : Valuation) (admits : Admits) (candidates : List Candidate)
+    (plain : ArePlain candidates) where
   abbrev of_left : List ℕ → List Front
   of_left name = filter (is_of name) (asks_of v left)
 
@@ -200,7 +167,7 @@ module _ (left right : List LineRecord) (told : IsToldWhole left) (others : IsTo
   row_kept : (row : RowRecord) → IsRow admits (asks_of v left) candidates row →
       IsRow admits (asks_of v right) candidates row
   row_kept row =
-      row_of admits goes (of_left row.name) (of_right row.name) (its_told v row.name left told)
+      row_of admits (of_left row.name) (of_right row.name) (its_told v row.name left told)
       (its_told v row.name right others)
       (ask_alike (of_left row.name) (of_right row.name) (named_alike row.name))
       (filter (is_candidate row.name) (enumerate_from 0 candidates)) row (own_plain row.name)
@@ -223,22 +190,22 @@ module _ (left right : List LineRecord) (told : IsToldWhole left) (others : IsTo
 -- ---- both ways
 
 pub rows_alike : (left right : List LineRecord) → line_refusal left right ≡ None → AreOfTexts left →
-    AreOfTexts right → RequireTheSame left right → (v : Valuation) (admits : Admits) → GoesByVersion admits →
+    AreOfTexts right → RequireTheSame left right → (v : Valuation) (admits : Admits)
     (candidates : List Candidate) → ArePlain candidates → (rows : List RowRecord) →
     IsAnswer admits (asks_of v left) candidates rows ↔ IsAnswer admits (asks_of v right) candidates rows
-rows_alike left right none said others same v admits goes candidates plain rows =
+rows_alike left right none said others same v admits candidates plain rows =
     let both = both_comparable left right none in
     let one : IsToldWhole left = record { comparable = both.0; said = said } in
     let other : IsToldWhole right = record { comparable = both.1; said = others } in (
-      answer_kept left right one other same v admits goes candidates plain rows,
-      answer_kept right left other one (same_back left right same) v admits goes candidates plain rows,
+      answer_kept left right one other same v admits candidates plain rows,
+      answer_kept right left other one (same_back left right same) v admits candidates plain rows,
     )
 
 pub text_alike : (left right : List LineRecord) → line_refusal left right ≡ None → AreOfTexts left →
-    AreOfTexts right → RequireTheSame left right → (v : Valuation) (admits : Admits) → GoesByVersion admits →
+    AreOfTexts right → RequireTheSame left right → (v : Valuation) (admits : Admits)
     (candidates : List Candidate) → ArePlain candidates → (text : List ℕ) →
     IsAnswerText admits (asks_of v left) candidates text
     ↔ IsAnswerText admits (asks_of v right) candidates text
-text_alike left right none said others same v admits goes candidates plain text =
-    let alike = rows_alike left right none said others same v admits goes candidates plain in
+text_alike left right none said others same v admits candidates plain text =
+    let alike = rows_alike left right none said others same v admits candidates plain in
     ((λ h. (h.0, (alike h.0).0 h.1, h.2)), (λ h. (h.0, (alike h.0).1 h.1, h.2)))

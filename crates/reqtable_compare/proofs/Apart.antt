@@ -1,9 +1,6 @@
 -- A case beside the cases of which one has its tree.
-use Rattle.std.proofs.Common.{◌≡◌, ◌∙◌, ◌&&◌, true, false, Bool, ℕ, List, [], ◌∷◌, ◌++◌, map, Option, Some}
+use Rattle.std.proofs.Common.{◌≡◌, ◌∙◌, ◌&&◌, true, false, Bool, ℕ, List, [], ◌∷◌, ◌++◌, map}
 use Rattle.std.proofs.Common.{refl, sym, ap, subst, inl, inr, Less, Greater}
-use Rattle.std.specs.Prelude.{find, cond}
-use Rattle.std.specs.Option.{option_map}
-use Rattle.std.specs.Str.{bytes_eq}
 use Rattle.std.specs.List.{AllZip, AllByRecursion}
 use Rattle.std.specs.List.Sorted.{IsStrictlySortedBy}
 use Rattle.std.specs.Ordering.{ordering_reverse}
@@ -19,6 +16,7 @@ use Rattle.reqtable_table.specs.Kept.{KeptLine, KeptCase, KeptPackage}
 use Rattle.reqtable_compare.specs.Summed.{SummaryRecord}
 use Rattle.reqtable_compare.specs.Totals.{IsSummed, AreSummed, no_lines}
 use Rattle.reqtable_compare.specs.Pairs.{PassesAll, AreApart, ArePartners}
+use Rattle.reqtable_compare.proofs.Packages.{summed_under}
 
 -- ---- it passes beside all of them
 
@@ -121,21 +119,7 @@ nothing : (nodes : List NodeRecord) (summaries : List SummaryRecord) → summari
     AreApart nodes summaries
 nothing nodes summaries is = subst (AreApart nodes) (sym is) (tt, tt)
 
-apart_by : (nodes : List NodeRecord) (lines : List Line) (kept : KeptPackage) (found : Option KeptPackage)
-    (summaries : List SummaryRecord) (b : Bool) → HasItsCases nodes kept →
-    AreSummed lines (option_map (λ (p : KeptPackage). p.cases) (cond b (Some kept) found)) summaries →
-    (AreSummed lines (option_map (λ (p : KeptPackage). p.cases) found) summaries → AreApart nodes summaries) →
-    AreApart nodes summaries
-apart_by nodes lines kept found summaries true has sums below = of_package nodes lines kept summaries has sums
-apart_by nodes lines kept found summaries false has sums below = below sums
-
-abbrev under : List ℕ → KeptPackage → Bool
-under name kept = bytes_eq name kept.name
-
 pub apart_under : (nodes : List NodeRecord) (lines : List Line) (name : List ℕ) (table : List KeptPackage)
     (summaries : List SummaryRecord) → AllByRecursion (HasItsCases nodes) table →
     AreSummed lines (cases_under name table) summaries → AreApart nodes summaries
-apart_under nodes lines name [] summaries has sums = nothing nodes summaries sums
-apart_under nodes lines name (kept ∷ table) summaries has sums =
-    apart_by nodes lines kept (find (under name) table) summaries (under name kept) has.0 sums
-    (apart_under nodes lines name table summaries has.1)
+apart_under nodes lines = summed_under (AreApart nodes) nodes lines (nothing nodes) (of_package nodes lines)

@@ -15,6 +15,7 @@ use Rattle.pep440_specifier.specs.Matching.{SpecifierRecord}
 use Rattle.pep440_range.specs.Ranges.{range_of}
 use Rattle.pep508_requirement_text.specs.FrontReading.{Front}
 use Rattle.reqtable_answer.specs.Asks.{specifiers_of, is_url, has_url, is_of}
+use Rattle.reqtable_run.specs.Told.{is_bound}
 use Rattle.reqtable_requirements.specs.LineReading.{LineRecord}
 use Rattle.reqtable_requirements.specs.Asks.{lines_of}
 use Rattle.pep508_cases.specs.Cases.{Marks}
@@ -24,7 +25,7 @@ use Rattle.reqtable_compare.specs.declared.sides.LineCause.{LineCause}
 use Rattle.reqtable_compare.specs.declared.sides.LineCause.TheVariants as causes
 use Rattle.reqtable_compare.specs.declared.sides.Side.{Side}
 use Rattle.reqtable_compare.specs.declared.sides.Side.TheVariants.{Left, Right}
-use Rattle.reqtable_compare.specs.Refusals.{Refusal, is_exact, is_bound, bounds_post, members_cause}
+use Rattle.reqtable_compare.specs.Refusals.{Refusal, is_exact, bounds_post, members_cause}
 use Rattle.reqtable_compare.specs.Refusals.{line_cause, refused_by, refusal_in, line_refusal}
 
 -- ---- one line

@@ -8,6 +8,7 @@ pub mod Paired
 pub mod Causes
 pub mod ByNumber
 pub mod Summaries
+pub mod Packages
 pub mod Trees
 pub mod Whole
 pub mod Answering

@@ -1,8 +1,9 @@
 -- Cases are alike exactly where their asks require the same.
 use Rattle.std.proofs.Common.{◌≡◌, ◌∙◌, ℕ, Bool, true, false, List, [], ◌∷◌, Option, Some, None}
-use Rattle.std.proofs.Common.{◌&&◌, refl, sym, ap, subst, inl, inr, true≢false}
+use Rattle.std.proofs.Common.{◌&&◌, not, refl, sym, ap, subst, inl, inr, true≢false}
 use Rattle.std.proofs.lemmas.Cmp.{nat_list_eq_equiv}
 use Rattle.std.specs.Cmp.Lexicographic.{pointwise}
+use Rattle.std.specs.Bool.{beq}
 use Rattle.std.specs.List.{list_any}
 use Rattle.std.specs.Str.{bytes_eq}
 use Rattle.version_ranges.specs.Point.{Point}
@@ -45,6 +46,7 @@ to_require (x ∷ xs) (o ∷ os) a b one other (inl none) = absurd (never_both a
 to_require (x ∷ xs) (o ∷ os) a b one other (inr both) = record {
   extras = λ e. sym (one.extras e) ∙ ap (list_any (bytes_eq e)) both.extras ∙ other.extras e;
   points = points_by (x ∷ xs) (o ∷ os) a.range b.range (one.range refl) (other.range refl) both.range;
+  prerelease = sym one.prerelease ∙ both.prerelease ∙ other.prerelease;
 }
 
 pub from_require : (asks others : List Front) (a b : SummaryRecord) → IsSummaryOf asks a → IsSummaryOf others b →
@@ -58,6 +60,7 @@ from_require (x ∷ xs) (o ∷ os) a b one other h = inr (record {
   extras = same_texts a.extras b.extras one.rising other.rising
       (λ q. one.extras q ∙ h.extras q ∙ sym (other.extras q));
   range = range_by (x ∷ xs) (o ∷ os) a.range b.range one.usable other.usable (one.range refl) (other.range refl) h.points;
+  prerelease = one.prerelease ∙ h.prerelease ∙ sym other.prerelease;
 })
 
 -- ---- lists of names
@@ -85,3 +88,9 @@ names_are (x ∷ xs) (y ∷ ys) h =
 
 pub names_same : (xs ys : List (List ℕ)) → xs ≡ ys → pointwise bytes_eq xs ys ≡ true
 names_same xs ys same = subst (λ l. pointwise bytes_eq xs l ≡ true) same (itself xs)
+
+pub same_flags : (a b : Bool) → not (beq a b) ≡ false → a ≡ b
+same_flags true true e = refl
+same_flags true false e = absurd (true≢false e)
+same_flags false true e = absurd (true≢false e)
+same_flags false false e = refl

@@ -72,6 +72,7 @@ of_set lines name said s case set extras comparable sum of =
             ∙ any_extras lines own e own_extras;
         usable = case_usable set.0 name said comparable;
         range = λ there. subst (IsRangeOf (asked_by set.0 (lines_of name said))) (sym sum.range) of.range;
+        prerelease = sum.prerelease ∙ of.prerelease;
       };
       tree = sum.tree ∙ of.tree;
     }
@@ -117,6 +118,7 @@ nothing_summed nodes = record {
         extras = λ e. refl;
         usable = refl;
         range = λ there. absurd (cc);
+        prerelease = refl;
       };
       tree = refl;
     },

@@ -1,10 +1,6 @@
 -- The summaries of a table's cases have trees of its nodes.
-use Rattle.std.proofs.Common.{◌≡◌, ◌∙◌, ℕ, Bool, true, false, cond, List, [], ◌∷◌, map, Option, Some, sym, subst, arith}
-use Rattle.std.proofs.Common.{◌++◌, Result, Ok, Err}
-use Rattle.std.specs.Prelude.{find}
+use Rattle.std.proofs.Common.{◌≡◌, ◌∙◌, ℕ, List, [], ◌∷◌, ◌++◌, map, Result, Ok, Err, sym, subst, arith}
 use Rattle.std.specs.List.{AllZip, AllByRecursion}
-use Rattle.std.specs.Option.{option_map}
-use Rattle.std.specs.Str.{bytes_eq}
 use Rattle.pep508_tree.specs.Tree.{Tree}
 use Rattle.pep508_tree.specs.Meaning.{NodeRecord, IsTree}
 use Rattle.pep508_tree.specs.Disjoint.{AreDisjoint}
@@ -19,6 +15,7 @@ use Rattle.reqtable_compare.specs.declared.sides.Same.{Same}
 use Rattle.reqtable_compare.specs.declared.sides.Same.TheVariants.{Yes, No}
 use Rattle.reqtable_compare.specs.declared.sides.SameError.{SameError}
 use Rattle.reqtable_compare.specs.Differences.{Listed, Place, IsFirstPlace, AreNames, AnswersPlace, ComparesTables}
+use Rattle.reqtable_compare.proofs.Packages.{summed_under}
 
 made_each : (nodes : List NodeRecord) (marking : Marking) (lines : List Line) (kept : List KeptLine)
     (summaries : List SummaryRecord) (cases : List KeptCase) (sets : List (Marks × Tree)) →
@@ -42,24 +39,11 @@ of_package nodes lines kept summaries has sums =
     made_each nodes (marks_of nodes (map (λ line. line.marker) kept.lines)) lines kept.lines summaries kept.cases has.sets
     sums has.each has.are.each
 
-abbrev under : List ℕ → KeptPackage → Bool
-under name kept = bytes_eq name kept.name
-
-trees_by : (nodes : List NodeRecord) (lines : List Line) (name : List ℕ) (kept : KeptPackage)
-    (found : Option KeptPackage) (summaries : List SummaryRecord) (b : Bool) → HasItsCases nodes kept →
-    AreSummed lines (option_map (λ (p : KeptPackage). p.cases) (cond b (Some kept) found)) summaries →
-    (AreSummed lines (option_map (λ (p : KeptPackage). p.cases) found) summaries → AreOfTrees nodes summaries) →
-    AreOfTrees nodes summaries
-trees_by nodes lines name kept found summaries true has sums below = of_package nodes lines kept summaries has sums
-trees_by nodes lines name kept found summaries false has sums below = below sums
-
 pub trees_under : (nodes : List NodeRecord) (lines : List Line) (name : List ℕ) (table : List KeptPackage)
     (summaries : List SummaryRecord) → AllByRecursion (HasItsCases nodes) table →
     AreSummed lines (cases_under name table) summaries → AreOfTrees nodes summaries
-trees_under nodes lines name [] summaries has sums = nothing_made nodes summaries sums
-trees_under nodes lines name (kept ∷ table) summaries has sums =
-    trees_by nodes lines name kept (find (under name) table) summaries (under name kept) has.0 sums
-    (trees_under nodes lines name table summaries has.1)
+trees_under nodes lines =
+    summed_under (AreOfTrees nodes) nodes lines (nothing_made nodes) (of_package nodes lines)
 
 -- ---- and so has the place at which two lists differ
 

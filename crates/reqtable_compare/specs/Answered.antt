@@ -1,12 +1,10 @@
 -- Lists that are answered alike where they require the same.
-use Rattle.std.specs.Prelude.{◌≡◌, true, false, List, All}
-use Rattle.pep440_version.specs.Record.{VersionRecord}
+use Rattle.std.specs.Prelude.{List, All}
 use Rattle.pep440_specifier.specs.Building.{IsBuilt}
 use Rattle.pep440_specifier.specs.Matching.{SpecifierRecord}
 use Rattle.pep440_range.specs.Agreement.{IsSaid}
 use Rattle.reqtable_text.specs.declared.candidates.Candidate.{Candidate}
 use Rattle.reqtable_range.specs.Together.{IsPlain}
-use Rattle.reqtable_answer.specs.Admission.{Admits}
 use Rattle.reqtable_answer.specs.Asks.{specifiers_of}
 use Rattle.reqtable_requirements.specs.LineReading.{LineRecord}
 
@@ -18,10 +16,6 @@ pub record IsOfText (specifier : SpecifierRecord) : Type 0 where
 -- each specifier of the lines is one
 abbrev pub AreOfTexts : List LineRecord → Type 0
 AreOfTexts lines = All (λ line. All IsOfText (specifiers_of line.front.source)) lines
-
--- an admission test goes by the version alone, and not by what is said of pre-releases
-abbrev pub GoesByVersion : Admits → Type 0
-GoesByVersion admits = (version : VersionRecord) → admits version true ≡ admits version false
 
 -- each candidate has neither a local part nor a post-release
 abbrev pub ArePlain : List Candidate → Type 0

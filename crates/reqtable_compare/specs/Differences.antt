@@ -52,8 +52,8 @@ pub record DifferOn (nodes : List NodeRecord) (left right : Listed) (name : List
 abbrev pub Place : Type 0
 Place = List ℕ × (Tree × Tree)
 
-pub record IsFirstPlace (nodes : List NodeRecord) (left right : Listed) (names : List (List ℕ)) (place : Place)
-    : Type 0 where
+pub record IsFirstPlace (nodes : List NodeRecord) (left right : Listed) (names : List (List ℕ))
+    (place : Place) : Type 0 where
   pub front : List (List ℕ)
   pub back : List (List ℕ)
   pub split : names ≡ front ++ place.0 ∷ back

@@ -20,14 +20,15 @@ AreOfTrees nodes summaries = AllByRecursion (λ s. IsTree nodes s.tree) summarie
 -- no two hold together
 abbrev pub AreApart : List NodeRecord → List SummaryRecord → Type 0
 AreApart nodes [] = Unit {0}
-AreApart nodes (s ∷ rest) = AllByRecursion (λ other. AreDisjoint nodes s.tree other.tree) rest × AreApart nodes rest
+AreApart nodes (s ∷ rest) =
+    AllByRecursion (λ other. AreDisjoint nodes s.tree other.tree) rest × AreApart nodes rest
 
 -- both hold under the same valuations, and require the same
 pub record ArePartners (a b : SummaryRecord) : Type 0 where
   pub tree : a.tree ≡ b.tree
   pub alike : Alike a b
 
--- it doesn't
+-- a pair that doesn't pass
 pub record Fails (nodes : List NodeRecord) (a b : SummaryRecord) : Type 0 where
   pub differ : Alike a b → ⊥
   pub meet : AreDisjoint nodes a.tree b.tree → ⊥
@@ -37,8 +38,8 @@ Decides nodes a b true = Passes nodes a b
 Decides nodes a b false = Fails nodes a b
 
 -- the first case of a side that fails beside one
-pub record IsFirstOther (nodes : List NodeRecord) (one : SummaryRecord) (right : List SummaryRecord) (tree : Tree)
-    : Type 0 where
+pub record IsFirstOther (nodes : List NodeRecord) (one : SummaryRecord) (right : List SummaryRecord)
+    (tree : Tree) : Type 0 where
   pub front : List SummaryRecord
   pub other : SummaryRecord
   pub back : List SummaryRecord

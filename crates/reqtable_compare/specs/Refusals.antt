@@ -11,6 +11,7 @@ use Rattle.pep440_specifier.specs.Matching.{SpecifierRecord}
 use Rattle.pep440_range.specs.Ranges.{range_of}
 use Rattle.pep508_requirement_text.specs.FrontReading.{Front}
 use Rattle.reqtable_answer.specs.Asks.{specifiers_of, is_url}
+use Rattle.reqtable_run.specs.Told.{is_bound}
 use Rattle.reqtable_requirements.specs.LineReading.{LineRecord}
 use Rattle.reqtable_compare.specs.declared.sides.LineCause.{LineCause}
 use Rattle.reqtable_compare.specs.declared.sides.LineCause.TheVariants as causes
@@ -29,19 +30,6 @@ is_exact NotEqualStar = false
 is_exact TildeEqual = false
 is_exact LessThanEqual = false
 is_exact GreaterThanEqual = false
-
--- `<` or `>`
-abbrev pub is_bound : Operator → Bool
-is_bound ExactEqual = false
-is_bound LessThan = true
-is_bound GreaterThan = true
-is_bound Equal = false
-is_bound EqualStar = false
-is_bound NotEqual = false
-is_bound NotEqualStar = false
-is_bound TildeEqual = false
-is_bound LessThanEqual = false
-is_bound GreaterThanEqual = false
 
 abbrev pub bounds_post : SpecifierRecord → Bool
 bounds_post s = if is_bound s.operator then is_some s.version.post else false

@@ -8,5 +8,6 @@ summary_record s = record {
   some = s.has_lines;
   extras = s.extras.items;
   range = option_map (λ r. r.now) s.range;
+  prerelease = s.prerelease;
   tree = s.tree;
 }

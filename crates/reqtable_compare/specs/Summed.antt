@@ -13,16 +13,18 @@ use Rattle.pep508_tree.specs.Tree.{Tree}
 use Rattle.pep508_tree.specs.Meaning.{NodeRecord}
 use Rattle.pep508_requirement_text.specs.FrontReading.{Front}
 use Rattle.pep508_cases.specs.Cases.{Marks, AreCases}
-use Rattle.reqtable_answer.specs.Asks.{has_extra}
+use Rattle.reqtable_answer.specs.Asks.{has_extra, names_prerelease}
 use Rattle.reqtable_requirements.specs.LineReading.{LineRecord}
 use Rattle.reqtable_cases.specs.Lines.{line_marks, asked_by}
 use Rattle.reqtable_cases.specs.Usable.{is_usable, IsRangeOf}
 
--- a case: whether it has lines, the extras that they ask for, the range that they share, and where it holds
+-- a case: whether it has lines, the extras that they ask for, the range that they share, whether some
+-- specifier of them has a pre-release, and where it holds
 pub record SummaryRecord : Type 0 where
   pub some : Bool
   pub extras : List (List ℕ)
   pub range : Option (List (Point VersionRecord))
+  pub prerelease : Bool
   pub tree : Tree
 
 abbrev pub SameRange : Option (List (Point VersionRecord)) → Option (List (Point VersionRecord)) → Type 0
@@ -36,6 +38,7 @@ pub record BothAlike (a b : SummaryRecord) : Type 0 where
   pub other : b.some ≡ true
   pub extras : a.extras ≡ b.extras
   pub range : SameRange a.range b.range
+  pub prerelease : a.prerelease ≡ b.prerelease
 
 abbrev pub Alike : SummaryRecord → SummaryRecord → Type 0
 Alike a b = ((a.some ≡ false) × (b.some ≡ false)) ⊎ BothAlike a b
@@ -51,6 +54,7 @@ pub record IsSummaryOf (asks : List Front) (summary : SummaryRecord) : Type 0 wh
   pub extras : (extra : List ℕ) → list_any (bytes_eq extra) summary.extras ≡ list_any (has_extra extra) asks
   pub usable : is_usable asks ≡ true
   pub range : some_asks asks ≡ true → IsRangeOf asks summary.range
+  pub prerelease : summary.prerelease ≡ names_prerelease asks
 
 -- a set of the lines with its tree
 pub record IsOfSet (lines : List LineRecord) (summary : SummaryRecord) (set : Marks × Tree) : Type 0 where

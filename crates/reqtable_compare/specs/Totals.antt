@@ -22,11 +22,12 @@ pub record IsSummed (lines : List Line) (summary : SummaryRecord) (case : KeptCa
   pub extras : (extra : List ℕ) → list_any (bytes_eq extra) summary.extras
       ≡ list_any (list_any (bytes_eq extra)) (map (extras_at lines) case.numbers)
   pub range : summary.range ≡ case.range
+  pub prerelease : summary.prerelease ≡ case.prerelease
   pub tree : summary.tree ≡ case.tree
 
 -- nothing is required
 abbrev pub no_lines : SummaryRecord
-no_lines = record { some = false; extras = []; range = None; tree = always }
+no_lines = record { some = false; extras = []; range = None; prerelease = false; tree = always }
 
 abbrev pub AreSummed : List Line → Option (List KeptCase) → List SummaryRecord → Type 0
 AreSummed lines None summaries = summaries ≡ no_lines ∷ []

@@ -10,21 +10,21 @@ ghost use Rattle.reqtable_requirements.specs.Asks.{asks_of};
 ghost use Rattle.reqtable_requirements.specs.Requirements.{requirements_of};
 ghost use Rattle.reqtable_cases.specs.Requires.{RequireTheSame};
 ghost use Rattle.reqtable_compare.specs.Refusals.{line_refusal};
-ghost use Rattle.reqtable_compare.specs.Answered.{AreOfTexts, GoesByVersion, ArePlain};
+ghost use Rattle.reqtable_compare.specs.Answered.{AreOfTexts, ArePlain};
 
 use pep440_specifier::laws::{a_read_specifier_is_built, specifier_text_is_read};
 use reqtable_requirements::laws::requirements_are_their_lines;
 
-/// Lists that can be compared and require the same have the same answers in each environment with extras:
-/// to plain candidates, and by each admission test that goes by the version alone.
+/// Lists that can be compared and require the same have the same answers in each environment with extras, to
+/// plain candidates and under every admission test, whatever it makes of pre-releases.
 pub fn texts_that_require_the_same_are_answered_alike()
     ensures rows { (left right : List LineRecord) → line_refusal left right ≡ None → AreOfTexts left →
         AreOfTexts right → RequireTheSame left right → (v : Valuation) (admits : Admits) →
-        GoesByVersion admits → (candidates : List Candidate) → ArePlain candidates → (rows : List RowRecord) →
+        (candidates : List Candidate) → ArePlain candidates → (rows : List RowRecord) →
         IsAnswer admits (asks_of v left) candidates rows ↔ IsAnswer admits (asks_of v right) candidates rows }
     ensures text { (left right : List LineRecord) → line_refusal left right ≡ None → AreOfTexts left →
         AreOfTexts right → RequireTheSame left right → (v : Valuation) (admits : Admits) →
-        GoesByVersion admits → (candidates : List Candidate) → ArePlain candidates → (text : List ℕ) →
+        (candidates : List Candidate) → ArePlain candidates → (text : List ℕ) →
         IsAnswerText admits (asks_of v left) candidates text
         ↔ IsAnswerText admits (asks_of v right) candidates text }
 {}

@@ -29,9 +29,9 @@ pub(crate) struct Meeting {
 /// requires the same or never holds together.
 ///
 /// A case that has the tree of one on the other side, and requires the same, is compared with no other, since
-/// those never hold together with it: so sides that are alike take as many comparisons as they have cases. Else
-/// k and m cases take at most k * m comparisons, and as many looks at whether two trees are disjoint as there
-/// are pairs that require different things.
+/// those never hold together with it: so sides that are alike take as many comparisons as they have cases.
+/// Else k and m cases take at most k * m comparisons, and as many looks at whether two trees are disjoint as
+/// there are pairs that require different things.
 pub(crate) fn first_trees(
     alloc: Global,
     interner: &Interner,

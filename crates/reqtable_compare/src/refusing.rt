@@ -3,14 +3,16 @@
 ghost use Rattle.std.specs.Prelude.{◌≡◌, None, IfOk};
 ghost use Rattle.std.specs.Option.{option_map};
 ghost use Rattle.std.specs.List.{list_any};
-ghost use Rattle.reqtable_compare.specs.Refusals.{members_cause, is_exact, is_bound, bounds_post};
-ghost use Rattle.reqtable_compare.specs.RefusedLines.{refused_seen, line_cause_in, lines_refusal, is_unranged};
+ghost use Rattle.reqtable_compare.specs.Refusals.{members_cause, is_exact, bounds_post};
+ghost use Rattle.reqtable_compare.specs.RefusedLines.{refused_seen, line_cause_in};
+ghost use Rattle.reqtable_compare.specs.RefusedLines.{lines_refusal, is_unranged};
 
 use crate::sides::{LineCause, Side};
 use pep440_specifier::{Operator, VersionSpecifier};
 use pep508_requirement::VersionOrUrl;
 use reqtable_range::has_range;
 use reqtable_requirements::Line;
+use reqtable_run::telling::is_bound;
 use std::alloc::{AllocError, Global};
 
 /// A line that can't be compared.
@@ -109,15 +111,6 @@ fn bounds_post(member: &VersionSpecifier) -> bool
         return member.version().post().is_some();
     }
     false
-}
-
-fn is_bound(operator: Operator) -> bool
-    ensures { result ≡ is_bound operator }
-{
-    match operator {
-        Operator::LessThan | Operator::GreaterThan => true,
-        _ => false,
-    }
 }
 
 fn has_unranged(alloc: Global, members: &[VersionSpecifier]) -> Result<bool, AllocError>

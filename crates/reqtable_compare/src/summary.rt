@@ -11,12 +11,13 @@ use pep508_tree::MarkerTree;
 use version_ranges::Ranges;
 
 /// A case: whether it has lines, the extras that they ask for, in the order of their bytes, the range that
-/// they share, and where it holds.
+/// they share, whether a specifier of them has a pre-release or developmental release, and where it holds.
 #[derive(Drop)]
 pub(crate) struct Summary<'a> {
     pub(crate) has_lines: bool,
     pub(crate) extras: Vec<ExtraName>,
     pub(crate) range: Option<&'a Ranges<Version>>,
+    pub(crate) prerelease: bool,
     pub(crate) tree: MarkerTree,
 }
 
@@ -29,6 +30,9 @@ impl<'a> Summary<'a> {
             return !other.has_lines;
         }
         if !other.has_lines {
+            return false;
+        }
+        if self.prerelease != other.prerelease {
             return false;
         }
         self.extras == other.extras && is_same_range(self.range, other.range)

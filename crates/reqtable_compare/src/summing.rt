@@ -47,6 +47,7 @@ fn nothing<'a>(alloc: Global) -> Result<Vec<Summary<'a>>, AllocError>
         has_lines: false,
         extras: Vec::new(alloc),
         range: None,
+        prerelease: false,
         tree: MarkerTree::TRUE,
     })?;
     Ok(found)
@@ -78,6 +79,7 @@ fn summary<'a>(alloc: Global, lines: &[Line], case: &'a Case) -> Result<Summary<
         has_lines: has_some(&case.lines),
         extras,
         range: case.range.as_ref(),
+        prerelease: case.pre,
         tree: case.tree,
     })
 }

@@ -26,12 +26,12 @@ use Rattle.reqtable_requirements.specs.Requirements.{StandsFor}
 use Rattle.reqtable_requirements.specs.declared.requirements.Line.{Line}
 use Rattle.reqtable_cases.specs.Lines.{line_marks, marked, numbers_of, asked_by, is_named}
 use Rattle.reqtable_cases.specs.Usable.{IsRangeOf}
-use Rattle.reqtable_cases.specs.Conflicts.{IsConflict, AreConflicts}
+use Rattle.reqtable_cases.specs.Conflicts.{IsConflict, told_of, AreConflicts}
 use Rattle.reqtable_table.specs.Cases.{HasItsCases, IsCaseOfLines, AreCasesOf, cases_under}
 use Rattle.reqtable_table.specs.Given.{is_under}
 use Rattle.reqtable_table.specs.Kept.{KeptCase, KeptPackage, KeepsAll}
 use Rattle.reqtable_table.proofs.CasesOfLines.{cases_of_lines, none_of_lines}
-use Rattle.reqtable_conflicts.specs.Contradictions.{ConflictRecord, HasNoPoint, StandByName, numbers_under}
+use Rattle.reqtable_conflicts.specs.Contradictions.{ConflictRecord, HasNoPoint, StandByName, told_under}
 use Rattle.reqtable_conflicts.specs.Picking.{Picks, PicksOf, FoundFor, named}
 use Rattle.reqtable_conflicts.proofs.Picked.{in_or}
 
@@ -76,14 +76,14 @@ to_no_point lines case set one = no_point_by lines case set case.range refl one 
 -- ---- and those picked are all conflicts
 
 -- the sets of the picked cases, among those of all
-record Kept (lines : List LineRecord) (sets : List (Marks × Tree)) (picked : List (List ℕ)) : Type 1 where
+record Kept (lines : List LineRecord) (sets : List (Marks × Tree)) (picked : List (List ℕ × Bool)) : Type 1 where
   kept : List Marks
   within : (P : Marks → Type 0) → AllByRecursion P (sets_of sets) → AllByRecursion P kept
   rising : IsStrictlySortedBy marks_cmp (sets_of sets) → IsStrictlySortedBy marks_cmp kept
   conflicts : AllByRecursion (λ set. IsConflict (asked_by set lines)) kept
   all : (m : Marks) → IsConflict (asked_by m lines) → list_any (same_marks m) (sets_of sets) ≡ true →
       list_any (same_marks m) kept ≡ true
-  numbers : picked ≡ map (λ set. numbers_of set lines) kept
+  told : picked ≡ map (λ set. told_of set lines) kept
 
 or_there : (b c d : Bool) → (b || c) ≡ true → (c ≡ true → d ≡ true) → (b || d) ≡ true
 or_there true c d h f = refl
@@ -93,8 +93,9 @@ or_other : (b c : Bool) → (b || c) ≡ true → (b ≡ true → ⊥) → c ≡
 or_other true c h never = absurd (never refl)
 or_other false c h never = h
 
-picked_kept : (lines : List LineRecord) (cases : List KeptCase) (sets : List (Marks × Tree)) (picked : List (List ℕ)) →
-    AllZip (IsCaseOfLines lines) cases sets → Picks cases picked → Kept lines sets picked
+picked_kept : (lines : List LineRecord) (cases : List KeptCase) (sets : List (Marks × Tree))
+    (picked : List (List ℕ × Bool)) → AllZip (IsCaseOfLines lines) cases sets → Picks cases picked →
+    Kept lines sets picked
 unfolding IsStrictlySortedBy
 picked_kept lines [] [] picked h picks = record {
   kept = [];
@@ -102,7 +103,7 @@ picked_kept lines [] [] picked h picks = record {
   rising = λ rise. tt;
   conflicts = tt;
   all = λ m conflict there. there;
-  numbers = picks;
+  told = picks;
 }
 picked_kept lines [] (set ∷ sets) picked h picks = absurd h
 picked_kept lines (case ∷ cases) [] picked h picks = absurd h
@@ -115,7 +116,7 @@ picked_kept lines (case ∷ cases) (set ∷ sets) picked h (inl (none, (rest, is
       conflicts = (to_conflict lines case set h.0 none, k.conflicts);
       all = λ m conflict there. or_there (same_marks m set.0) (list_any (same_marks m) (sets_of sets))
           (list_any (same_marks m) k.kept) there (k.all m conflict);
-      numbers = is ∙ (λ i. h.0.numbers i ∷ k.numbers i);
+      told = is ∙ (λ i. (h.0.numbers i, h.0.prerelease i) ∷ k.told i);
     }
 picked_kept lines (case ∷ cases) (set ∷ sets) picked h (inr (some, below)) =
     let k = picked_kept lines cases sets picked h.1 below in
@@ -128,7 +129,7 @@ picked_kept lines (case ∷ cases) (set ∷ sets) picked h (inr (some, below)) =
           (or_other (same_marks m set.0) (list_any (same_marks m) (sets_of sets)) there
           (λ same. some (to_no_point lines case set h.0
           (subst (λ s. IsConflict (asked_by s lines)) (marks_is m set.0 same) conflict))));
-      numbers = k.numbers;
+      told = k.told;
     }
 
 realised_each : (lines : List LineRecord) (nodes : List NodeRecord) (sets : List (Marks × Tree)) →
@@ -138,7 +139,7 @@ realised_each lines nodes [] h = tt
 realised_each lines nodes (set ∷ sets) h = (h.0.realised, realised_each lines nodes sets h.1)
 
 pub picked_are_conflicts : (lines : List LineRecord) (nodes : List NodeRecord) (cases : List KeptCase)
-    (picked : List (List ℕ)) → AreCasesOf nodes lines cases → Picks cases picked → AreConflicts lines picked
+    (picked : List (List ℕ × Bool)) → AreCasesOf nodes lines cases → Picks cases picked → AreConflicts lines picked
 picked_are_conflicts lines nodes cases picked h picks =
     let k = picked_kept lines cases h.sets picked h.each picks in
     record {
@@ -147,7 +148,7 @@ picked_are_conflicts lines nodes cases picked h picks =
       realised = k.within (IsRealised (line_marks lines)) (realised_each lines nodes h.sets h.are.each);
       conflicts = k.conflicts;
       all = λ v conflict. k.all (line_marks lines v) conflict (h.are.all v);
-      numbers = k.numbers;
+      told = k.told;
     }
 
 -- lines that there are none of have none
@@ -155,7 +156,7 @@ none_rise : IsStrictlySortedBy marks_cmp []
 unfolding IsStrictlySortedBy
 none_rise = tt
 
-none_conflict : (lines : List LineRecord) (picked : List (List ℕ)) → lines ≡ [] → picked ≡ [] →
+none_conflict : (lines : List LineRecord) (picked : List (List ℕ × Bool)) → lines ≡ [] → picked ≡ [] →
     AreConflicts lines picked
 none_conflict lines picked empty none =
     subst (λ l. AreConflicts l picked) (sym empty) (record {
@@ -164,7 +165,7 @@ none_conflict lines picked empty none =
       realised = tt;
       conflicts = tt;
       all = λ v conflict. absurd (omega (arith, conflict.some));
-      numbers = none;
+      told = none;
     })
 
 -- ---- by name
@@ -189,27 +190,30 @@ named_alike vars nodes (line ∷ lines) (one ∷ said) q h =
     let rest = named_alike vars nodes lines said q h.1 in
     λ i. first i || rest i
 
+abbrev pub told_by : ConflictRecord → List ℕ × Bool
+told_by c = (c.numbers, c.prerelease)
+
 first_by : (b : Bool) (c : ConflictRecord) (cs : List ConflictRecord) → b ≡ true →
-    map (λ c. c.numbers) (cond b (c ∷ cs) cs) ≡ c.numbers ∷ map (λ c. c.numbers) cs
+    map told_by (cond b (c ∷ cs) cs) ≡ told_by c ∷ map told_by cs
 first_by true c cs h = refl
 first_by false c cs h = absurd (true≢false (sym h))
 
 passed_by : (b : Bool) (c : ConflictRecord) (cs : List ConflictRecord) → b ≡ false →
-    map (λ c. c.numbers) (cond b (c ∷ cs) cs) ≡ map (λ c. c.numbers) cs
+    map told_by (cond b (c ∷ cs) cs) ≡ map told_by cs
 passed_by true c cs h = absurd (true≢false h)
 passed_by false c cs h = refl
 
 -- a package's own
-own_under : (q n : List ℕ) (picked : List (List ℕ)) (rest : List ConflictRecord) → bytes_eq q n ≡ true →
-    numbers_under q (map (named n) picked ++ rest) ≡ picked ++ numbers_under q rest
+own_under : (q n : List ℕ) (picked : List (List ℕ × Bool)) (rest : List ConflictRecord) → bytes_eq q n ≡ true →
+    told_under q (map (named n) picked ++ rest) ≡ picked ++ told_under q rest
 own_under q n [] rest h = refl
 own_under q n (x ∷ picked) rest h =
     first_by (bytes_eq q n) (named n x) (filter (λ c. bytes_eq q c.name) (map (named n) picked ++ rest)) h
     ∙ ap (λ l. x ∷ l) (own_under q n picked rest h)
 
 -- and another one's
-other_under : (q n : List ℕ) (picked : List (List ℕ)) (rest : List ConflictRecord) → bytes_eq q n ≡ false →
-    numbers_under q (map (named n) picked ++ rest) ≡ numbers_under q rest
+other_under : (q n : List ℕ) (picked : List (List ℕ × Bool)) (rest : List ConflictRecord) → bytes_eq q n ≡ false →
+    told_under q (map (named n) picked ++ rest) ≡ told_under q rest
 other_under q n [] rest h = refl
 other_under q n (x ∷ picked) rest h =
     passed_by (bytes_eq q n) (named n x) (filter (λ c. bytes_eq q c.name) (map (named n) picked ++ rest)) h
@@ -226,46 +230,46 @@ not_later q n (y ∷ names) same h =
 
 abbrev Under : List KeptPackage → List (List ℕ) → List ConflictRecord → List ℕ → Type 0
 Under table names found q =
-    ((list_any (bytes_eq q) names ≡ true) × PicksOf (cases_under q table) (numbers_under q found))
-    ⊎ ((list_any (bytes_eq q) names ≡ false) × (numbers_under q found ≡ []))
+    ((list_any (bytes_eq q) names ≡ true) × PicksOf (cases_under q table) (told_under q found))
+    ⊎ ((list_any (bytes_eq q) names ≡ false) × (told_under q found ≡ []))
 
 absent : (table : List KeptPackage) (names : List (List ℕ)) (found : List ConflictRecord) (q : List ℕ) →
-    Under table names found q → list_any (bytes_eq q) names ≡ false → numbers_under q found ≡ []
+    Under table names found q → list_any (bytes_eq q) names ≡ false → told_under q found ≡ []
 absent table names found q (inl there) none = absurd (true≢false (sym there.0 ∙ none))
 absent table names found q (inr h) none = h.1
 
 under_by : (table : List KeptPackage) (n : List ℕ) (names : List (List ℕ)) (found rest : List ConflictRecord)
-    (picked : List (List ℕ)) (q : List ℕ) (b : Bool) → bytes_eq q n ≡ b →
+    (picked : List (List ℕ × Bool)) (q : List ℕ) (b : Bool) → bytes_eq q n ≡ b →
     AllByRecursion (λ y. slice_cmp nat_cmp n y ≡ Less) names → PicksOf (cases_under n table) picked →
     found ≡ map (named n) picked ++ rest → Under table names rest q → Under table (n ∷ names) found q
 under_by table n names found rest picked q true e later picks is below =
     let same : q ≡ n = same_bytes q n e in
     let none = absent table names rest q below (not_later q n names same later) in
-    let numbers : numbers_under q found ≡ picked =
-    ap (numbers_under q) is ∙ own_under q n picked rest e ∙ ap (λ l. picked ++ l) none ∙ append-nil picked in
+    let told : told_under q found ≡ picked =
+    ap (told_under q) is ∙ own_under q n picked rest e ∙ ap (λ l. picked ++ l) none ∙ append-nil picked in
     inl (
       ap (λ b. b || list_any (bytes_eq q) names) e,
-      subst (λ l. PicksOf (cases_under q table) l) (sym numbers)
+      subst (λ l. PicksOf (cases_under q table) l) (sym told)
           (subst (λ m. PicksOf (cases_under m table) picked) (sym same) picks),
     )
 under_by table n names found rest picked q false e later picks is (inl below) =
-    let numbers : numbers_under q found ≡ numbers_under q rest =
-    ap (numbers_under q) is ∙ other_under q n picked rest e in
+    let told : told_under q found ≡ told_under q rest =
+    ap (told_under q) is ∙ other_under q n picked rest e in
     inl (
       ap (λ b. b || list_any (bytes_eq q) names) e ∙ below.0,
-      subst (λ l. PicksOf (cases_under q table) l) (sym numbers) below.1,
+      subst (λ l. PicksOf (cases_under q table) l) (sym told) below.1,
     )
 under_by table n names found rest picked q false e later picks is (inr below) =
     inr (
       ap (λ b. b || list_any (bytes_eq q) names) e ∙ below.0,
-      ap (numbers_under q) is ∙ other_under q n picked rest e ∙ below.1,
+      ap (told_under q) is ∙ other_under q n picked rest e ∙ below.1,
     )
 
 found_under : (table : List KeptPackage) (names : List (List ℕ)) (found : List ConflictRecord) →
     IsStrictlySortedBy (slice_cmp nat_cmp) names → FoundFor table names found → (q : List ℕ) →
     Under table names found q
 unfolding IsStrictlySortedBy
-found_under table [] found rise h q = inr (refl, ap (numbers_under q) h)
+found_under table [] found rise h q = inr (refl, ap (told_under q) h)
 found_under table (n ∷ names) found rise (picked, rest, picks, is, below) q =
     under_by table n names found rest picked q (bytes_eq q n) refl rise.0 picks is
     (found_under table names rest rise.1 below q)
@@ -290,17 +294,17 @@ each_named n table (m ∷ names) found h (picked, rest, picks, is, below) =
     subst (AllByRecursion (NotBefore n)) (sym is)
     (own_and_rest m picked (later_not_before n m h.0) (each_named n table names rest h.1 below))
   where
-    own_and_rest : (m : List ℕ) (picked : List (List ℕ)) → (slice_cmp nat_cmp m n ≡ Less → ⊥) →
+    own_and_rest : (m : List ℕ) (picked : List (List ℕ × Bool)) → (slice_cmp nat_cmp m n ≡ Less → ⊥) →
         AllByRecursion (NotBefore n) rest → AllByRecursion (NotBefore n) (map (named m) picked ++ rest)
     own_and_rest m [] one all = all
     own_and_rest m (x ∷ picked) one all = (one, own_and_rest m picked one all)
 
-with_own : (n : List ℕ) (picked : List (List ℕ)) (rest : List ConflictRecord) →
+with_own : (n : List ℕ) (picked : List (List ℕ × Bool)) (rest : List ConflictRecord) →
     AllByRecursion (NotBefore n) rest → AllByRecursion (NotBefore n) (map (named n) picked ++ rest)
 with_own n [] rest h = h
 with_own n (x ∷ picked) rest h = (own_not_before n, with_own n picked rest h)
 
-own_stand : (n : List ℕ) (picked : List (List ℕ)) (rest : List ConflictRecord) →
+own_stand : (n : List ℕ) (picked : List (List ℕ × Bool)) (rest : List ConflictRecord) →
     AllByRecursion (NotBefore n) rest → StandByName rest → StandByName (map (named n) picked ++ rest)
 own_stand n [] rest h stand = stand
 own_stand n (x ∷ picked) rest h stand = (with_own n picked rest h, own_stand n picked rest h stand)
@@ -319,7 +323,7 @@ abbrev Unnamed : List LineRecord → List ℕ → Type 0
 Unnamed said q = is_named q said ≡ false
 
 conflicts_by : (nodes : List NodeRecord) (table : List KeptPackage) (said : List LineRecord) (q : List ℕ)
-    (picked : List (List ℕ)) (cases : Option (List KeptCase)) → KeepsAll nodes table said →
+    (picked : List (List ℕ × Bool)) (cases : Option (List KeptCase)) → KeepsAll nodes table said →
     AllByRecursion (HasItsCases nodes) table → cases_under q table ≡ cases → PicksOf cases picked →
     AreConflicts (lines_of q said) picked
 conflicts_by nodes table said q picked None keeps has is picks =
@@ -332,11 +336,11 @@ conflicts_by nodes table said q picked (Some cases) keeps has is picks =
 conflicts_under : (nodes : List NodeRecord) (table : List KeptPackage) (said : List LineRecord)
     (names : List (List ℕ)) (found : List ConflictRecord) (q : List ℕ) → KeepsAll nodes table said →
     AllByRecursion (HasItsCases nodes) table → list_any (bytes_eq q) names ≡ is_named q said →
-    Under table names found q → AreConflicts (lines_of q said) (numbers_under q found)
+    Under table names found q → AreConflicts (lines_of q said) (told_under q found)
 conflicts_under nodes table said names found q keeps has are (inl there) =
-    conflicts_by nodes table said q (numbers_under q found) (cases_under q table) keeps has refl there.1
+    conflicts_by nodes table said q (told_under q found) (cases_under q table) keeps has refl there.1
 conflicts_under nodes table said names found q keeps has are (inr none) =
-    none_conflict (lines_of q said) (numbers_under q found)
+    none_conflict (lines_of q said) (told_under q found)
     (unnamed (λ line. is_of q line.front) said (sym are ∙ none.0)) none.1
 
 or_nothing : (b : Bool) → (b || false) ≡ b
@@ -348,7 +352,7 @@ pub all_conflicts : (vars : Variables) (old nodes : List NodeRecord) (lines : Li
     AllZip (StandsFor vars old) lines said → KeepsAll nodes table said →
     AllByRecursion (HasItsCases nodes) table → IsStrictlySortedBy (slice_cmp nat_cmp) names →
     ((q : List ℕ) → list_any (bytes_eq q) names ≡ (list_any (is_under q) lines || false)) →
-    FoundFor table names found → (q : List ℕ) → AreConflicts (lines_of q said) (numbers_under q found)
+    FoundFor table names found → (q : List ℕ) → AreConflicts (lines_of q said) (told_under q found)
 all_conflicts vars old nodes lines said table names found stand keeps has rise are h q =
     conflicts_under nodes table said names found q keeps has
     (are q ∙ or_nothing (list_any (is_under q) lines) ∙ named_alike vars old lines said q stand)

@@ -12,7 +12,7 @@ use Rattle.reqtable_table.specs.Casing.{case_record}
 use Rattle.reqtable_table.specs.declared.table.Case.{Case}
 use Rattle.reqtable_table.specs.Kept.{KeptCase, KeptPackage}
 use Rattle.reqtable_conflicts.specs.Contradictions.{ConflictRecord, HasNoPoint}
-use Rattle.reqtable_conflicts.specs.Picking.{Picks, PicksOf, AddsPicked, FoundFor, named}
+use Rattle.reqtable_conflicts.specs.Picking.{Picks, PicksOf, AddsPicked, FoundFor, told, named}
 
 abbrev Set : Type 0
 Set = List (Point VersionRecord)
@@ -30,21 +30,21 @@ has_none case set r some is tells = (
       (λ p. subst (λ s. holds_at version_cmp s p ≡ false) (ap (in_or set) (sym h.ranged ∙ is)) (h.none p)),
 )
 
-pub picked_more : (cases : List KeptCase) (picked : List (List ℕ)) (case : KeptCase) → Picks cases picked →
-    HasNoPoint case → Picks (cases ++ case ∷ []) (picked ++ case.numbers ∷ [])
-picked_more [] picked case h none = inl (none, ([], ap (λ l. l ++ case.numbers ∷ []) h, refl))
+pub picked_more : (cases : List KeptCase) (picked : List (List ℕ × Bool)) (case : KeptCase) → Picks cases picked →
+    HasNoPoint case → Picks (cases ++ case ∷ []) (picked ++ told case ∷ [])
+picked_more [] picked case h none = inl (none, ([], ap (λ l. l ++ told case ∷ []) h, refl))
 picked_more (c ∷ cases) picked case (inl (one, (rest, is, below))) none =
     inl (
       one,
       (
-        rest ++ case.numbers ∷ [],
-        ap (λ l. l ++ case.numbers ∷ []) is,
+        rest ++ told case ∷ [],
+        ap (λ l. l ++ told case ∷ []) is,
         picked_more cases rest case below none,
       ),
     )
 picked_more (c ∷ cases) picked case (inr (never, below)) none = inr (never, picked_more cases picked case below none)
 
-pub passed_more : (cases : List KeptCase) (picked : List (List ℕ)) (case : KeptCase) → Picks cases picked →
+pub passed_more : (cases : List KeptCase) (picked : List (List ℕ × Bool)) (case : KeptCase) → Picks cases picked →
     (HasNoPoint case → ⊥) → Picks (cases ++ case ∷ []) picked
 passed_more [] picked case h some = inr (some, h)
 passed_more (c ∷ cases) picked case (inl (one, (rest, is, below))) some =
@@ -53,15 +53,15 @@ passed_more (c ∷ cases) picked case (inr (never, below)) some = inr (never, pa
 
 -- a case that was added, or passed over
 pub added_more : (name : List ℕ) (cases : List KeptCase) (case : KeptCase) (old new more : List ConflictRecord) →
-    AddsPicked name cases old new → HasNoPoint case → more ≡ new ++ named name case.numbers ∷ [] →
+    AddsPicked name cases old new → HasNoPoint case → more ≡ new ++ named name (told case) ∷ [] →
     AddsPicked name (cases ++ case ∷ []) old more
 added_more name cases case old new more (picked, picks, is) none grown = (
-  picked ++ case.numbers ∷ [],
+  picked ++ told case ∷ [],
   picked_more cases picked case picks none,
   grown
-      ∙ ap (λ l. l ++ named name case.numbers ∷ []) is
-      ∙ append_assoc old (map (named name) picked) (named name case.numbers ∷ [])
-      ∙ ap (λ l. old ++ l) (sym (map-append (named name) picked (case.numbers ∷ []))),
+      ∙ ap (λ l. l ++ named name (told case) ∷ []) is
+      ∙ append_assoc old (map (named name) picked) (named name (told case) ∷ [])
+      ∙ ap (λ l. old ++ l) (sym (map-append (named name) picked (told case ∷ []))),
 )
 
 pub added_same : (name : List ℕ) (cases : List KeptCase) (case : KeptCase) (old new : List ConflictRecord) →
@@ -71,7 +71,7 @@ added_same name cases case old new (picked, picks, is) some =
 
 -- one package after another
 pub found_more : (table : List KeptPackage) (names : List (List ℕ)) (name : List ℕ)
-    (found more : List ConflictRecord) (picked : List (List ℕ)) → FoundFor table names found →
+    (found more : List ConflictRecord) (picked : List (List ℕ × Bool)) → FoundFor table names found →
     PicksOf (cases_under name table) picked → more ≡ found ++ map (named name) picked →
     FoundFor table (names ++ name ∷ []) more
 found_more table [] name found more picked h picks grown =
@@ -95,7 +95,7 @@ next_case cases i case lt is =
 
 pub picks_next : (name : List ℕ) (cases : List Case) (i : ℕ) (case : Case) (old new more : List ConflictRecord) →
     i < length cases → case ≡ get_or cases i case → AddsPicked name (map case_record (take i cases)) old new →
-    HasNoPoint (case_record case) → more ≡ new ++ named name case.lines.items ∷ [] →
+    HasNoPoint (case_record case) → more ≡ new ++ named name (told (case_record case)) ∷ [] →
     AddsPicked name (map case_record (take (i + 1) cases)) old more
 picks_next name cases i case old new more lt is h none grown =
     subst (λ cs. AddsPicked name cs old more) (next_case cases i case lt is)
@@ -109,7 +109,7 @@ passes_next name cases i case old new lt is h some =
     (added_same name (map case_record (take i cases)) (case_record case) old new h some)
 
 pub found_next : (table : List KeptPackage) (names : List (Bor (List ℕ))) (i : ℕ) (name : Bor (List ℕ))
-    (found more : List ConflictRecord) (picked : List (List ℕ)) → i < length names → name ≡ get_or names i name →
+    (found more : List ConflictRecord) (picked : List (List ℕ × Bool)) → i < length names → name ≡ get_or names i name →
     FoundFor table (map (λ n. n.now) (take i names)) found → PicksOf (cases_under name.now table) picked →
     more ≡ found ++ map (named name.now) picked → FoundFor table (map (λ n. n.now) (take (i + 1) names)) more
 found_next table names i name found more picked lt is h picks grown =

@@ -27,12 +27,13 @@ use Rattle.reqtable_requirements.specs.LineReading.{LineRecord}
 use Rattle.reqtable_requirements.proofs.Specifiers.{BuiltLaw}
 use Rattle.reqtable_cases.specs.Lines.{line_marks, numbers_of, asked_by}
 use Rattle.reqtable_cases.specs.Usable.{members_asked, is_ranged}
-use Rattle.reqtable_cases.specs.Conflicts.{IsConflict, AreConflicts}
+use Rattle.reqtable_cases.specs.Conflicts.{IsConflict, told_of, AreConflicts}
 use Rattle.reqtable_cases.proofs.Taken.{conflicts_take_none}
-use Rattle.reqtable_conflicts.specs.Contradictions.{ConflictRecord, numbers_under}
+use Rattle.reqtable_conflicts.specs.Contradictions.{ConflictRecord, told_under}
 use Rattle.reqtable_conflicts.specs.NothingTaken.{ApplySomewhere, TakesNoPlain, HasNothing, EachFound}
 use Rattle.reqtable_conflicts.proofs.Numbered.{number_of, Rise, rise_kept, same_marked, applying_marked}
 use Rattle.reqtable_conflicts.proofs.Numbered.{numbers_alike}
+use Rattle.reqtable_conflicts.proofs.Conflicting.{told_by}
 use Rattle.reqtable_conflicts.proofs.ReadFrom.{said_read}
 
 -- ---- what is asked of a package is what its lines ask for
@@ -64,6 +65,10 @@ its_asks v name (line ∷ lines) =
 
 -- ---- each conflict by itself
 
+-- what is said of a conflict's numbers, whatever is told beside them
+abbrev OfNumbers : (List ℕ → Type 0) → List ℕ × Bool → Type 0
+OfNumbers P one = P one.0
+
 -- numbers are those of a set of lines that contradict each other
 record AreOfConflict (lines : List LineRecord) (numbers : List ℕ) : Type 0 where
   set : Marks
@@ -74,33 +79,33 @@ record AreOfConflict (lines : List LineRecord) (numbers : List ℕ) : Type 0 whe
 each_set : (lines : List LineRecord) (sets : List Marks) →
     AllByRecursion (IsRealised (line_marks lines)) sets →
     AllByRecursion (λ set. IsConflict (asked_by set lines)) sets →
-    AllByRecursion (AreOfConflict lines) (map (λ set. numbers_of set lines) sets)
+    AllByRecursion (OfNumbers (AreOfConflict lines)) (map (λ set. told_of set lines) sets)
 each_set lines [] realised conflicts = tt
 each_set lines (set ∷ sets) realised conflicts = (
   record { set = set; realised = realised.0; conflict = conflicts.0; are = refl },
   each_set lines sets realised.1 conflicts.1,
 )
 
-of_conflicts : (lines : List LineRecord) (numbers : List (List ℕ)) → AreConflicts lines numbers →
-    AllByRecursion (AreOfConflict lines) numbers
-of_conflicts lines numbers are =
-    subst (AllByRecursion (AreOfConflict lines)) (sym are.numbers)
+of_conflicts : (lines : List LineRecord) (found : List (List ℕ × Bool)) → AreConflicts lines found →
+    AllByRecursion (OfNumbers (AreOfConflict lines)) found
+of_conflicts lines found are =
+    subst (AllByRecursion (OfNumbers (AreOfConflict lines))) (sym are.told)
     (each_set lines are.sets are.realised are.conflicts)
 
 own_by : (P : List ℕ → Type 0) (b : Bool) (c : ConflictRecord) (cs : List ConflictRecord) → b ≡ true →
-    AllByRecursion P (map (λ c. c.numbers) (cond b (c ∷ cs) cs)) → P c.numbers
+    AllByRecursion (OfNumbers P) (map told_by (cond b (c ∷ cs) cs)) → P c.numbers
 own_by P true c cs e h = h.0
 own_by P false c cs e h = absurd (true≢false (sym e))
 
 behind_by : (P : List ℕ → Type 0) (b : Bool) (c : ConflictRecord) (cs : List ConflictRecord) →
-    AllByRecursion P (map (λ c. c.numbers) (cond b (c ∷ cs) cs)) →
-    AllByRecursion P (map (λ c. c.numbers) cs)
+    AllByRecursion (OfNumbers P) (map told_by (cond b (c ∷ cs) cs)) →
+    AllByRecursion (OfNumbers P) (map told_by cs)
 behind_by P true c cs h = h.1
 behind_by P false c cs h = h
 
 -- what holds of the numbers under each name holds of each
 each_named : (P : List ℕ → List ℕ → Type 0) (found : List ConflictRecord) →
-    ((name : List ℕ) → AllByRecursion (P name) (numbers_under name found)) →
+    ((name : List ℕ) → AllByRecursion (OfNumbers (P name)) (told_under name found)) →
     AllByRecursion (λ c. P c.name c.numbers) found
 each_named P [] h = tt
 each_named P (c ∷ found) h = (
@@ -233,15 +238,16 @@ from_each P each vars nodes requirements said limit found read stand finds =
     let rise = subst (IsStrictlySortedBy nat_cmp) (numbers_alike vars nodes requirements said stand) read.rising in
     let texts = said_read vars nodes requirements said stand read.read in
     All-from_recursion (λ (c : ConflictRecord). P said c.name c.numbers) found (each_named (P said) found (λ name.
-    given_each said name rise texts (numbers_under name found)
-    (of_conflicts (lines_of name said) (numbers_under name found) (finds.2 name))))
+    given_each said name rise texts (told_under name found)
+    (of_conflicts (lines_of name said) (told_under name found) (finds.2 name))))
   where
     given_each : (said : List LineRecord) (name : List ℕ) → Rise said →
-        All (λ line. All IsReadFromText (specifiers_of line.front.source)) said → (found : List (List ℕ)) →
-        AllByRecursion (AreOfConflict (lines_of name said)) found → AllByRecursion (P said name) found
+        All (λ line. All IsReadFromText (specifiers_of line.front.source)) said →
+        (found : List (List ℕ × Bool)) → AllByRecursion (OfNumbers (AreOfConflict (lines_of name said))) found →
+        AllByRecursion (OfNumbers (P said name)) found
     given_each said name rise texts [] own = tt
-    given_each said name rise texts (numbers ∷ found) own =
-        (each said rise texts name numbers own.0, given_each said name rise texts found own.1)
+    given_each said name rise texts (one ∷ found) own =
+        (each said rise texts name one.0 own.0, given_each said name rise texts found own.1)
 
 module _ (built : BuiltLaw) (ends : EndsLaw) where
   pub each_somewhere : EachFound ApplySomewhere

@@ -1,5 +1,6 @@
 -- The conflicts that a list's lines have.
-use Rattle.std.specs.Prelude.{◌≡◌, ◌<◌, ℕ, false, List, [], ◌∷◌, length, map, filter, Some, Result, Ok, Err}
+use Rattle.std.specs.Prelude.{◌≡◌, ◌<◌, ℕ, Bool, false, List, [], ◌∷◌, length, map, filter}
+use Rattle.std.specs.Prelude.{Some, Result, Ok, Err}
 use Rattle.std.specs.List.{AllByRecursion}
 use Rattle.std.specs.Ordering.{nat_cmp}
 use Rattle.std.specs.Cmp.Lexicographic.{slice_cmp}
@@ -18,17 +19,19 @@ use Rattle.reqtable_table.specs.declared.table.TableError.TheVariants.{TooManyCa
 use Rattle.reqtable_table.specs.Kept.{KeptCase}
 use Rattle.reqtable_conflicts.specs.declared.contradicting.Conflict.{Conflict}
 
--- some lines of a package, by their numbers
+-- some lines of a package, by their numbers, and whether some specifier of them has a pre-release
 pub record ConflictRecord : Type 0 where
   pub name : List ℕ
   pub numbers : List ℕ
+  pub prerelease : Bool
 
 abbrev pub conflict_record : Conflict → ConflictRecord
-conflict_record found = record { name = found.package; numbers = found.lines.items }
+conflict_record found =
+    record { name = found.package; numbers = found.lines.items; prerelease = found.pre }
 
 -- those of a package, in their order
-abbrev pub numbers_under : List ℕ → List ConflictRecord → List (List ℕ)
-numbers_under name found = map (λ c. c.numbers) (filter (λ c. bytes_eq name c.name) found)
+abbrev pub told_under : List ℕ → List ConflictRecord → List (List ℕ × Bool)
+told_under name found = map (λ c. (c.numbers, c.prerelease)) (filter (λ c. bytes_eq name c.name) found)
 
 -- none stands behind one of a later name
 abbrev pub StandByName : List ConflictRecord → Type 0
@@ -42,7 +45,7 @@ abbrev pub FindsConflicts : {X : Type 0} → (X → List ConflictRecord) → ℕ
     → Result X TableError → Type 0
 FindsConflicts view limit said (Ok found) =
     ((name : List ℕ) → HasTooMany limit said name → ⊥) × StandByName (view found)
-    × ((name : List ℕ) → AreConflicts (lines_of name said) (numbers_under name (view found)))
+    × ((name : List ℕ) → AreConflicts (lines_of name said) (told_under name (view found)))
 FindsConflicts view limit said (Err (TooManyCases name)) = IsFirstTooMany limit said name
 FindsConflicts view limit said (Err Memory) = Unit {0}
 

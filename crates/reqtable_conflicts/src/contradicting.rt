@@ -10,7 +10,7 @@ ghost use Rattle.reqtable_requirements.specs.LineReading.{LineRecord};
 ghost use Rattle.reqtable_requirements.specs.Requirements.{StandsFor};
 ghost use Rattle.reqtable_table.specs.Casing.{case_record};
 ghost use Rattle.reqtable_conflicts.specs.Contradictions.{conflict_record, FindsConflicts, HasNoPoint};
-ghost use Rattle.reqtable_conflicts.specs.Picking.{AddsPicked, FoundFor, named};
+ghost use Rattle.reqtable_conflicts.specs.Picking.{AddsPicked, FoundFor, told, named};
 
 use crate::lent_table::table_of;
 use crate::names::package_names;
@@ -27,6 +27,9 @@ pub struct Conflict {
     pub package: PackageName,
     /// The numbers of the lines in their text, from 1, which rise.
     pub lines: Vec<usize>,
+    /// Whether a specifier of these lines has a pre-release or developmental release (PEP 440, "Handling of
+    /// pre-releases").
+    pub pre: bool,
 }
 
 /// The lines of each package that contradict each other: its cases of some line whose specifiers have no
@@ -87,7 +90,7 @@ fn add_conflicts(
 {
     for case in cases {
         if is_conflict(case) {
-            push_conflict(alloc, found, name, &case.lines)?;
+            push_conflict(alloc, found, name, case)?;
         }
     }
     Ok(())
@@ -97,14 +100,17 @@ fn push_conflict(
     alloc: Global,
     found: &mut Vec<Conflict>,
     name: &PackageName,
-    numbers: &[usize],
+    case: &Case,
 ) -> Result<(), AllocError>
     ensures { OnOk result (map conflict_record found.new.items
-        ≡ map conflict_record found.old.items ++ named name.now numbers.now ∷ []) }
+        ≡ map conflict_record found.old.items ++ named name.now (told (case_record case.now)) ∷ []) }
 {
-    let package = name.try_clone(alloc)?;
-    let lines = copied(alloc, numbers)?;
-    found.push(Conflict { package, lines })?;
+    let conflict = Conflict {
+        package: name.try_clone(alloc)?,
+        lines: copied(alloc, &case.lines)?,
+        pre: case.pre,
+    };
+    found.push(conflict)?;
     Ok(())
 }
 

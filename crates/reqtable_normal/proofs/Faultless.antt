@@ -3,7 +3,7 @@ use Rattle.std.proofs.Common.{◌≡◌, Bool, true, false, if◌then◌else◌,
 use Rattle.pep508_marker_text.specs.ReleaseBounds.{HasReleasesAlone}
 use Rattle.pep508_questions.specs.Asks.{asks_any, has_quote, is_of_deprecated_key, is_other_bound}
 use Rattle.pep508_questions.proofs.Unasked.{unquoted, modern, releases}
-use Rattle.pep508_reading_back.specs.Questions.{AllQuestions}
+use Rattle.pep508_diagram.specs.Questions.{AllQuestions}
 use Rattle.pep508_reading_back.specs.Unquoted.{AsksUnquoted, AsksOfModernKey}
 use Rattle.reqtable_answer.specs.Asks.{has_url}
 use Rattle.reqtable_normal.specs.declared.error.NormalCause.{NormalCause}

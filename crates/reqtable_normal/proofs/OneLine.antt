@@ -19,7 +19,7 @@ use Rattle.pep508_requirement_ref.specs.RequirementPrint.{marker_part}
 use Rattle.pep508_requirement_text.specs.FrontReading.{Front, Source}
 use Rattle.pep508_requirement_text.specs.FrontReading.Source.{Any, Specifiers, Url}
 use Rattle.pep508_reading_back.specs.Lines.{IsPieceOf, IsLine}
-use Rattle.pep508_reading_back.specs.Questions.{AllQuestions}
+use Rattle.pep508_diagram.specs.Questions.{AllQuestions}
 use Rattle.pep508_reading_back.specs.ReadableRequirements.{IsReadableFront, NamesNoUrl}
 use Rattle.pep508_reading_back.specs.Told.{AsksOf}
 use Rattle.pep508_reading_back.proofs.Comparisons.{plain_name}

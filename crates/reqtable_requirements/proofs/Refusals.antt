@@ -9,8 +9,8 @@ use Rattle.pep508_marker_read.specs.SideReading as markers
 use Rattle.pep508_marker_read.specs.MarkerReading.{Marker, marker_at}
 use Rattle.pep508_requirement_text.specs.FrontReading.{Source, Front, Refused, front_reading}
 use Rattle.pep508_requirement_text.specs.FrontReading.Source.{Any, Specifiers, Url}
-use Rattle.pep508_requirement_text.proofs.Tests.{the_same}
-use Rattle.pep508_requirement_text.proofs.CharacterCuts.{spaces_found, spaces_again}
+use Rattle.pep508_error.proofs.Tests.{the_same}
+use Rattle.pep508_error.proofs.Spaces.{spaces_found, spaces_again}
 use Rattle.pep508_requirement.specs.MarkerBehind.{marker_behind}
 use Rattle.pep508_requirement.proofs.Behind.{FoundLaw, AgainLaw}
 use Rattle.pep508_requirement.proofs.Requirements.{FrontFound, FrontAgain}

@@ -3,3 +3,4 @@ pub mod Sorted
 pub mod Falling
 pub mod Gaps
 pub mod Passing
+pub mod Stopping

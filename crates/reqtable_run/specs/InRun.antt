@@ -1,12 +1,15 @@
 -- The candidates of a package from the greatest version down, and where those stand of which a range doesn't
 -- tell.
-use Rattle.std.specs.Prelude.{◌≡◌, ℕ, suc, Bool, true, false, List, [], ◌∷◌, if◌then◌else◌}
+use Rattle.std.specs.Prelude.{◌≡◌, ◌⊎◌, ◌<◌, ℕ, suc, Bool, true, false, List, [], ◌∷◌, length, get_or}
+use Rattle.std.specs.Prelude.{Option, Some, None, if◌then◌else◌}
 use Rattle.std.specs.List.{AllByRecursion}
 use Rattle.std.specs.Ordering.{is_le}
+use Rattle.version_ranges.specs.Held.{holds_at}
+use Rattle.version_ranges.specs.Point.{Point, At}
 use Rattle.pep440_version.specs.Order.{version_cmp}
 use Rattle.pep440_version.specs.Record.{VersionRecord}
 use Rattle.reqtable_text.specs.declared.ordered.Placed.{Placed}
-use Rattle.reqtable_run.specs.Told.{is_told}
+use Rattle.reqtable_run.specs.Told.{is_told, TurnsBetween}
 
 abbrev pub version_of : Placed → VersionRecord
 version_of placed = placed.candidate.now.version
@@ -29,3 +32,21 @@ pub record IsRun (placed : List Placed) (untold untold_by_bounds : List ℕ) : T
   pub falls : Falls placed
   pub untold_are : untold ≡ untold_from false 0 placed
   pub bounded_are : untold_by_bounds ≡ untold_from true 0 placed
+
+-- one of some places
+pub record IsOneOf (places : List ℕ) (place : ℕ) : Type 0 where
+  pub at : ℕ
+  pub within : at < length places
+  pub is : place ≡ get_or places at place
+
+-- a range doesn't tell of the lower of two versions, or it turns between them
+abbrev pub MayDiffer : Bool → List (Point VersionRecord) → VersionRecord → VersionRecord → Type 0
+MayDiffer bounded set low high = (is_told bounded low ≡ false) ⊎ TurnsBetween set low high
+
+-- behind a candidate that a range doesn't hold, the search stops at none that could be passed over
+abbrev pub StopsLate : Bool → Option (List (Point VersionRecord)) → List Placed → ℕ → ℕ → Type 0
+StopsLate bounded None placed at next = Unit {0}
+StopsLate bounded (Some set) placed at next =
+    (d : Placed) → holds_at version_cmp set (At (version_of (get_or placed at d))) ≡ false →
+    next < length placed →
+    MayDiffer bounded set (version_of (get_or placed next d)) (version_of (get_or placed at d))

@@ -1,8 +1,10 @@
 -- Of which versions the range of some specifiers tells: bounded ones, of which one is `<` or `>`, or others.
 use Rattle.std.specs.Prelude.{◌≡◌, ◌==◌, ◌&&◌, ◌||◌, Bool, true, false, not, List, length}
 use Rattle.std.specs.Prelude.{Option, Some, None, is_none}
+use Rattle.std.specs.List.{list_any}
 use Rattle.version_ranges.specs.Held.{holds_at}
-use Rattle.version_ranges.specs.Point.{Point, At}
+use Rattle.version_ranges.specs.Point.{Point, At, point_cmp}
+use Rattle.version_ranges.specs.Turns.{reaches}
 use Rattle.pep440_version.specs.Order.{version_cmp}
 use Rattle.pep440_version.specs.Record.{VersionRecord}
 use Rattle.pep440_operator.specs.declared.operator.Operator.{Operator}
@@ -32,6 +34,11 @@ is_plain version = length version.local == 0 && is_none version.post
 -- too
 abbrev pub is_told : Bool → VersionRecord → Bool
 is_told bounded version = length version.local == 0 && (is_none version.post || not bounded)
+
+-- a set turns between a version and a higher one: membership isn't the same all along
+abbrev pub TurnsBetween : List (Point VersionRecord) → VersionRecord → VersionRecord → Type 0
+TurnsBetween set low high = list_any (λ turn. reaches (point_cmp version_cmp) turn (At high)
+    && not (reaches (point_cmp version_cmp) turn (At low))) set ≡ true
 
 -- there is a range, which tells of the version and doesn't hold it
 abbrev pub IsPassed : Bool → Option (List (Point VersionRecord)) → VersionRecord → Type 0

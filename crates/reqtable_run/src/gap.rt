@@ -1,6 +1,6 @@
 //! The candidates between two boundaries of a set.
 
-ghost use Rattle.std.specs.Prelude.{◌≡◌, ◌≤◌, ◌<◌, Bool, true, false, length, get_or};
+ghost use Rattle.std.specs.Prelude.{◌≡◌, ◌≤◌, ◌<◌, Bool, true, false, length, map, get_or};
 ghost use Rattle.std.specs.List.{AllWithin};
 ghost use Rattle.std.specs.List.Sorted.{IsPartitionPoint};
 ghost use Rattle.version_ranges.specs.Boundaries.{point_of, boundary_cmp, turns_of};
@@ -9,6 +9,7 @@ ghost use Rattle.version_ranges.specs.Point.{At, point_cmp};
 ghost use Rattle.version_ranges.specs.Turns.{reaches, Rising};
 ghost use Rattle.pep440_version.specs.Order.{version_cmp};
 ghost use Rattle.reqtable_run.specs.InRun.{version_of, Falls};
+ghost use Rattle.reqtable_run.specs.Told.{TurnsBetween};
 
 use pep440_version::Version;
 use reqtable_text::Placed;
@@ -26,6 +27,8 @@ pub(crate) fn gap_end(placed: &[Placed<'_>], at: usize, boundaries: &[Boundary<V
         holds_at version_cmp (turns_of starts boundaries.now) (At (version_of x))
         ≡ holds_at version_cmp (turns_of starts boundaries.now)
         (At (version_of (get_or placed.now at x)))) placed.now at result }
+    ensures far { (d : _) → result < length placed.now → TurnsBetween (map point_of boundaries.now)
+        (version_of (get_or placed.now result d)) (version_of (get_or placed.now at d)) }
 {
     let candidate = placed[at].candidate;
     let reached = reached(boundaries, &candidate.version);

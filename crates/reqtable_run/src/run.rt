@@ -4,7 +4,7 @@ ghost use Rattle.std.specs.Prelude.{◌≡◌, ◌≤◌, ◌<◌, ◌+◌, leng
 ghost use Rattle.std.specs.List.{AllWithin};
 ghost use Rattle.std.specs.Str.{bytes_eq};
 ghost use Rattle.reqtable_text.specs.Ordered.{placed_seen};
-ghost use Rattle.reqtable_run.specs.InRun.{version_of, untold_from};
+ghost use Rattle.reqtable_run.specs.InRun.{version_of, untold_from, StopsLate};
 ghost use Rattle.reqtable_run.specs.Told.{IsPassed};
 
 use crate::gap::gap_end;
@@ -40,8 +40,8 @@ impl<'o, 'a> Model for Run<'o, 'a> {
 
 impl<'o, 'a> Run<'o, 'a> {
     /// The candidates of a package. They are found in O(log n) comparisons of names for n candidates of all
-    /// packages, and each of them is looked at twice. Memory for the place of each that has a local part or is
-    /// a post-release.
+    /// packages, and each of them is looked at twice. Memory for the place of each that has a local part or
+    /// is a post-release.
     pub fn of(
         alloc: Global,
         ordered: &'o Ordered<'a>,
@@ -88,6 +88,7 @@ impl<'o, 'a> Run<'o, 'a> {
         ensures behind { at < result }
         ensures within { result ≤ length self.now }
         ensures passed { AllWithin (λ x. IsPassed bounded range.now (version_of x)) self.now (at + 1) result }
+        ensures far { StopsLate bounded range.now self.now at result }
     {
         let placed = self.placed;
         let Some(set) = range else {

@@ -1,10 +1,10 @@
 //! Of which versions a range tells, and where those stand of which it doesn't.
 
-ghost use Rattle.std.specs.Prelude.{◌≡◌, ◌≤◌, ◌<◌, length, IfOk};
+ghost use Rattle.std.specs.Prelude.{◌≡◌, ◌⊎◌, ◌≤◌, ◌<◌, length, IfOk};
 ghost use Rattle.std.specs.List.{list_any, AllByRecursion};
 ghost use Rattle.std.specs.List.Sorted.{IsNonDecreasing, IsPartitionPoint};
 ghost use Rattle.reqtable_run.specs.Told.{is_told, is_bound};
-ghost use Rattle.reqtable_run.specs.InRun.{untold_from};
+ghost use Rattle.reqtable_run.specs.InRun.{untold_from, IsOneOf};
 
 use pep440_specifier::{Operator, VersionSpecifier};
 use pep440_version::Version;
@@ -27,7 +27,8 @@ pub fn has_bound(specifiers: &[VersionSpecifier]) -> bool
         .any(|specifier| is_bound(specifier.operator()))
 }
 
-fn is_bound(operator: Operator) -> bool
+/// Whether an operator is `<` or `>`.
+pub fn is_bound(operator: Operator) -> bool
     ensures { result ≡ is_bound operator }
 {
     match operator {
@@ -67,6 +68,7 @@ pub(crate) fn next_place(places: &[usize], at: usize, end: usize) -> usize
     ensures behind { at < result }
     ensures within { result ≤ end }
     ensures next { AllByRecursion (λ place. at < place → result ≤ place) places.now }
+    ensures one { (result ≡ end) ⊎ IsOneOf places.now result }
 {
     let past = places_upto(places, at);
     if past == places.len() {

@@ -25,7 +25,6 @@ same_line line = record {
   marker = refl;
   url = refl;
   bounded = refl;
-  prerelease = refl;
   members = refl;
 }
 
@@ -36,7 +35,6 @@ same_then a b c s t = record {
   marker = s.marker ∙ t.marker;
   url = s.url ∙ t.url;
   bounded = s.bounded ∙ t.bounded;
-  prerelease = s.prerelease ∙ t.prerelease;
   members = s.members ∙ t.members;
 }
 

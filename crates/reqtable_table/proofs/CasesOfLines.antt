@@ -22,7 +22,7 @@ use Rattle.reqtable_cases.specs.Lines.{marked, numbers_of, asked_by, is_named}
 use Rattle.reqtable_cases.specs.Usable.{members_asked, is_ranged, is_usable, points_of, IsRangeOf}
 use Rattle.reqtable_table.specs.Kept.{KeptLine, KeptCase, KeptPackage, Keeps, KeepsAll, names_in, kept_front}
 use Rattle.reqtable_table.specs.Cases.{IsCaseOf, HasItsCases, IsCaseOfLines, AreCasesOf, cases_under}
-use Rattle.reqtable_table.proofs.RowsOfLines.{AsksAlike, front_kept, own_lines, IsKept, each_kept}
+use Rattle.reqtable_table.proofs.RowsOfLines.{AsksAlike, front_kept, say_the_same, own_lines, IsKept, each_kept}
 use Rattle.reqtable_table.proofs.Said.{marks_said}
 
 -- ---- asks that are alike have one range
@@ -90,6 +90,8 @@ each_case nodes kept lines h (case ∷ cases) (set ∷ sets) are = (
     numbers = are.0.numbers ∙ numbers_alike nodes set.0 kept lines h;
     tree = are.0.tree;
     range = same_range (map kept_front (marked set.0 kept)) (asked_by set.0 lines) case.range (asks_alike nodes set.0 kept lines h) are.0.range;
+    prerelease = are.0.prerelease
+        ∙ (say_the_same (map kept_front (marked set.0 kept)) (asked_by set.0 lines) (asks_alike nodes set.0 kept lines h)).prereleases;
   },
   each_case nodes kept lines h cases sets are.1,
 )

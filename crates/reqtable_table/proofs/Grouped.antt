@@ -7,14 +7,20 @@ use Rattle.std.proofs.lemmas.List.Folds.{list_any-append}
 use Rattle.std.proofs.lemmas.Cmp.{nat_list_eq_equiv}
 use Rattle.std.specs.List.{list_any, dedup}
 use Rattle.std.specs.Str.{bytes_eq}
-use Rattle.reqtable_requirements.specs.declared.requirements.Line.{Line}
 use Rattle.reqtable_table.specs.declared.given.Given.{Given}
+use Rattle.reqtable_table.specs.declared.given.NamedGiven.{NamedGiven}
 use Rattle.reqtable_table.specs.declared.grouping.Group.{Group}
-use Rattle.reqtable_table.specs.Given.{given_by, name_in, names_of, is_under, group_names, lines_under, lines_in, AreSoFar, IsNewGroup, IsInLast, IsOfOther, IsAdded}
+use Rattle.reqtable_table.specs.Given.{is_beside, group_names, lines_under, lines_in, AreSoFar, IsNewGroup, IsInLast, IsOfOther, IsAdded}
 use Rattle.reqtable_table.proofs.Names.{same_again, other_again, same_last, some_last, not_none}
 
 abbrev pub kept_for : List ℕ → Group → List Given
 kept_for q g = cond (bytes_eq q g.name) g.lines.items []
+
+abbrev pub name_of : NamedGiven → List ℕ
+name_of line = line.name
+
+abbrev pub given_in : NamedGiven → Given
+given_in line = line.given
 
 pub none_so_far : AreSoFar [] []
 none_so_far = record { names = refl; named = λ q. refl; each = λ q. refl; all = refl }
@@ -41,29 +47,29 @@ other_names name (g ∷ groups) other front last e =
     subst (λ n. bytes_eq name n ≡ false) (same_last (group_names found.0) front found.1.name last named)
     (other found.0 found.1 found.2)
 
-one_by : (b : Bool) (line : Line) → map given_by (cond b (line ∷ []) []) ≡ cond b (given_by line ∷ []) []
+one_by : (b : Bool) (line : NamedGiven) → map given_in (cond b (line ∷ []) []) ≡ cond b (line.given ∷ []) []
 one_by true line = refl
 one_by false line = refl
 
-module _ (lines : List Line) (line : Line) (old new : List Group) where
+module _ (lines : List NamedGiven) (line : NamedGiven) (old new : List Group) where
   abbrev name : List ℕ
-  name = name_in line
+  name = line.name
 
-  abbrev grown : List Line
+  abbrev grown : List NamedGiven
   grown = lines ++ line ∷ []
 
   lines_more : (q : List ℕ) →
-      map given_by (filter (is_under q) grown)
-      ≡ map given_by (filter (is_under q) lines) ++ cond (bytes_eq q name) (given_by line ∷ []) []
+      map given_in (filter (is_beside q) grown)
+      ≡ map given_in (filter (is_beside q) lines) ++ cond (bytes_eq q name) (line.given ∷ []) []
   lines_more q =
-      ap (map given_by) (filter-append (is_under q) lines (line ∷ []))
-      ∙ map-append given_by (filter (is_under q) lines) (filter (is_under q) (line ∷ []))
-      ∙ ap (λ l. map given_by (filter (is_under q) lines) ++ l) (one_by (bytes_eq q name) line)
+      ap (map given_in) (filter-append (is_beside q) lines (line ∷ []))
+      ∙ map-append given_in (filter (is_beside q) lines) (filter (is_beside q) (line ∷ []))
+      ∙ ap (λ l. map given_in (filter (is_beside q) lines) ++ l) (one_by (bytes_eq q name) line)
 
-  any_more : (q : List ℕ) → list_any (is_under q) grown ≡ (list_any (is_under q) lines || bytes_eq q name)
+  any_more : (q : List ℕ) → list_any (is_beside q) grown ≡ (list_any (is_beside q) lines || bytes_eq q name)
   any_more q =
-      list_any-append (is_under q) lines (line ∷ [])
-      ∙ ap (λ b. list_any (is_under q) lines || b) (or_nothing (bytes_eq q name))
+      list_any-append (is_beside q) lines (line ∷ [])
+      ∙ ap (λ b. list_any (is_beside q) lines || b) (or_nothing (bytes_eq q name))
 
   under_pushed : (q : List ℕ) (front : List Group) (g : Group) →
       lines_under q (front ++ g ∷ []) ≡ lines_under q front ++ kept_for q g
@@ -89,11 +95,11 @@ module _ (lines : List Line) (line : Line) (old new : List Group) where
 
   -- ---- in the last group
 
-  joined : (b : Bool) (xs : List Given) → cond b (xs ++ given_by line ∷ []) [] ≡ cond b xs [] ++ cond b (given_by line ∷ []) []
+  joined : (b : Bool) (xs : List Given) → cond b (xs ++ line.given ∷ []) [] ≡ cond b xs [] ++ cond b (line.given ∷ []) []
   joined true xs = refl
   joined false xs = refl
 
-  named_before : (q : List ℕ) → IsInLast name (given_by line) old new → list_any (bytes_eq q) (group_names old)
+  named_before : (q : List ℕ) → IsInLast name (line.given) old new → list_any (bytes_eq q) (group_names old)
       ≡ (list_any (bytes_eq q) (group_names old) || bytes_eq q name)
   named_before q far =
       let pushed = ap (λ g. list_any (bytes_eq q) (group_names g)) far.was ∙ named_pushed q far.front far.last
@@ -101,7 +107,7 @@ module _ (lines : List Line) (line : Line) (old new : List Group) where
       pushed ∙ or_twice (list_any (bytes_eq q) (group_names far.front)) (bytes_eq q name)
       ∙ ap (λ b. b || bytes_eq q name) (sym pushed)
 
-  in_last : AreSoFar lines old → IsInLast name (given_by line) old new → AreSoFar grown new
+  in_last : AreSoFar lines old → IsInLast name (line.given) old new → AreSoFar grown new
   in_last so far =
       let front = far.front in
       let last = far.last in
@@ -111,13 +117,13 @@ module _ (lines : List Line) (line : Line) (old new : List Group) where
       ap group_names far.grown ∙ map-append (λ (x : Group). x.name) front (one ∷ [])
       ∙ ap (λ n. group_names front ++ n ∷ []) same_name
       ∙ sym (ap group_names far.was ∙ map-append (λ (x : Group). x.name) front (last ∷ [])) in
-      let ends : group_names front ++ name ∷ [] ≡ dedup bytes_eq (names_of lines) =
+      let ends : group_names front ++ name ∷ [] ≡ dedup bytes_eq (map name_of lines) =
       ap (λ n. group_names front ++ n ∷ []) (sym far.of_package)
       ∙ sym (ap group_names far.was ∙ map-append (λ (x : Group). x.name) front (last ∷ [])) ∙ so.names in
       record {
         names = names_same ∙ so.names
-            ∙ sym (ap (dedup bytes_eq) (map-append name_in lines (line ∷ []))
-            ∙ same_again (names_of lines) (group_names front) name ends (nat_list_eq_equiv.refl name));
+            ∙ sym (ap (dedup bytes_eq) (map-append name_of lines (line ∷ []))
+            ∙ same_again (map name_of lines) (group_names front) name ends (nat_list_eq_equiv.refl name));
         named = λ q.
             ap (list_any (bytes_eq q)) names_same
             ∙ named_before q far
@@ -127,15 +133,15 @@ module _ (lines : List Line) (line : Line) (old new : List Group) where
             ap (lines_under q) far.grown ∙ under_pushed q front one
             ∙ ap (λ l. lines_under q front ++ l)
             ((λ i. cond (bytes_eq q (same_name i)) (far.lines i) []) ∙ joined (bytes_eq q last.name) last.lines.items
-            ∙ ap (λ n. kept_for q last ++ cond (bytes_eq q n) (given_by line ∷ []) []) far.of_package)
-            ∙ sym (append_assoc (lines_under q front) (kept_for q last) (cond (bytes_eq q name) (given_by line ∷ []) []))
-            ∙ ap (λ l. l ++ cond (bytes_eq q name) (given_by line ∷ []) [])
+            ∙ ap (λ n. kept_for q last ++ cond (bytes_eq q n) (line.given ∷ []) []) far.of_package)
+            ∙ sym (append_assoc (lines_under q front) (kept_for q last) (cond (bytes_eq q name) (line.given ∷ []) []))
+            ∙ ap (λ l. l ++ cond (bytes_eq q name) (line.given ∷ []) [])
             (sym (ap (lines_under q) far.was ∙ under_pushed q front last) ∙ so.each q)
             ∙ sym (lines_more q);
         all =
             ap (λ g. length (lines_in g)) far.grown ∙ all_pushed front one
             ∙ ap (λ l. length (lines_in front) + length l) far.lines
-            ∙ ap (λ n. length (lines_in front) + n) (length-append last.lines.items (given_by line ∷ []))
+            ∙ ap (λ n. length (lines_in front) + n) (length-append last.lines.items (line.given ∷ []))
             ∙ added (length (lines_in front)) (length last.lines.items)
             ∙ ap (λ n. n + 1) (sym (ap (λ g. length (lines_in g)) far.was ∙ all_pushed front last) ∙ so.all)
             ∙ sym one_longer;
@@ -143,15 +149,15 @@ module _ (lines : List Line) (line : Line) (old new : List Group) where
 
   -- ---- as a group of its own
 
-  as_new : AreSoFar lines old → IsOfOther name old → IsNewGroup name (given_by line) old new → AreSoFar grown new
+  as_new : AreSoFar lines old → IsOfOther name old → IsNewGroup name (line.given) old new → AreSoFar grown new
   as_new so other far =
       let one = far.one in
       let names_new : group_names new ≡ group_names old ++ name ∷ [] =
       ap group_names far.grown ∙ map-append (λ (x : Group). x.name) old (one ∷ []) ∙ ap (λ n. group_names old ++ n ∷ []) far.named in
       record {
         names = names_new
-            ∙ sym (ap (dedup bytes_eq) (map-append name_in lines (line ∷ []))
-            ∙ other_again (names_of lines) (group_names old) name so.names (other_names name old other));
+            ∙ sym (ap (dedup bytes_eq) (map-append name_of lines (line ∷ []))
+            ∙ other_again (map name_of lines) (group_names old) name so.names (other_names name old other));
         named = λ q.
             ap (λ g. list_any (bytes_eq q) (group_names g)) far.grown ∙ named_pushed q old one
             ∙ (λ i. so.named q i || bytes_eq q (far.named i))
@@ -166,6 +172,6 @@ module _ (lines : List Line) (line : Line) (old new : List Group) where
             ∙ sym one_longer;
       }
 
-  pub one_so_far : AreSoFar lines old → IsAdded name (given_by line) old new → AreSoFar grown new
+  pub one_so_far : AreSoFar lines old → IsAdded name (line.given) old new → AreSoFar grown new
   one_so_far so (inl far) = in_last so far
   one_so_far so (inr h) = as_new so h.0 h.1

@@ -32,7 +32,6 @@ none_in_order given members e order =
 pub flags_kept : (nodes : List NodeRecord) (line : KeptLine) (said : LineRecord) → Keeps nodes line said → HasItsFlags line
 flags_kept nodes line said kept = record {
   bounded = kept.bounded;
-  prerelease = kept.prerelease;
   direct = λ e.
       none_in_order (specifiers_of said.front.source) line.specifiers.members
       (no_members said.front.source (sym kept.url ∙ e)) kept.specifiers;

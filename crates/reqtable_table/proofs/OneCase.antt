@@ -10,6 +10,7 @@ use Rattle.pep508_tree.specs.Meaning.{NodeRecord, holds}
 use Rattle.pep508_cases.specs.Cases.{Marks, same_marks, marks_cmp, sets_of, IsCase, AreCases}
 use Rattle.pep508_cases.proofs.Counting.{marks_total}
 use Rattle.pep508_cases.proofs.Marks.{marks_is}
+use Rattle.reqtable_answer.specs.Asks.{names_prerelease}
 use Rattle.reqtable_requirements.specs.Asks.{applies}
 use Rattle.reqtable_requirements.specs.LineReading.{LineRecord}
 use Rattle.reqtable_cases.specs.Lines.{marked, line_marks, numbers_of, asked_by}
@@ -101,7 +102,8 @@ renumbered : List LineRecord → List KeptCase → List (Marks × Tree) → List
 renumbered others [] sets = []
 renumbered others (case ∷ cases) [] = []
 renumbered others (case ∷ cases) (set ∷ sets) =
-    record { numbers = numbers_of set.0 others; tree = case.tree; range = case.range } ∷ renumbered others cases sets
+    record { numbers = numbers_of set.0 others; tree = case.tree; range = case.range; prerelease = case.prerelease }
+    ∷ renumbered others cases sets
 
 module _ (lines others : List LineRecord) (alike : AllZip IsRenumbered lines others) where
   each_again : (cases : List KeptCase) (sets : List (Marks × Tree)) → AllZip (IsCaseOfLines lines) cases sets →
@@ -115,6 +117,7 @@ module _ (lines others : List LineRecord) (alike : AllZip IsRenumbered lines oth
       numbers = refl;
       tree = h.0.tree;
       range = subst (λ asks. IsRangeOf asks case.range) (asked_alike set.0 lines others alike) h.0.range;
+      prerelease = h.0.prerelease ∙ ap names_prerelease (asked_alike set.0 lines others alike);
     },
     each_again cases sets h.1,
   )
@@ -125,7 +128,7 @@ module _ (lines others : List LineRecord) (alike : AllZip IsRenumbered lines oth
   same_again [] [] h = tt
   same_again [] (set ∷ sets) h = absurd h
   same_again (case ∷ cases) [] h = absurd h
-  same_again (case ∷ cases) (set ∷ sets) h = (record { tree = refl; range = refl }, same_again cases sets h.1)
+  same_again (case ∷ cases) (set ∷ sets) h = (record { tree = refl; range = refl; prerelease = refl }, same_again cases sets h.1)
 
   pub cases_again : (nodes : List NodeRecord) (cases : List KeptCase) → AreCasesOf nodes lines cases →
       (found : List KeptCase) × AreCasesOf nodes others found × AllZip SameCase cases found

@@ -8,6 +8,7 @@ use Rattle.pep508_tree.proofs.Conjoining.{tree_kept}
 use Rattle.pep508_tree.proofs.Diagrams.{holds_kept}
 use Rattle.pep508_cases.proofs.Keeping.{cases_kept as cases_on}
 use Rattle.pep508_cases.specs.Cases.{Marks, marks_of, IsCase, AreCases}
+use Rattle.reqtable_answer.specs.Asks.{names_prerelease}
 use Rattle.reqtable_cases.specs.Lines.{marked}
 use Rattle.reqtable_cases.specs.Usable.{IsRangeOf}
 use Rattle.reqtable_table.specs.declared.given.Given.{Given}
@@ -78,14 +79,17 @@ have_marks nodes now trees count (set ∷ sets) e h = (
   have_marks nodes now trees count sets e h.1,
 )
 
+asks_kept : (lines : List Given) (set : Marks) → map kept_front (marked set (map kept_by lines)) ≡ map given_front (marked set lines)
+asks_kept lines set = ap (map kept_front) (marked_map kept_by set lines) ∙ kept_fronts (marked set lines)
+
 one_kept : (lines : List Given) (case : KeptCase) (set : Marks × Tree) → IsCaseOfGiven lines case set →
     IsCaseOf (map kept_by lines) case set
 one_kept lines case set is = record {
   numbers = is.numbers ∙ sym (ap (map (λ (line : KeptLine). line.number)) (marked_map kept_by set.0 lines)
       ∙ kept_numbers (marked set.0 lines));
   tree = is.tree;
-  range = subst (λ fronts. IsRangeOf fronts case.range)
-      (sym (ap (map kept_front) (marked_map kept_by set.0 lines) ∙ kept_fronts (marked set.0 lines))) is.range;
+  range = subst (λ fronts. IsRangeOf fronts case.range) (sym (asks_kept lines set.0)) is.range;
+  prerelease = is.prerelease ∙ sym (ap names_prerelease (asks_kept lines set.0));
 }
 
 cases_kept : (lines : List Given) (cases : List KeptCase) (sets : List (Marks × Tree)) → AllZip (IsCaseOfGiven lines) cases sets →

@@ -92,7 +92,7 @@ all_zip test same asks others h =
     ∙ ap not (any_zip AsksAlike (λ ask. not (test ask)) (λ ask. not (test ask)) (λ ask other r. ap not (same ask other r)) asks others h)
     ∙ sym (all_any test others)
 
-say_the_same : (asks others : List Front) → AllZip AsksAlike asks others → SayTheSame asks others
+pub say_the_same : (asks others : List Front) → AllZip AsksAlike asks others → SayTheSame asks others
 say_the_same asks others h = record {
   extras = λ extra. any_zip AsksAlike (has_extra extra) (has_extra extra) (λ ask other r. ap (list_any (bytes_eq extra)) r.extras) asks others h;
   urls = any_zip AsksAlike has_url has_url (λ ask other r. r.source.url) asks others h;

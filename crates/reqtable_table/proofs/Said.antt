@@ -65,7 +65,6 @@ module _ (vars : Variables) (old new : List NodeRecord) (keeps : Extends old new
     };
     url = url_said vars said.front.source line.requirement.version_or_url h.asks;
     bounded = refl;
-    prerelease = refl;
     specifiers = specifiers_said vars said.front.source line.requirement.version_or_url h.asks;
   }
 

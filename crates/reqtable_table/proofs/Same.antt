@@ -4,7 +4,6 @@ use Rattle.std.specs.List.{list_any, AllZip, AllByRecursion}
 use Rattle.std.specs.List.Sorted.{IsStrictlySortedBy}
 use Rattle.std.specs.Ordering.{nat_cmp}
 use Rattle.std.specs.Str.{bytes_eq}
-use Rattle.pep440_version.specs.Changes.{is_prerelease}
 use Rattle.pep440_specifier.specs.Building.{IsBuilt}
 use Rattle.pep440_specifier.specs.Matching.{SpecifierRecord}
 use Rattle.pep440_specifier_list.specs.Lists.{IsInOrder}
@@ -15,7 +14,7 @@ use Rattle.pep508_tree.specs.Meaning.{NodeRecord, IsTree, holds}
 use Rattle.pep508_marker_read.specs.MarkerOutcome.{IsTreeOf}
 use Rattle.pep508_cases.specs.Cases.{Marks, marks_of, AreCases}
 use Rattle.reqtable_text.specs.declared.candidates.Candidate.{Candidate}
-use Rattle.reqtable_answer.specs.Asks.{specifiers_of, is_candidate}
+use Rattle.reqtable_answer.specs.Asks.{specifiers_of, is_candidate, names_prerelease}
 use Rattle.reqtable_requirements.specs.Asks.{lines_of}
 use Rattle.reqtable_requirements.specs.LineReading.{LineRecord}
 use Rattle.reqtable_cases.specs.Lines.{marked}
@@ -82,7 +81,6 @@ all_alike P at (x ∷ a) (y ∷ b) s h = (at x y s.0 h.0, all_alike P at a b s.1
 flags_at : (a b : KeptLine) → SameLine a b → HasItsFlags b → HasItsFlags a
 flags_at a b s h = record {
   bounded = s.bounded ∙ h.bounded ∙ sym (ap (list_any (λ (m : SpecifierRecord). is_bound m.operator)) s.members);
-  prerelease = s.prerelease ∙ h.prerelease ∙ sym (ap (list_any (λ (m : SpecifierRecord). is_prerelease m.version)) s.members);
   direct = λ e. s.members ∙ h.direct (sym s.url ∙ e);
 }
 
@@ -99,7 +97,6 @@ keeps_at nodes said a b s h = record {
   marker = subst (λ t. IsTreeOf nodes t said.formula) (sym s.marker) h.marker;
   url = s.url ∙ h.url;
   bounded = s.bounded ∙ h.bounded ∙ sym (ap (list_any (λ (m : SpecifierRecord). is_bound m.operator)) s.members);
-  prerelease = s.prerelease ∙ h.prerelease ∙ sym (ap (list_any (λ (m : SpecifierRecord). is_prerelease m.version)) s.members);
   specifiers = subst (IsInOrder (specifiers_of said.front.source)) (sym s.members) h.specifiers;
 }
 
@@ -130,14 +127,18 @@ lines_at a b s h = record {
 pub have_lines : (a b : List KeptPackage) → AllZip SamePackage a b → AllByRecursion HasItsLines b → AllByRecursion HasItsLines a
 have_lines = all_packages HasItsLines lines_at
 
+asks_same : (a b : List KeptLine) → AllZip SameLine a b → (set : Marks) → map kept_front (marked set b) ≡ map kept_front (marked set a)
+asks_same a b s set =
+    sym (marked_map kept_front set b) ∙ sym (ap (marked set) (same_fronts a b s)) ∙ marked_map kept_front set a
+
 case_at : (a b : List KeptLine) → AllZip SameLine a b → (case : KeptCase) (set : Marks × Tree) → IsCaseOf b case set → IsCaseOf a case set
 case_at a b s case set h = record {
   numbers =
       h.numbers ∙ sym (marked_map (λ (l : KeptLine). l.number) set.0 b)
       ∙ sym (ap (marked set.0) (numbers_same a b s)) ∙ marked_map (λ (l : KeptLine). l.number) set.0 a;
   tree = h.tree;
-  range = subst (λ asks. IsRangeOf asks case.range)
-      (sym (marked_map kept_front set.0 b) ∙ sym (ap (marked set.0) (same_fronts a b s)) ∙ marked_map kept_front set.0 a) h.range;
+  range = subst (λ asks. IsRangeOf asks case.range) (asks_same a b s set.0) h.range;
+  prerelease = h.prerelease ∙ ap names_prerelease (asks_same a b s set.0);
 }
 
 each_case : (a b : List KeptLine) → AllZip SameLine a b → (cases : List KeptCase) (sets : List (Marks × Tree)) →

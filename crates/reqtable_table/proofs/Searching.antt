@@ -14,6 +14,7 @@ use Rattle.pep508_tree.specs.Meaning.{NodeRecord, holds}
 use Rattle.pep508_cases.specs.Cases.{Marks, same_marks, marks_cmp, marks_of, sets_of}
 use Rattle.pep508_cases.proofs.Counting.{marks_total}
 use Rattle.pep508_cases.proofs.Marks.{marks_is}
+use Rattle.reqtable_answer.specs.Asks.{names_prerelease}
 use Rattle.reqtable_cases.specs.Lines.{marked}
 use Rattle.reqtable_cases.specs.Usable.{IsRangeOf}
 use Rattle.reqtable_table.specs.declared.table.Case.{Case}
@@ -22,7 +23,7 @@ use Rattle.reqtable_table.specs.declared.kept.TableLine.{TableLine}
 use Rattle.reqtable_table.specs.Answers.{kept_marks}
 use Rattle.reqtable_table.specs.Cases.{IsCaseOf}
 use Rattle.reqtable_table.specs.Casing.{case_record, HaveMarks}
-use Rattle.reqtable_table.specs.Choosing.{case_asks, AreApplying}
+use Rattle.reqtable_table.specs.Choosing.{case_asks, AreApplying, IsCaseFor}
 use Rattle.reqtable_table.specs.Kept.{KeptLine, KeptCase, kept_front}
 use Rattle.reqtable_table.specs.KeptLines.{line_record, package_record}
 use Rattle.reqtable_table.specs.Numbers.{numbers_cmp}
@@ -131,6 +132,7 @@ record IsSetOf (lines : List KeptLine) (case : KeptCase) (set : Marks) : Type 0 
   numbers : case.numbers ≡ map (λ (l : KeptLine). l.number) (marked set lines)
   long : length set ≡ length lines
   range : IsRangeOf (map kept_front (marked set lines)) case.range
+  prerelease : case.prerelease ≡ names_prerelease (map kept_front (marked set lines))
 
 sets_are : (lines : List KeptLine) (cases : List KeptCase) (sets : List (Marks × Tree)) → AllZip (IsCaseOf lines) cases sets →
     AllByRecursion (HaveMarks (length lines)) sets → AllZip (IsSetOf lines) cases (sets_of sets)
@@ -138,7 +140,7 @@ sets_are lines [] [] h long = tt
 sets_are lines [] (set ∷ sets) h long = absurd h
 sets_are lines (case ∷ cases) [] h long = absurd h
 sets_are lines (case ∷ cases) (set ∷ sets) h long = (
-  record { numbers = h.0.numbers; long = long.0; range = h.0.range },
+  record { numbers = h.0.numbers; long = long.0; range = h.0.range; prerelease = h.0.prerelease },
   sets_are lines cases sets h.1 long.1,
 )
 
@@ -253,13 +255,14 @@ module _ (kept : Package) (marks : Marks) (stands : HasItsLines (package_record 
       (subst (λ o. ordering_index (marks_cmp (get_or sets i []) marks) ≤ ordering_index o) (sym (order_at j d within))
       (rises i j [] low (omega arith)))
 
-  pub found_range : (place : ℕ) → place < length cases →
+  pub found_case : (place : ℕ) → place < length cases →
       ((d : Case) → numbers_cmp (get_or cases place d).lines.items numbers_at ≡ Equal) →
-      (other : Case) → IsRangeOf (case_asks marks lines) (get_or cases place other).range
-  found_range place within equal other =
+      (other : Case) → IsCaseFor (case_asks marks lines) (get_or cases place other)
+  found_case place within equal other =
       let is = zip_at (IsSetOf lines) case_record cases sets place other [] are within in
       let same = marked_equal (get_or sets place []) marks (sym (order_at place other within) ∙ equal other) in
-      subst (λ m. IsRangeOf (map kept_front (marked m lines)) (get_or cases place other).range) same is.range
+      subst (λ m. IsCaseFor (map kept_front (marked m lines)) (get_or cases place other)) same
+      (record { range = is.range; prerelease = is.prerelease })
 
   pub found_numbers : (place : ℕ) → place < length cases →
       ((d : Case) → numbers_cmp (get_or cases place d).lines.items numbers_at ≡ Equal) → (other : KeptCase) →

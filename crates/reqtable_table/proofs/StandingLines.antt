@@ -38,7 +38,7 @@ abbrev kept_of : Line → KeptLine
 kept_of line = kept_by (given_by line)
 
 flags_of : (line : Line) → HasItsFlags (kept_of line)
-flags_of line = record { bounded = refl; prerelease = refl; direct = no_specifiers line.requirement.version_or_url }
+flags_of line = record { bounded = refl; direct = no_specifiers line.requirement.version_or_url }
 
 module _ (built : (text : List ℕ) (s : SpecifierRecord) → specifier_of text ≡ Some s → IsBuilt s)
     (ends : (text : List ℕ) (s : SpecifierRecord) → specifier_of text ≡ Some s → (s.version.least ≡ None) × (s.version.most ≡ None)) where

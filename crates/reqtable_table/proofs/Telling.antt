@@ -6,7 +6,6 @@ use Rattle.std.proofs.lemmas.List.Elements.{All-from_recursion}
 use Rattle.std.proofs.lemmas.List.Folds.{list_all-append, list_any-append}
 use Rattle.version_ranges.specs.Point.{Point, At}
 use Rattle.pep440_version.specs.Record.{VersionRecord}
-use Rattle.pep440_version.specs.Changes.{is_prerelease}
 use Rattle.pep440_operator.specs.declared.operator.Operator.{Operator}
 use Rattle.pep440_operator.specs.declared.operator.Operator.TheVariants.{Equal, EqualStar, ExactEqual, NotEqual, NotEqualStar, TildeEqual, LessThan, LessThanEqual, GreaterThan, GreaterThanEqual}
 use Rattle.pep440_specifier.specs.Building.{IsBuilt}
@@ -16,7 +15,7 @@ use Rattle.pep440_range.specs.Agreement.{IsSaid, Agrees, IsAgreeing}
 use Rattle.pep440_range.specs.Ranges.{range_of}
 use Rattle.pep440_range.proofs.Lists.{both_true, list_agrees, agreeing}
 use Rattle.pep508_requirement_text.specs.FrontReading.{Front}
-use Rattle.reqtable_answer.specs.Asks.{specifiers_of, has_url, ask_takes, names_prerelease}
+use Rattle.reqtable_answer.specs.Asks.{specifiers_of, has_url, ask_takes}
 use Rattle.reqtable_cases.specs.Lines.{marked}
 use Rattle.reqtable_cases.specs.Usable.{members_asked, agrees_with_range, is_ranged, is_usable, points_of, IsRangeOf}
 use Rattle.reqtable_cases.proofs.Taken.{usable_takes}
@@ -164,15 +163,6 @@ asks_bounded (line ∷ lines) flags =
     (λ i. here i || rest i)
     ∙ sym (list_any-append bound (specifiers_of (kept_front line).source) (members_asked (map kept_front lines)))
 
-asks_named : (lines : List KeptLine) → AllByRecursion HasItsFlags lines →
-    list_any (λ line. line.prerelease) lines ≡ names_prerelease (map kept_front lines)
-asks_named [] flags = refl
-asks_named (line ∷ lines) flags =
-    let named : SpecifierRecord → Bool = λ s. is_prerelease s.version in
-    let here = flags.0.prerelease ∙ sym (ap (list_any named) (own_members line flags.0)) in
-    let rest = asks_named lines flags.1 in
-    λ i. here i || rest i
-
 pub case_tells : (marks : List Bool) (lines : List TableLine) (range : Option (List (Point VersionRecord)))
     (bounded : Bool) → AllByRecursion HasItsFlags (records lines) → AllByRecursion IsOfTexts (records lines) →
     IsRangeOf (case_asks marks (records lines)) range →
@@ -190,11 +180,3 @@ case_tells marks lines range bounded flags read is bound =
           told_by (map kept_front own) version bounded (is_none version.post) refl parts.1 usable own_read flag said
           (none_long version.local (is_zero (length version.local) parts.0));
     }
-
-pub case_names : (marks : List Bool) (lines : List TableLine) (named : Bool) →
-    AllByRecursion HasItsFlags (records lines) →
-    named ≡ list_any (λ line. line.names_prerelease) (marked marks lines) →
-    named ≡ names_prerelease (case_asks marks (records lines))
-case_names marks lines named flags is =
-    is ∙ flag_seen (λ line. line.prerelease) marks lines
-    ∙ asks_named (marked marks (records lines)) (all_marked HasItsFlags marks (records lines) flags)

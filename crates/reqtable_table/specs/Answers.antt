@@ -69,7 +69,6 @@ pub record SameLine (line before : KeptLine) : Type 0 where
   pub marker : line.marker ≡ before.marker
   pub url : line.url ≡ before.url
   pub bounded : line.bounded ≡ before.bounded
-  pub prerelease : line.prerelease ≡ before.prerelease
   pub members : line.specifiers.members ≡ before.specifiers.members
 
 pub record SamePackage (kept before : KeptPackage) : Type 0 where

@@ -7,6 +7,7 @@ use Rattle.std.specs.Prelude.{find}
 use Rattle.pep508_tree.specs.Tree.{Tree}
 use Rattle.pep508_tree.specs.Meaning.{NodeRecord, IsTree}
 use Rattle.pep508_cases.specs.Cases.{Marks, marks_of, AreCases}
+use Rattle.reqtable_answer.specs.Asks.{names_prerelease}
 use Rattle.reqtable_requirements.specs.LineReading.{LineRecord}
 use Rattle.reqtable_cases.specs.Lines.{marked, line_marks, numbers_of, asked_by, HasTooMany, IsFirstTooMany}
 use Rattle.reqtable_cases.specs.Usable.{IsRangeOf}
@@ -19,6 +20,7 @@ pub record IsCaseOf (lines : List KeptLine) (case : KeptCase) (set : Marks × Tr
   pub numbers : case.numbers ≡ map (λ line. line.number) (marked set.0 lines)
   pub tree : case.tree ≡ set.1
   pub range : IsRangeOf (map kept_front (marked set.0 lines)) case.range
+  pub prerelease : case.prerelease ≡ names_prerelease (map kept_front (marked set.0 lines))
 
 -- a package has the cases of its lines, whose markers are trees of these nodes
 pub record HasItsCases (nodes : List NodeRecord) (kept : KeptPackage) : Type 0 where
@@ -32,6 +34,7 @@ pub record IsCaseOfLines (lines : List LineRecord) (case : KeptCase) (set : Mark
   pub numbers : case.numbers ≡ numbers_of set.0 lines
   pub tree : case.tree ≡ set.1
   pub range : IsRangeOf (asked_by set.0 lines) case.range
+  pub prerelease : case.prerelease ≡ names_prerelease (asked_by set.0 lines)
 
 -- the cases of a text's lines
 pub record AreCasesOf (nodes : List NodeRecord) (lines : List LineRecord) (cases : List KeptCase)
@@ -49,6 +52,7 @@ pub record IsRenumbered (line other : LineRecord) : Type 0 where
 pub record SameCase (case other : KeptCase) : Type 0 where
   pub tree : case.tree ≡ other.tree
   pub range : case.range ≡ other.range
+  pub prerelease : case.prerelease ≡ other.prerelease
 
 -- the cases of a name
 abbrev pub cases_under : List ℕ → List KeptPackage → Option (List KeptCase)

@@ -4,6 +4,7 @@ use Rattle.std.specs.Borrow.{Bor}
 use Rattle.pep508_tree.specs.Tree.{Tree}
 use Rattle.pep508_requirement_text.specs.FrontReading.{Front}
 use Rattle.pep508_cases.specs.Cases.{Marks}
+use Rattle.reqtable_answer.specs.Asks.{names_prerelease}
 use Rattle.reqtable_cases.specs.Lines.{marked}
 use Rattle.reqtable_cases.specs.Usable.{IsRangeOf}
 use Rattle.reqtable_table.specs.declared.given.Given.{Given}
@@ -19,7 +20,12 @@ given_front line =
     record { name = []; extras = line.extras.items; source = kept_source line.is_url line.specifiers }
 
 abbrev pub case_record : Case → KeptCase
-case_record case = record { numbers = case.lines.items; tree = case.tree; range = case.range }
+case_record case = record {
+  numbers = case.lines.items;
+  tree = case.tree;
+  range = case.range;
+  prerelease = case.pre;
+}
 
 -- a set has a mark for each of so many lines
 abbrev pub HaveMarks : ℕ → Marks × Tree → Type 0
@@ -30,3 +36,4 @@ pub record IsCaseOfGiven (lines : List Given) (case : KeptCase) (set : Marks × 
   pub numbers : case.numbers ≡ map (λ line. line.number) (marked set.0 lines)
   pub tree : case.tree ≡ set.1
   pub range : IsRangeOf (map given_front (marked set.0 lines)) case.range
+  pub prerelease : case.prerelease ≡ names_prerelease (map given_front (marked set.0 lines))

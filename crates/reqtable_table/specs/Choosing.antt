@@ -19,11 +19,12 @@ use Rattle.reqtable_answer.specs.declared.answer.Outcome.{Outcome}
 use Rattle.reqtable_answer.specs.declared.answer.Outcome.TheVariants.{Direct}
 use Rattle.reqtable_answer.specs.Admission.{Admits}
 use Rattle.reqtable_answer.specs.Answer.{RowRecord, chosen}
-use Rattle.reqtable_answer.specs.Asks.{has_url, has_extra, ask_takes, may_be_taken}
+use Rattle.reqtable_answer.specs.Asks.{has_url, has_extra, ask_takes, may_be_taken, names_prerelease}
 use Rattle.reqtable_cases.specs.Lines.{marked}
 use Rattle.reqtable_cases.specs.Usable.{is_usable, members_asked, points_of, IsRangeOf}
 use Rattle.reqtable_run.specs.Told.{is_plain, is_told}
 use Rattle.reqtable_table.specs.declared.kept.TableLine.{TableLine}
+use Rattle.reqtable_table.specs.declared.table.Case.{Case}
 use Rattle.reqtable_table.specs.Kept.{KeptLine, KeptPackage, kept_front}
 use Rattle.reqtable_table.specs.Cases.{HasItsCases}
 use Rattle.reqtable_table.specs.Counts.{tests_of}
@@ -39,6 +40,11 @@ pub record AreApplying (marks : Marks) (kept : KeptPackage) : Type 0 where
   pub valuation : Valuation
   pub has : HasItsCases nodes kept
   pub are : marks ≡ kept_marks nodes valuation kept.lines
+
+-- a case's range and flag are those of the asks
+pub record IsCaseFor (asks : List Front) (case : Case) : Type 0 where
+  pub range : IsRangeOf asks case.range
+  pub prerelease : case.pre ≡ names_prerelease asks
 
 -- a test of lines with these results answers so
 abbrev pub TestsBy : (Bor TableLine → Bool → Type 0) → (TableLine → Bool) → Type 0

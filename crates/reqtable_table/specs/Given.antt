@@ -13,6 +13,7 @@ use Rattle.pep508_requirement.specs.declared.version_or_url.VersionOrUrl.TheVari
 use Rattle.reqtable_requirements.specs.declared.requirements.Line.{Line}
 use Rattle.reqtable_requirements.specs.LineSpecifiers.{specifiers_by}
 use Rattle.reqtable_table.specs.declared.given.Given.{Given}
+use Rattle.reqtable_table.specs.declared.given.NamedGiven.{NamedGiven}
 use Rattle.reqtable_table.specs.declared.grouping.Group.{Group}
 
 abbrev pub is_url_by : Option (VersionOrUrl Verbatim VerbatimUrlError) → Bool
@@ -32,6 +33,10 @@ given_by line = record {
 
 abbrev pub name_in : Line → List ℕ
 name_in line = line.requirement.name
+
+-- the two together
+abbrev pub named_by : Line → NamedGiven
+named_by line = record { name = name_in line; given = given_by line }
 
 abbrev pub names_of : List Line → List (List ℕ)
 names_of lines = map name_in lines
@@ -57,11 +62,15 @@ pub record AreGrouped (lines : List Line) (groups : List Group) : Type 0 where
   pub each : (name : List ℕ) → lines_under name groups ≡ map given_by (filter (is_under name) lines)
   pub all : length (lines_in groups) ≡ length lines
 
+-- a line beside a name is of the package
+abbrev pub is_beside : List ℕ → NamedGiven → Bool
+is_beside name line = bytes_eq name line.name
+
 -- lines as they come, those that follow one of their own package with it
-pub record AreSoFar (lines : List Line) (groups : List Group) : Type 0 where
-  pub names : group_names groups ≡ dedup bytes_eq (names_of lines)
-  pub named : (q : List ℕ) → list_any (bytes_eq q) (group_names groups) ≡ list_any (is_under q) lines
-  pub each : (q : List ℕ) → lines_under q groups ≡ map given_by (filter (is_under q) lines)
+pub record AreSoFar (lines : List NamedGiven) (groups : List Group) : Type 0 where
+  pub names : group_names groups ≡ dedup bytes_eq (map (λ line. line.name) lines)
+  pub named : (q : List ℕ) → list_any (bytes_eq q) (group_names groups) ≡ list_any (is_beside q) lines
+  pub each : (q : List ℕ) → lines_under q groups ≡ map (λ line. line.given) (filter (is_beside q) lines)
   pub all : length (lines_in groups) ≡ length lines
 
 -- ---- one more line

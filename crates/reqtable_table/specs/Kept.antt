@@ -7,7 +7,6 @@ use Rattle.std.specs.Cmp.Lexicographic.{slice_cmp}
 use Rattle.std.specs.Str.{bytes_eq}
 use Rattle.version_ranges.specs.Point.{Point}
 use Rattle.pep440_version.specs.Record.{VersionRecord}
-use Rattle.pep440_version.specs.Changes.{is_prerelease}
 use Rattle.pep440_specifier.specs.Matching.{SpecifierRecord}
 use Rattle.pep440_specifier_list.specs.Lists.{CountedRecord, IsInOrder}
 use Rattle.pep508_tree.specs.Tree.{Tree}
@@ -22,22 +21,21 @@ use Rattle.reqtable_run.specs.Told.{is_bound}
 use Rattle.reqtable_cases.specs.Lines.{is_named}
 
 -- a line of a package: its number, extras and marker, whether it asks for a URL, whether one of its
--- specifiers is `<` or `>`, whether one has a pre-release or developmental release, and the specifiers,
--- counted
+-- specifiers is `<` or `>`, and the specifiers, counted
 pub record KeptLine : Type 0 where
   pub number : ℕ
   pub extras : List (List ℕ)
   pub marker : Tree
   pub url : Bool
   pub bounded : Bool
-  pub prerelease : Bool
   pub specifiers : CountedRecord
 
--- a case of a package, by the numbers of its lines
+-- a case of a package, by the numbers of its lines, and whether some specifier of them has a pre-release
 pub record KeptCase : Type 0 where
   pub numbers : List ℕ
   pub tree : Tree
   pub range : Option (List (Point VersionRecord))
+  pub prerelease : Bool
 
 pub record KeptPackage : Type 0 where
   pub name : List ℕ
@@ -59,7 +57,6 @@ pub record Keeps (nodes : List NodeRecord) (kept : KeptLine) (said : LineRecord)
   pub marker : IsTreeOf nodes kept.marker said.formula
   pub url : kept.url ≡ is_url said.front.source
   pub bounded : kept.bounded ≡ list_any (λ s. is_bound s.operator) kept.specifiers.members
-  pub prerelease : kept.prerelease ≡ list_any (λ s. is_prerelease s.version) kept.specifiers.members
   pub specifiers : IsInOrder (specifiers_of said.front.source) kept.specifiers.members
 
 -- a table keeps just these lines, each under its package's name, in their order

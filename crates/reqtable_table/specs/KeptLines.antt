@@ -1,7 +1,6 @@
 -- A table's parts as records, and what becomes of a line in it.
 use Rattle.std.specs.Prelude.{map}
 use Rattle.std.specs.List.{list_any}
-use Rattle.pep440_version.specs.Changes.{is_prerelease}
 use Rattle.reqtable_table.specs.declared.given.Given.{Given}
 use Rattle.reqtable_table.specs.declared.kept.TableLine.{TableLine}
 use Rattle.reqtable_table.specs.declared.table.Package.{Package}
@@ -16,7 +15,6 @@ line_record line = record {
   marker = line.marker;
   url = line.is_url;
   bounded = line.is_bounded;
-  prerelease = line.names_prerelease;
   specifiers = line.specifiers;
 }
 
@@ -35,6 +33,5 @@ kept_by line = record {
   marker = line.marker;
   url = line.is_url;
   bounded = list_any (λ s. is_bound s.operator) line.specifiers;
-  prerelease = list_any (λ s. is_prerelease s.version) line.specifiers;
   specifiers = record { members = line.specifiers; tests = 0 };
 }

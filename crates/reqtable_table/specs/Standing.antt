@@ -4,7 +4,6 @@ use Rattle.std.specs.List.{list_any, AllByRecursion}
 use Rattle.std.specs.List.Sorted.{IsStrictlySortedBy}
 use Rattle.std.specs.Ordering.{nat_cmp}
 use Rattle.std.specs.Cmp.Lexicographic.{slice_cmp}
-use Rattle.pep440_version.specs.Changes.{is_prerelease}
 use Rattle.pep440_specifier.specs.Building.{IsBuilt}
 use Rattle.pep440_range.specs.Agreement.{IsSaid}
 use Rattle.reqtable_run.specs.Told.{is_bound}
@@ -13,7 +12,6 @@ use Rattle.reqtable_table.specs.Kept.{KeptLine, KeptPackage, names_in}
 -- a line's flags are those of its specifiers, and one of a URL has none
 pub record HasItsFlags (line : KeptLine) : Type 0 where
   pub bounded : line.bounded ≡ list_any (λ s. is_bound s.operator) line.specifiers.members
-  pub prerelease : line.prerelease ≡ list_any (λ s. is_prerelease s.version) line.specifiers.members
   pub direct : line.url ≡ true → line.specifiers.members ≡ []
 
 -- a line's specifiers are as texts say them

@@ -64,12 +64,12 @@ impl Table {
     ///
     /// Evaluates each line's marker, and finds a package's case in as many steps as the logarithm of its
     /// cases. What is taken in a case is decided once, from the greatest version down, up to the candidate
-    /// that is taken. The case's range tells of candidates without a local part that are no post-releases, and
-    /// of post-releases too where no line of the case has `<` or `>`. Those of them that lie between two of
-    /// its intervals are passed over together, in as many steps as the logarithms of the number of intervals
-    /// and of the package's candidates; each that an interval holds is admitted or not. The specifiers are
-    /// asked of all others, or of all candidates where the case has no range. So the admission is that by
-    /// which `runs` knows what was taken.
+    /// that is taken. The case's range tells of candidates without a local part that are no post-releases,
+    /// and of post-releases too where no line of the case has `<` or `>`. Those of them that lie between two
+    /// of its intervals are passed over together, in as many steps as the logarithms of the number of
+    /// intervals and of the package's candidates; each that an interval holds is admitted or not. The
+    /// specifiers are asked of all others, or of all candidates where the case has no range. So the admission
+    /// is that by which `runs` knows what was taken.
     pub fn answer_among<F: Fn(&Version, bool) -> bool>(
         &mut self,
         alloc: Global,

@@ -9,9 +9,8 @@ ghost use Rattle.std.specs.Str.{bytes_eq};
 ghost use Rattle.pep508_tree.specs.Meaning.{IsTree};
 ghost use Rattle.reqtable_answer.specs.Asks.{has_extra};
 ghost use Rattle.reqtable_cases.specs.Lines.{marked};
-ghost use Rattle.reqtable_cases.specs.Usable.{IsRangeOf};
 ghost use Rattle.reqtable_table.specs.Answers.{kept_marks};
-ghost use Rattle.reqtable_table.specs.Choosing.{case_asks, AreApplying};
+ghost use Rattle.reqtable_table.specs.Choosing.{case_asks, AreApplying, IsCaseFor};
 ghost use Rattle.reqtable_table.specs.Kept.{KeptCase};
 ghost use Rattle.reqtable_table.specs.KeptLines.{line_record, package_record};
 ghost use Rattle.reqtable_table.specs.Numbers.{numbers_cmp};
@@ -89,9 +88,9 @@ pub(crate) fn case_in(alloc: Global, kept: &Package, marks: &[bool]) -> Result<u
     ensures numbers { IfOk result (λ place. (other : KeptCase) →
         (get_or (package_record kept.now).cases place other).numbers
         ≡ map (λ line. line.number) (marked marks.now (package_record kept.now).lines)) }
-    ensures range { IfOk result (λ place. (other : Case) →
-        IsRangeOf (case_asks marks.now (map line_record kept.now.lines.items))
-        (get_or kept.now.cases.items place other).range) }
+    ensures asked { IfOk result (λ place. (other : Case) →
+        IsCaseFor (case_asks marks.now (map line_record kept.now.lines.items))
+        (get_or kept.now.cases.items place other)) }
 {
     let numbers = numbers_in(alloc, &kept.lines, marks)?;
     let found = kept

@@ -1,7 +1,8 @@
 //! The cases of a package's lines, and what the lines of a case ask for.
 
-ghost use Rattle.std.specs.Prelude.{◌≡◌, ◌++◌, List, length, map, flat_map, IfOk, OnOk};
+ghost use Rattle.std.specs.Prelude.{◌≡◌, ◌++◌, ◌&&◌, not, List, length, map, flat_map, IfOk, OnOk};
 ghost use Rattle.std.specs.List.{list_any, AllZip, AllByRecursion};
+ghost use Rattle.pep440_specifier_list.specs.Lists.{any_prerelease};
 ghost use Rattle.reqtable_range.specs.Together.{lent};
 ghost use Rattle.reqtable_cases.specs.Lines.{marked};
 ghost use Rattle.reqtable_cases.specs.Usable.{IsRangeOf};
@@ -46,16 +47,19 @@ pub(crate) fn cases_of(
     Ok(cases)
 }
 
+#[tactic(auto, using(crate::proofs::Ranging::any_named))]
 fn case_of(alloc: Global, lines: &[Given], set: TreeCase) -> Result<Case, AllocError>
     requires { HaveMarks (length lines.now) (case_seen set) }
     ensures { IfOk result (λ case. IsCaseOfGiven lines.now (case_record case) (case_seen set)) }
 {
     let own = marked_lines(alloc, &set.marks, lines)?;
     let range = range_of(alloc, &own)?;
+    let pre = any_prerelease(&own);
     Ok(Case {
         lines: numbers(alloc, &own)?,
         tree: set.tree,
         range,
+        pre,
     })
 }
 
@@ -85,6 +89,15 @@ fn numbers(alloc: Global, lines: &[&Given]) -> Result<Vec<usize>, AllocError>
         numbers.push(line.number)?;
     }
     Ok(numbers)
+}
+
+/// Whether a specifier of the lines has a pre-release or developmental release.
+fn any_prerelease(lines: &[&Given]) -> bool
+    ensures { result ≡ list_any (λ line. not line.now.is_url && any_prerelease line.now.specifiers) lines.now }
+{
+    lines
+        .iter()
+        .any(|line| !line.is_url && line.specifiers.any_prerelease())
 }
 
 /// The range of what the lines ask for, where they are usable.

@@ -8,9 +8,9 @@ ghost use Rattle.reqtable_text.specs.Ordered.{placed_seen};
 ghost use Rattle.reqtable_answer.specs.Admission.{Admits, AnswersBy};
 ghost use Rattle.reqtable_answer.specs.Asks.{specifiers_of, ask_takes, may_be_taken};
 ghost use Rattle.reqtable_cases.specs.Lines.{marked};
-ghost use Rattle.reqtable_cases.specs.Usable.{IsRangeOf, members_asked};
+ghost use Rattle.reqtable_cases.specs.Usable.{members_asked};
 ghost use Rattle.reqtable_table.specs.Answers.{most_tests, SameLine};
-ghost use Rattle.reqtable_table.specs.Choosing.{case_asks, tests_at, AskedMore, Tells, TestsBy};
+ghost use Rattle.reqtable_table.specs.Choosing.{case_asks, tests_at, AskedMore, IsCaseFor, Tells, TestsBy};
 ghost use Rattle.reqtable_table.specs.Counts.{tests_of};
 ghost use Rattle.reqtable_table.specs.Kept.{kept_front};
 ghost use Rattle.reqtable_table.specs.KeptLines.{line_record};
@@ -18,6 +18,7 @@ ghost use Rattle.reqtable_table.specs.Standing.{HasItsFlags, IsOfTexts};
 ghost use Rattle.reqtable_table.specs.declared.kept.TableLine.{TableLine};
 
 use crate::kept::TableLine;
+use crate::table::Case;
 use pep440_version::Version;
 use reqtable_answer::Admission;
 use reqtable_run::Run;
@@ -36,13 +37,13 @@ pub(crate) fn chosen<F: Fn(&Version, bool) -> bool>(
     alloc: Global,
     lines: &mut [TableLine],
     marks: &[bool],
-    range: &Option<Ranges<Version>>,
+    case: &Case,
     own: &Run<'_, '_>,
     admission: &Admission<F>,
 ) -> Result<Option<usize>, AllocError>
     requires callable { F.IsAlwaysCallable admission.now }
     requires marks { length marks.now ≡ length lines.old }
-    requires ranged { IsRangeOf (case_asks marks.now (map line_record lines.old)) range.now }
+    requires asked { IsCaseFor (case_asks marks.now (map line_record lines.old)) case.now }
     requires flags { AllByRecursion HasItsFlags (map line_record lines.old) }
     requires read { AllByRecursion IsOfTexts (map line_record lines.old) }
     requires said { AllByRecursion (λ c. IsSaid c.1.version) (map placed_seen own.now) }
@@ -56,17 +57,16 @@ pub(crate) fn chosen<F: Fn(&Version, bool) -> bool>(
         + most_tests (case_asks marks.now (map line_record lines.old)) (map placed_seen own.now) }
 {
     let bounded = any_marked(lines, marks, |line: &TableLine| line.is_bounded);
-    let prerelease = any_marked(lines, marks, |line: &TableLine| line.names_prerelease);
     let mut at = 0;
     while at < own.len() {
         let placed = own.at(at);
         let version = &placed.candidate.version;
-        match takes(alloc, lines, marks, range, bounded, version) {
+        match takes(alloc, lines, marks, &case.range, bounded, version) {
             Ok(taken) => {
-                if taken && admission.admits(version, prerelease) {
+                if taken && admission.admits(version, case.pre) {
                     return Ok(Some(placed.place));
                 }
-                at = own.next(at, range, bounded);
+                at = own.next(at, &case.range, bounded);
             }
             Err(error) => return Err(error),
         }

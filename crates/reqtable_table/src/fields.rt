@@ -27,22 +27,24 @@ fn line_shown(alloc: Global, line: TableLine) -> Result<String, fmt::Error> {
         marker,
         is_url,
         is_bounded,
-        names_prerelease,
         specifiers,
     } = line;
     let always = marker.is_true();
     let extras = extras.len();
     let tests = specifiers.tests();
-    Ok(format!(in alloc;
-        "line {number}: {extras} {always} {is_url} {is_bounded} {names_prerelease} {tests}\n"
-    )?)
+    Ok(format!(in alloc; "line {number}: {extras} {always} {is_url} {is_bounded} {tests}\n")?)
 }
 
 fn case_shown(alloc: Global, case: Case) -> Result<String, fmt::Error> {
-    let Case { lines, tree, range } = case;
+    let Case {
+        lines,
+        tree,
+        range,
+        pre,
+    } = case;
     let never = tree.is_false();
     let ranged = range.is_some();
-    Ok(format!(in alloc; "case {lines:?}: {never} {ranged}\n")?)
+    Ok(format!(in alloc; "case {lines:?}: {never} {ranged} {pre}\n")?)
 }
 
 /// What the table of these lines keeps.
@@ -66,9 +68,9 @@ fn shown(alloc: Global, lines: &str) -> Result<String, fmt::Error> {
 #[test]
 fn a_table_keeps_these_fields(rt: HostRuntime) -> Result<(), Fail> {
     let lines = "foo[x]>=1a1,<3 ; os_name == 'posix'\nfoo==2\nbar @ ./c\n";
-    let want = "bar\nline 3: 0 true true false false 0\ncase [3]: false false\n\
-        foo\nline 1: 1 false false true true 0\nline 2: 0 true false false false 0\n\
-        case [1, 2]: false true\ncase [2]: false true\n";
+    let want = "bar\nline 3: 0 true true false 0\ncase [3]: false false false\n\
+        foo\nline 1: 1 false false true 0\nline 2: 0 true false false 0\n\
+        case [1, 2]: false true true\ncase [2]: false true false\n";
     assert_eq!(rt; shown(rt.alloc(), lines)?.as_str(), want);
     Ok(())
 }

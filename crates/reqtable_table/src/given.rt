@@ -1,14 +1,12 @@
 //! The lines of a text, as a table takes them.
 
 ghost use Rattle.std.specs.Prelude.{◌≡◌};
-ghost use Rattle.reqtable_requirements.specs.LineSpecifiers.{specifiers_by};
-ghost use Rattle.reqtable_table.specs.Given.{given_by, is_url_by};
+ghost use Rattle.reqtable_table.specs.Given.{named_by};
 
 use pep440_specifier_list::VersionSpecifiers;
 use pep508_name::{ExtraName, PackageName};
 use pep508_requirement::{Requirement, VersionOrUrl};
 use pep508_tree::MarkerTree;
-use pep508_url::VerbatimUrl;
 use reqtable_requirements::Line;
 use std::alloc::Global;
 
@@ -23,10 +21,16 @@ pub(crate) struct Given {
     pub(crate) specifiers: VersionSpecifiers,
 }
 
-/// The name of a line's package, and the rest of the line. Takes no memory.
-pub(crate) fn given_of(alloc: Global, line: Line) -> (PackageName, Given)
-    ensures name { result.0 ≡ line.requirement.name }
-    ensures given { result.1 ≡ given_by line }
+/// A line beside the name of its package.
+#[derive(Drop)]
+pub(crate) struct NamedGiven {
+    pub(crate) name: PackageName,
+    pub(crate) given: Given,
+}
+
+/// A line without its URL, beside the name of its package. Takes no memory.
+pub(crate) fn given_of(alloc: Global, line: Line) -> NamedGiven
+    ensures { result ≡ named_by line }
 {
     let Line {
         number,
@@ -39,8 +43,11 @@ pub(crate) fn given_of(alloc: Global, line: Line) -> (PackageName, Given)
         marker,
         ..
     } = requirement;
-    let is_url = is_url(&version_or_url);
-    let specifiers = specifiers(alloc, version_or_url);
+    let (is_url, specifiers) = match version_or_url {
+        Some(VersionOrUrl::VersionSpecifier(list)) => (false, list),
+        Some(VersionOrUrl::Url(_url)) => (true, VersionSpecifiers::empty(alloc)),
+        None => (false, VersionSpecifiers::empty(alloc)),
+    };
     let given = Given {
         number,
         extras,
@@ -48,23 +55,5 @@ pub(crate) fn given_of(alloc: Global, line: Line) -> (PackageName, Given)
         is_url,
         specifiers,
     };
-    (name, given)
-}
-
-fn is_url(wanted: &Option<VersionOrUrl<VerbatimUrl>>) -> bool
-    ensures { result ≡ is_url_by wanted.now }
-{
-    match wanted {
-        Some(VersionOrUrl::Url(_)) => true,
-        Some(VersionOrUrl::VersionSpecifier(_)) | None => false,
-    }
-}
-
-fn specifiers(alloc: Global, wanted: Option<VersionOrUrl<VerbatimUrl>>) -> VersionSpecifiers
-    ensures { result ≡ specifiers_by wanted }
-{
-    match wanted {
-        Some(VersionOrUrl::VersionSpecifier(list)) => list,
-        Some(VersionOrUrl::Url(_)) | None => VersionSpecifiers::empty(alloc),
-    }
+    NamedGiven { name, given }
 }

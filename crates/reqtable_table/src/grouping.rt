@@ -1,9 +1,9 @@
 //! The lines of a text by the packages that they are of.
 
-ghost use Rattle.std.specs.Prelude.{◌≡◌, ◌∷◌, ◌++◌, [], IfOk, OnOk};
-ghost use Rattle.reqtable_table.specs.Given.{AreGrouped, AreSoFar, IsAdded, IsNewGroup};
+ghost use Rattle.std.specs.Prelude.{◌≡◌, ◌∷◌, ◌++◌, [], map, IfOk, OnOk};
+ghost use Rattle.reqtable_table.specs.Given.{AreGrouped, AreSoFar, IsAdded, IsNewGroup, named_by};
 
-use crate::given::{Given, given_of};
+use crate::given::{Given, NamedGiven, given_of};
 use pep508_name::PackageName;
 use reqtable_requirements::Line;
 use std::alloc::{AllocError, Global};
@@ -19,18 +19,29 @@ pub(crate) struct Group {
 pub(crate) fn grouped(alloc: Global, lines: Vec<Line>) -> Result<Vec<Group>, AllocError>
     ensures { IfOk result (λ groups. AreGrouped lines.items groups.items) }
 {
-    let mut lines = lines;
-    lines.sort_by(|a, b| a.requirement.name.cmp(&b.requirement.name))?;
-    cut(alloc, lines)
+    let mut named = named_lines(alloc, lines)?;
+    named.sort_by(|a, b| a.name.cmp(&b.name))?;
+    cut(alloc, named)
+}
+
+/// The lines without their URLs, which are much smaller to sort, in their order.
+fn named_lines(alloc: Global, lines: Vec<Line>) -> Result<Vec<NamedGiven>, AllocError>
+    ensures { IfOk result (λ named. named.items ≡ map named_by lines.items) }
+{
+    let mut named = Vec::with_capacity(alloc, lines.len())?;
+    for line in lines {
+        named.push(given_of(alloc, line))?;
+    }
+    Ok(named)
 }
 
 /// The groups of lines that stand by the names of their packages.
-fn cut(alloc: Global, lines: Vec<Line>) -> Result<Vec<Group>, AllocError>
+fn cut(alloc: Global, lines: Vec<NamedGiven>) -> Result<Vec<Group>, AllocError>
     ensures { IfOk result (λ groups. AreSoFar lines.items groups.items) }
 {
     let mut groups = Vec::new(alloc);
     for line in lines {
-        let (name, given) = given_of(alloc, line);
+        let NamedGiven { name, given } = line;
         add(alloc, &mut groups, name, given)?;
     }
     Ok(groups)

@@ -1,12 +1,9 @@
 //! The lines of a package, as a table keeps them.
 
 ghost use Rattle.std.specs.Prelude.{◌≡◌, map, IfOk};
-ghost use Rattle.std.specs.List.{list_any};
-ghost use Rattle.pep440_version.specs.Changes.{is_prerelease};
 ghost use Rattle.reqtable_table.specs.KeptLines.{kept_by, line_record};
 
 use crate::given::Given;
-use pep440_specifier::VersionSpecifier;
 use pep440_specifier_list::CountedSpecifiers;
 use pep508_name::ExtraName;
 use pep508_tree::MarkerTree;
@@ -22,8 +19,6 @@ pub(crate) struct TableLine {
     pub(crate) is_url: bool,
     /// Whether a specifier is `<` or `>`.
     pub(crate) is_bounded: bool,
-    /// Whether a specifier has a pre-release or developmental release.
-    pub(crate) names_prerelease: bool,
     pub(crate) specifiers: CountedSpecifiers,
 }
 
@@ -49,22 +44,12 @@ fn kept_line(line: Given) -> TableLine
         specifiers,
     } = line;
     let is_bounded = has_bound(specifiers.as_slice());
-    let names_prerelease = has_prerelease(specifiers.as_slice());
     TableLine {
         number,
         extras,
         marker,
         is_url,
         is_bounded,
-        names_prerelease,
         specifiers: CountedSpecifiers::new(specifiers),
     }
-}
-
-fn has_prerelease(specifiers: &[VersionSpecifier]) -> bool
-    ensures { result ≡ list_any (λ s. is_prerelease s.version) specifiers.now }
-{
-    specifiers
-        .iter()
-        .any(|specifier| specifier.version().any_prerelease())
 }

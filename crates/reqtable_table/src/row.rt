@@ -9,11 +9,10 @@ ghost use Rattle.reqtable_text.specs.Ordered.{placed_seen};
 ghost use Rattle.reqtable_answer.specs.Admission.{Admits, AnswersBy};
 ghost use Rattle.reqtable_answer.specs.Rows.{row_seen, IsTakenBelow};
 ghost use Rattle.reqtable_cases.specs.Lines.{marked};
-ghost use Rattle.reqtable_cases.specs.Usable.{IsRangeOf};
 ghost use Rattle.reqtable_table.specs.Answers.{kept_asked, most_tests, most_tests_of};
 ghost use Rattle.reqtable_table.specs.Answers.{AreRowsFor, SameLine, SamePackage};
 ghost use Rattle.reqtable_table.specs.Cases.{HasItsCases};
-ghost use Rattle.reqtable_table.specs.Choosing.{case_asks, outcome_in_order, IsRowInOrder};
+ghost use Rattle.reqtable_table.specs.Choosing.{case_asks, outcome_in_order, IsCaseFor, IsRowInOrder};
 ghost use Rattle.reqtable_table.specs.Counts.{tests_of, all_tests};
 ghost use Rattle.reqtable_table.specs.Kept.{KeptCase};
 ghost use Rattle.reqtable_table.specs.declared.table.Case.{Case};
@@ -28,13 +27,12 @@ use crate::choosing::{any_marked, chosen};
 use crate::kept::TableLine;
 use crate::runs::Told;
 use crate::setting::Setting;
-use crate::table::Package;
+use crate::table::{Case, Package};
 use pep440_version::Version;
 use reqtable_answer::{Admission, Outcome, Row};
 use reqtable_run::Run;
 use reqtable_text::Ordered;
 use std::alloc::{AllocError, Global};
-use version_ranges::Ranges;
 
 /// The rows of the packages of which a line applies.
 pub(crate) fn rows_of<F: Fn(&Version, bool) -> bool>(
@@ -150,8 +148,8 @@ fn outcome_in<F: Fn(&Version, bool) -> bool>(
     requires within { place < length kept.old.cases.items }
     requires numbers { (other : KeptCase) → (get_or (package_record kept.old).cases place other).numbers
         ≡ map (λ line. line.number) (marked marks.now (package_record kept.old).lines) }
-    requires ranged { (other : Case) → IsRangeOf (case_asks marks.now (map line_record kept.old.lines.items))
-        (get_or kept.old.cases.items place other).range }
+    requires asked { (other : Case) → IsCaseFor (case_asks marks.now (map line_record kept.old.lines.items))
+        (get_or kept.old.cases.items place other) }
     requires said { AllByRecursion (λ c. IsSaid c.1.version) (map placed_seen own.now) }
     requires told { IsTold (F.post admission.now) (package_record kept.old) (own_record own.now told.old) }
     ensures outcome { IfOk result (λ outcome. (admits : Admits) → AnswersBy (F.post admission.now) admits →
@@ -168,8 +166,8 @@ fn outcome_in<F: Fn(&Version, bool) -> bool>(
     if let Some(outcome) = told.outcome(place) {
         return Ok(outcome);
     }
-    let range = &kept.cases[place].range;
-    match outcome(alloc, &mut kept.lines, marks, range, own, admission) {
+    let case = &kept.cases[place];
+    match outcome(alloc, &mut kept.lines, marks, case, own, admission) {
         Ok(outcome) => {
             told.tell(place, outcome);
             Ok(outcome)
@@ -178,18 +176,18 @@ fn outcome_in<F: Fn(&Version, bool) -> bool>(
     }
 }
 
-/// What becomes of a package by its marked lines, whose case has this range.
+/// What becomes of a package by its marked lines, whose case is this one.
 fn outcome<F: Fn(&Version, bool) -> bool>(
     alloc: Global,
     lines: &mut [TableLine],
     marks: &[bool],
-    range: &Option<Ranges<Version>>,
+    case: &Case,
     own: &Run<'_, '_>,
     admission: &Admission<F>,
 ) -> Result<Outcome, AllocError>
     requires callable { F.IsAlwaysCallable admission.now }
     requires marks { length marks.now ≡ length lines.old }
-    requires ranged { IsRangeOf (case_asks marks.now (map line_record lines.old)) range.now }
+    requires asked { IsCaseFor (case_asks marks.now (map line_record lines.old)) case.now }
     requires flags { AllByRecursion HasItsFlags (map line_record lines.old) }
     requires read { AllByRecursion IsOfTexts (map line_record lines.old) }
     requires said { AllByRecursion (λ c. IsSaid c.1.version) (map placed_seen own.now) }
@@ -205,7 +203,7 @@ fn outcome<F: Fn(&Version, bool) -> bool>(
     if any_marked(lines, marks, |line: &TableLine| line.is_url) {
         return Ok(Outcome::Direct);
     }
-    match chosen(alloc, lines, marks, range, own, admission) {
+    match chosen(alloc, lines, marks, case, own, admission) {
         Ok(Some(place)) => Ok(Outcome::Taken(place)),
         Ok(None) => Ok(Outcome::Nothing),
         Err(error) => Err(error),

@@ -43,6 +43,9 @@ pub struct Case {
     /// The points in the ranges of all that the lines ask for. None where one of them asks for a URL, for
     /// `===`, or for `<` or `>` with a post-release, or where a number of a range can't be raised.
     pub range: Option<Ranges<Version>>,
+    /// Whether a specifier of these lines has a pre-release or developmental release (PEP 440, "Handling of
+    /// pre-releases").
+    pub pre: bool,
 }
 
 /// A package that some line names.

@@ -8,7 +8,8 @@ use Rattle.std.specs.List.{AllByRecursion, enumerate_from}
 use Rattle.std.specs.List.Sorted.{IsStrictlySortedBy}
 use Rattle.std.specs.Ordering.{ordering_then, ordering_reverse}
 use Rattle.pep440_version.specs.Order.{version_cmp}
-use Rattle.pep440_version.specs.OrderLaws.{version_cmp_total, then_equal}
+use Rattle.version_ranges.specs.HashingLaws.{then_equal}
+use Rattle.pep440_version.specs.OrderLaws.{version_cmp_total}
 use Rattle.pep508_name.specs.Name.{name_cmp}
 use Rattle.reqtable_text.specs.declared.candidates.Candidate.{Candidate}
 use Rattle.reqtable_text.specs.declared.ordered.Placed.{Placed}

@@ -11,9 +11,8 @@ returns-then-is_false-clause-found c = λ v.
 
 pub returns-clause-found : goal.returns-clause-found
 returns-clause-found c = record {
-  made = c.in_ok-both.ensures.made;
+  of = record { made = c.in_ok-both.ensures.made; truth = c.in_ok-both.ensures.truth };
   somewhere =
       c.a_tree_holds_somewhere.ensures c.in_ok-both.both c.in_ok-both.ensures.made
       (λ e. true≢false (sym (c.is_false.ensures.1 e) ∙ c.if-is_false.false));
-  means = c.in_ok-both.ensures.truth;
 }

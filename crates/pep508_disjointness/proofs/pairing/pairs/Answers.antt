@@ -2,7 +2,8 @@ use Rattle.std.proofs.Common.{◌∙◌, sym}
 use Rattle.std.proofs.lemmas.Result.{IfOk-weaker}
 use Rattle.pep508_tree.specs.Nodes.{first_place}
 use Rattle.pep508_disjointness.proofs.Apart.{paired_back}
-use Rattle.pep508_disjointness.proofs.Lent.{before_paired, same_paired, shown_versions, shown_texts, turned_less}
+use Rattle.pep508_disjointness.proofs.Lent.{before_paired, same_paired, shown_versions, shown_texts}
+use Rattle.pep508_disjointness.proofs.Lent.{turned_less}
 use Rattle.pep508_disjointness.proofs.pairing.pairs.Goals as goal
 
 pub pairs_with-requires-in-Equal-clause-versions :

@@ -16,14 +16,14 @@ texts_tree-requires c =
 pub returns-clause-made : goal.returns-clause-made
 returns-clause-made c =
     both_ok _ _ _ c.texts_tree.result
-    (λ tree made truth. (
-      made,
-      λ v. truth v
+    (λ tree made truth. record {
+      made = made;
+      truth = λ v. truth v
           ∙ ap
           (λ text. branch_at text_cmp c.args.negated
           (by_turns c.args.negated (boundary.At c.args.text ∷ boundary.JustAbove text ∷ []))
           (v.text c.args.key))
           c.in_ok-copy.ensures
-          ∙ equal_texts c.args.negated c.args.text (v.text c.args.key),
-    ))
+          ∙ equal_texts c.args.negated c.args.text (v.text c.args.key);
+    })
     c.texts_tree.ensures.made c.texts_tree.ensures.truth

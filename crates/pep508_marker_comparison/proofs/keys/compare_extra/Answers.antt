@@ -1,7 +1,8 @@
 use Rattle.std.proofs.Common.{sym, subst, ◌∙◌}
 use Rattle.pep508_name.specs.Name.{name_of}
 use Rattle.pep508_marker.specs.declared.warnings.MarkerWarningKind.TheVariants.{ExtraInvalidComparison}
-use Rattle.pep508_marker_comparison.specs.Compared.{left_out, of_extra, extra_of, extra_compared, warned_of_name}
+use Rattle.pep508_marker_comparison.specs.Compared.{left_out, of_extra, extra_of, extra_compared}
+use Rattle.pep508_marker_comparison.specs.Compared.{warned_of_name}
 use Rattle.pep508_marker_comparison.specs.Outcome.{IsCompared}
 use Rattle.pep508_marker_comparison.proofs.Warned.{if_ok_so, named_then}
 use Rattle.pep508_marker_comparison.proofs.keys.compare_extra.Goals as goal

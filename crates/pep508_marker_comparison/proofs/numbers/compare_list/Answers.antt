@@ -1,6 +1,7 @@
 use Rattle.std.proofs.Common.{sym, subst}
 use Rattle.pep508_marker.specs.declared.warnings.MarkerWarningKind.TheVariants.{Pep440Error}
-use Rattle.pep508_marker_comparison.specs.Compared.{of_list, of_specifier, specifier_behind, versions_of, runs_of}
+use Rattle.pep508_marker_comparison.specs.Compared.{of_list, of_specifier, specifier_behind, versions_of}
+use Rattle.pep508_marker_comparison.specs.Compared.{runs_of}
 use Rattle.pep508_marker_comparison.specs.Outcome.{IsCompared}
 use Rattle.pep508_marker_comparison.proofs.Warned.{if_ok_so, warned_then, err_none}
 use Rattle.pep508_marker_comparison.proofs.numbers.compare_list.Goals as goal

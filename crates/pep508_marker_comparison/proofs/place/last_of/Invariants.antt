@@ -1,6 +1,5 @@
 use Rattle.std.proofs.Common.{length}
-use Rattle.pep508_error.specs.Cursors.{IsBehind}
-use Rattle.pep508_marker_comparison.specs.Outcome.{behind}
+use Rattle.pep508_error.specs.Cursors.{behind, IsBehind}
 use Rattle.pep508_marker_comparison.proofs.place.last_of.Given as goal
 
 abbrev pub invariant-loop-later : goal.invariant-loop-later

@@ -4,10 +4,11 @@ use Rattle.std.proofs.lemmas.Result.{err_from_is_err_and}
 use Rattle.pep508_diagram.specs.Question.{Valuation}
 use Rattle.pep508_tree.specs.Meaning.{holds}
 use Rattle.pep508_tree.proofs.Conjoining.{extends_on}
-use Rattle.pep508_marker_comparison.specs.Outcome.{behind}
+use Rattle.pep508_error.specs.Cursors.{behind}
 use Rattle.pep508_marker_read.specs.TreeReading.{connective, inner_at, piece_at, chain_truth, ReadsPart}
 use Rattle.pep508_marker_read.proofs.Kept.{piece_keeps}
-use Rattle.pep508_marker_read.proofs.Chains.{chain_begins, chain_goes_on, chain_shorter, chain_refused, chain_ends}
+use Rattle.pep508_marker_read.proofs.Chains.{chain_begins, chain_goes_on, chain_shorter, chain_refused}
+use Rattle.pep508_marker_read.proofs.Chains.{chain_ends}
 use Rattle.pep508_marker_read.proofs.Chains.{behind_on, part_other, inner_refused, closed_is, closed_refused}
 use Rattle.pep508_marker_read.proofs.chain.+reading.Goals as goal
 

@@ -1,7 +1,6 @@
 use Rattle.std.proofs.Common.{◌≡◌, ◌+◌, ◌*◌, length}
-use Rattle.pep508_error.specs.Cursors.{IsBehind}
+use Rattle.pep508_error.specs.Cursors.{IsBehind, behind}
 use Rattle.pep508_tree.specs.Meaning.{Extends}
-use Rattle.pep508_marker_comparison.specs.Outcome.{behind}
 use Rattle.pep508_marker_read.specs.TreeReading.{connective, piece_at}
 use Rattle.pep508_marker_read.proofs.Chains.{IsChain, weight}
 use Rattle.pep508_marker_read.proofs.chain.+reading.Given as goal

@@ -1,4 +1,4 @@
-use Rattle.pep508_marker_comparison.specs.Outcome.{behind}
+use Rattle.pep508_error.specs.Cursors.{behind}
 use Rattle.pep508_marker_read.proofs.ComparedTrees.{said_compares, left_out_read, tree_read}
 use Rattle.pep508_marker_read.proofs.compared.read_compared.Goals as goal
 

@@ -1,5 +1,5 @@
 use Rattle.std.proofs.lemmas.Result.{err_from_is_err_and}
-use Rattle.pep508_marker_comparison.specs.Outcome.{behind}
+use Rattle.pep508_error.specs.Cursors.{behind}
 use Rattle.pep508_marker_read.proofs.MarkerTrees.{marker_refused, ended, whole_tree}
 use Rattle.pep508_marker_read.proofs.marker.read_marker.Goals as goal
 

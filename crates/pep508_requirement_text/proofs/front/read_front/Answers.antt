@@ -2,8 +2,7 @@ use Rattle.std.proofs.Common.{refl}
 use Rattle.std.proofs.lemmas.Result.{err_from_is_err_and}
 use Rattle.pep508_name.specs.Name.{normal_name}
 use Rattle.pep508_error.specs.declared.refusal.RefusalKind.TheVariants.{Memory}
-use Rattle.pep508_error.specs.Cursors.{rest_of}
-use Rattle.pep508_requirement_text.specs.FrontOutcome.{behind}
+use Rattle.pep508_error.specs.Cursors.{rest_of, behind}
 use Rattle.pep508_requirement_text.proofs.FrontParts.{extras_stop, source_stops, front_is}
 use Rattle.pep508_requirement_text.proofs.front.read_front.Goals as goal
 

@@ -1,5 +1,5 @@
 use Rattle.std.proofs.Common.{sym, subst, ◌∙◌}
-use Rattle.pep508_requirement_text.specs.FrontOutcome.{behind}
+use Rattle.pep508_error.specs.Cursors.{behind}
 use Rattle.pep508_requirement_text.specs.FrontFound.{ReadsAs, IsSource}
 use Rattle.pep508_requirement_text.proofs.SourceCases.{at_operator}
 use Rattle.pep508_requirement_text.proofs.front.read_source.Goals as goal

@@ -3,7 +3,8 @@ use Rattle.pep508_requirement_text.specs.UrlEnds.{url_split}
 use Rattle.std.specs.Str.{skip_leading_whitespace}
 use Rattle.pep508_requirement_text.specs.FrontReading.{if_url}
 use Rattle.pep508_requirement_text.specs.FrontReading.Source.{Url}
-use Rattle.pep508_requirement_text.specs.FrontOutcome.{behind, IsPlain}
+use Rattle.pep508_requirement_text.specs.FrontOutcome.{IsPlain}
+use Rattle.pep508_error.specs.Cursors.{behind}
 use Rattle.pep508_requirement_text.proofs.Outcomes.{plain_tells}
 use Rattle.pep508_requirement_text.proofs.FrontParts.{url_missing, url_read}
 use Rattle.pep508_requirement_text.proofs.front.read_url.Goals as goal

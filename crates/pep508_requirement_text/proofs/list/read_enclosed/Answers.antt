@@ -1,6 +1,6 @@
 use Rattle.std.proofs.lemmas.Result.{err_from_is_err_and}
 use Rattle.pep508_requirement_text.specs.FrontReading.Source.{Specifiers}
-use Rattle.pep508_requirement_text.specs.FrontOutcome.{behind}
+use Rattle.pep508_error.specs.Cursors.{behind}
 use Rattle.pep508_requirement_text.proofs.ListPlaces.{enclosed_stops, enclosed_is}
 use Rattle.pep508_requirement_text.proofs.list.read_enclosed.Goals as goal
 

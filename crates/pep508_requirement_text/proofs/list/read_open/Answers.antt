@@ -1,8 +1,8 @@
 use Rattle.std.proofs.Common.{eqb}
 use Rattle.std.proofs.lemmas.Result.{err_from_is_err_and}
-use Rattle.pep508_requirement_text.specs.FrontReading.{cut_before}
+use Rattle.pep508_error.specs.Cuts.{encoded_cut}
 use Rattle.pep508_requirement_text.specs.FrontReading.Source.{Specifiers}
-use Rattle.pep508_requirement_text.specs.FrontOutcome.{behind}
+use Rattle.pep508_error.specs.Cursors.{behind}
 use Rattle.pep508_requirement_text.proofs.ListPlaces.{list_stops, list_is}
 use Rattle.pep508_requirement_text.proofs.list.read_open.Goals as goal
 
@@ -11,15 +11,15 @@ returns-in_err-list-clause-read c =
     λ vars.
     let returned = err_from_is_err_and c.from_residual.result c.from_residual.ensures.1 in
     rw (returned.1, returned.2)
-    (list_stops vars c.in_err-list.field-0.0.kind c.cut_before.result.0.now (behind c.cut_before.result.1)
-    (cut_before (λ d. eqb d 59) (behind c.args.start)) c.cut_before.ensures.parts (c.in_err-list.ensures.read vars))
+    (list_stops vars c.in_err-list.field-0.0.kind c.cut.result.0.now (behind c.cut.result.1)
+    (encoded_cut (λ d. eqb d 59) (behind c.args.start)) c.cut.ensures.parts (c.in_err-list.ensures.read vars))
 
 pub returns-clause-read : goal.returns-clause-read
 returns-clause-read c =
     λ vars.
     let read = c.in_ok-list.ensures.read in (
       Specifiers read.0,
-      list_is c.cut_before.result.0.now (behind c.cut_before.result.1)
-          (cut_before (λ d. eqb d 59) (behind c.args.start)) read.0 c.cut_before.ensures.parts read.1,
+      list_is c.cut.result.0.now (behind c.cut.result.1)
+          (encoded_cut (λ d. eqb d 59) (behind c.args.start)) read.0 c.cut.ensures.parts read.1,
       read.2,
     )

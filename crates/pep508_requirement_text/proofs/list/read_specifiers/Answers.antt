@@ -1,5 +1,5 @@
 use Rattle.std.proofs.Common.{sym, subst}
-use Rattle.pep508_requirement_text.specs.FrontOutcome.{IsAt}
+use Rattle.pep508_error.specs.Cursors.{IsAt}
 use Rattle.pep508_requirement_text.proofs.ListPlaces.{error_told}
 use Rattle.pep508_requirement_text.proofs.list.read_specifiers.Goals as goal
 

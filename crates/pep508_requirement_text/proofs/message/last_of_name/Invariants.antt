@@ -1,6 +1,5 @@
 use Rattle.std.proofs.Common.{length}
-use Rattle.pep508_error.specs.Cursors.{IsBehind}
-use Rattle.pep508_requirement_text.specs.FrontOutcome.{behind}
+use Rattle.pep508_error.specs.Cursors.{IsBehind, behind}
 use Rattle.pep508_requirement_text.proofs.message.last_of_name.Given as goal
 
 abbrev pub invariant-loop-c : goal.invariant-loop-c

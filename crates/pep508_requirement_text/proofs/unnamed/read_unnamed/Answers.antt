@@ -1,10 +1,11 @@
 use Rattle.std.proofs.Common.{inr, true, List, ℕ, sym, subst, ap, ◌∙◌}
 use Rattle.std.proofs.lemmas.Result.{err_from_is_err_and}
-use Rattle.pep508_error.specs.Cursors.{rest_of}
+use Rattle.pep508_error.specs.Cursors.{rest_of, behind}
 use Rattle.pep508_url.specs.Splits.{IsExtrasSplit}
 use Rattle.pep508_requirement_text.specs.UrlEnds.{url_split}
-use Rattle.pep508_requirement_text.specs.FrontOutcome.{behind, IsPlain}
-use Rattle.pep508_requirement_text.proofs.UnnamedParts.{nothing_read, nothing_there, whole_is, front_read, extras_stop}
+use Rattle.pep508_requirement_text.specs.FrontOutcome.{IsPlain}
+use Rattle.pep508_requirement_text.proofs.UnnamedParts.{nothing_read, nothing_there, whole_is, front_read}
+use Rattle.pep508_requirement_text.proofs.UnnamedParts.{extras_stop}
 use Rattle.pep508_requirement_text.proofs.unnamed.read_unnamed.Goals as goal
 
 pub returns-then-is_empty-clause-read : goal.returns-then-is_empty-clause-read

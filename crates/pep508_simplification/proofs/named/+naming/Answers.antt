@@ -6,7 +6,9 @@ use Rattle.pep508_tree.specs.Nodes.{turned}
 use Rattle.pep508_tree.proofs.Conjoining.{extends_on, tree_kept, meet_by, each_of_list}
 use Rattle.pep508_simplification.specs.Parts.{record_of, children_of}
 use Rattle.pep508_simplification.specs.Named.{IsNamed, plain}
-use Rattle.pep508_simplification.proofs.Naming.{plain_is, named_now, named_signed, known_kept, found_more, asked_made, asked_falls, joined_made, joined_above, joined_named}
+use Rattle.pep508_simplification.proofs.Naming.{plain_is, named_now, named_signed, known_kept, found_more}
+use Rattle.pep508_simplification.proofs.Naming.{asked_made, asked_falls, joined_made, joined_above}
+use Rattle.pep508_simplification.proofs.Naming.{joined_named}
 use Rattle.pep508_simplification.proofs.named.+naming.Given as given
 use Rattle.pep508_simplification.proofs.named.+naming.Goals as goal
 

@@ -1,7 +1,8 @@
 use Rattle.std.proofs.Common.{true, false, refl, sym}
 use Rattle.std.proofs.lemmas.Result.{IfOk-weaker}
 use Rattle.pep440_specifier.specs.Bounds.{lent_bound}
-use Rattle.pep508_simplification.proofs.Simplifying.{found_made, found_above, found_rises, found_differ, found_simpler, kept_simpler, empty_simpler}
+use Rattle.pep508_simplification.proofs.Simplifying.{found_made, found_above, found_rises, found_differ}
+use Rattle.pep508_simplification.proofs.Simplifying.{found_simpler, kept_simpler, empty_simpler}
 use Rattle.pep508_simplification.proofs.narrowed.narrowed.Goals as goal
 
 pub returns-then-asks_python-clause-simpler : goal.returns-then-asks_python-clause-simpler

@@ -8,7 +8,8 @@ use Rattle.pep508_tree.proofs.Conjoining.{meet_by}
 use Rattle.pep508_simplification.specs.Parts.{record_of, children_of}
 use Rattle.pep508_simplification.specs.Simplified.{between}
 use Rattle.pep508_simplification.specs.Narrowed.{asks_implementation, implementation_place, IsSimpler}
-use Rattle.pep508_simplification.proofs.Simplifying.{above_implementation, made_list, above_list, rejoined_made, rejoined_above, rejoined_simplified}
+use Rattle.pep508_simplification.proofs.Simplifying.{above_implementation, made_list, above_list}
+use Rattle.pep508_simplification.proofs.Simplifying.{rejoined_made, rejoined_above, rejoined_simplified}
 use Rattle.pep508_simplification.proofs.narrowed.simplified.Goals as goal
 
 pub narrowed-requires-clause-above : goal.narrowed-requires-clause-above

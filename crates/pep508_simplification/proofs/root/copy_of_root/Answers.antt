@@ -2,7 +2,10 @@ use Rattle.std.proofs.Common.{◌∙◌, ap, sym, rules}
 use Rattle.pep508_tree.specs.Roots.{root_of, shown}
 use Rattle.pep508_simplification.specs.Parts.{record_of}
 use Rattle.pep508_simplification.proofs.Rooted.{copy_versions, copy_texts}
-use Rattle.pep508_simplification.proofs.root.copy_of_root.Goals.{in-Constant, in-Versions+in_ok-later-in-Versions, in-Texts+in_ok-later-in-Texts, in-Flagged+in_ok-copy_of_flag-in-Flagged}
+use Rattle.pep508_simplification.proofs.root.copy_of_root.Goals.{in-Constant}
+use Rattle.pep508_simplification.proofs.root.copy_of_root.Goals.{in-Versions+in_ok-later-in-Versions}
+use Rattle.pep508_simplification.proofs.root.copy_of_root.Goals.{in-Texts+in_ok-later-in-Texts}
+use Rattle.pep508_simplification.proofs.root.copy_of_root.Goals.{in-Flagged+in_ok-copy_of_flag-in-Flagged}
 use Rattle.pep508_simplification.proofs.root.copy_of_root.Goals as goal
 
 pub returns-clause-copy : goal.returns-clause-copy

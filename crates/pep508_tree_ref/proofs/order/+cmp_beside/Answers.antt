@@ -1,6 +1,7 @@
 use Rattle.std.proofs.Common.{◌∙◌, sym, ap₂, arith}
 use Rattle.pep508_tree_ref.specs.Sides.{end_cmp}
-use Rattle.pep508_tree_ref.proofs.Walking.{other_out, end_decides, child_decides, next_tie, first_out, both_out}
+use Rattle.pep508_tree_ref.proofs.Walking.{other_out, end_decides, child_decides, next_tie, first_out}
+use Rattle.pep508_tree_ref.proofs.Walking.{both_out}
 use Rattle.pep508_tree_ref.proofs.order.+cmp_beside.Goals as goal
 
 pub returns-then-other_count-index-clause-order : goal.returns-then-other_count-index-clause-order

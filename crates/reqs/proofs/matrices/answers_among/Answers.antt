@@ -5,7 +5,7 @@ use Rattle.reqtable_answer.specs.Answer.{IsAnswer}
 use Rattle.reqtable_answer.specs.Rows.{row_seen}
 use Rattle.reqtable_requirements.specs.Asks.{asks_of}
 use Rattle.reqtable_table.proofs.Same.{all_same, packages_on, has_cases, keeps}
-use Rattle.reqs.specs.Check.{any}
+use Rattle.reqs.specs.Check.{on_request}
 use Rattle.reqs.proofs.Numbered.{one_more, finished}
 use Rattle.reqs.proofs.matrices.answers_among.Goals as goal
 
@@ -28,12 +28,12 @@ loop-place-preserved g c =
       goes = record {
         same = packages_on _ _ _ c.in_ok-answer.ensures.kept c.loop-place.invariant.goes.same;
         answers = λ said k.
-            let P : List Candidate → Type 0 = λ cs. IsAnswer any (asks_of (valuation_of environment c.args.extras.now) said) cs rows in
+            let P : List Candidate → Type 0 = λ cs. IsAnswer on_request (asks_of (valuation_of environment c.args.extras.now) said) cs rows in
             rw c.in_ok-push_answer.ensures
             (one_more c.args.extras.now said c.args.candidates.now c.args.environments.now c.loop-place.place environment
             c.loop-place-test.true c.index-environments-place.is (string_bytes c.loop-place.text) (c.loop-place.invariant.goes.answers said k) rows
             (subst P c.loop-place.invariant.candidates
-            (c.in_ok-answer.ensures.answered said any
+            (c.in_ok-answer.ensures.answered said on_request
             (keeps c.args.interner.now.nodes c.loop-place.table c.args.table.now said c.loop-place.invariant.goes.same k)
             c.requires.admits)));
       };

@@ -1,10 +1,10 @@
 use Rattle.std.proofs.Common.{rules}
 use Rattle.reqtable_table.proofs.Told.{told_at_first}
-use Rattle.reqs.specs.Check.{any}
+use Rattle.reqs.specs.Check.{on_request}
 use Rattle.reqs.proofs.matrices.answers_text.Goals as goal
 
 pub new-admission-requires-clause-lawful : goal.new-admission-requires-clause-lawful
-new-admission-requires-clause-lawful c = (any, λ version named answer h. search rules)
+new-admission-requires-clause-lawful c = (on_request, λ version named answer h. search rules)
 
 pub answers_among-requires-clause-admits : goal.answers_among-requires-clause-admits
 answers_among-requires-clause-admits c = λ version named answer h. search rules

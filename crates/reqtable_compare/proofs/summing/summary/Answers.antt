@@ -18,5 +18,6 @@ returns c =
           ∙ ap (list_any (λ l. list_any (bytes_eq e) l.now)) c.deref-2.ensures.value
           ∙ sym (any_mapped (list_any (bytes_eq e)) (λ l. l.now) lists) ∙ ap (list_any (list_any (bytes_eq e))) are;
       range = c.as_ref.ensures.value;
+      prerelease = refl;
       tree = refl;
     }

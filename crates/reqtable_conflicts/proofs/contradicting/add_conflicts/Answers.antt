@@ -1,7 +1,7 @@
-use Rattle.std.proofs.Common.{◌∙◌, ◌+◌, ◌++◌, ◌∷◌, [], map, take, sym, ap, subst, true≢false}
+use Rattle.std.proofs.Common.{◌∙◌, ◌+◌, map, take, sym, ap, subst, true≢false}
 use Rattle.reqtable_table.specs.Casing.{case_record}
 use Rattle.reqtable_conflicts.specs.Contradictions.{conflict_record}
-use Rattle.reqtable_conflicts.specs.Picking.{AddsPicked, named}
+use Rattle.reqtable_conflicts.specs.Picking.{AddsPicked}
 use Rattle.reqtable_conflicts.proofs.Picked.{picks_next, passes_next}
 use Rattle.reqtable_conflicts.proofs.contradicting.add_conflicts.Goals as goal
 use Rattle.reqtable_conflicts.proofs.contradicting.add_conflicts.Goals.{then-is_conflict+in_ok-push_conflict}
@@ -18,8 +18,7 @@ loop-case-preserved c =
       | then-is_conflict+in_ok-push_conflict w ↦
           picks_next c.args.name.now cases i case old new (map conflict_record c.if-is_conflict.found.items)
           c.loop-case-test.true c.case-item.is c.loop-case.invariant (c.is_conflict.ensures.0 w.if-is_conflict.true)
-          (ap (λ f. map conflict_record f.items) w.found-is ∙ w.in_ok-push_conflict.ensures
-          ∙ ap (λ numbers. new ++ named c.args.name.now numbers ∷ []) w.deref.ensures.value)
+          (ap (λ f. map conflict_record f.items) w.found-is ∙ w.in_ok-push_conflict.ensures)
       | else-is_conflict w ↦
           subst (λ f. AddsPicked c.args.name.now (map case_record (take (i + 1) cases)) old
           (map conflict_record f.items)) (sym w.found-is)

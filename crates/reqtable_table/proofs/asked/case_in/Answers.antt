@@ -5,7 +5,7 @@ use Rattle.std.specs.Ordering.{ordering_index}
 use Rattle.reqtable_cases.specs.Lines.{marked}
 use Rattle.reqtable_table.specs.declared.table.Case.{Case}
 use Rattle.reqtable_table.specs.Numbers.{numbers_cmp}
-use Rattle.reqtable_table.proofs.Searching.{numbers_at, numbers_seen, searchable, found_range, found_numbers, is_there, marks_lines_long}
+use Rattle.reqtable_table.proofs.Searching.{numbers_at, numbers_seen, searchable, found_case, found_numbers, is_there, marks_lines_long}
 use Rattle.reqtable_table.proofs.asked.case_in.Goals as goal
 
 pub numbers_in-requires : goal.numbers_in-requires
@@ -34,8 +34,8 @@ unreachable-requires c =
     (subst (λ ns. IsPartitionPoint (λ (case : Case). order ns case ≡ Less) (λ case. order ns case ≡ Greater) kept.cases.items c.in-Err.field-0) e
     (subst (λ l. IsPartitionPoint (λ (case : Case). order numbers case ≡ Less) (λ case. order numbers case ≡ Greater) l c.in-Err.field-0) same parted))
 
-pub returns-clause-range : goal.returns-clause-range
-returns-clause-range c = λ other.
+pub returns-clause-asked : goal.returns-clause-asked
+returns-clause-asked c = λ other.
     let kept = c.args.kept.now in
     let marks = c.args.marks.now in
     let lines = c.requires.lines in
@@ -50,7 +50,7 @@ returns-clause-range c = λ other.
     let at = c.in-Ok.ensures.position (order numbers) (always_returns_same _ _ _ (λ a r f k. search rules)) in
     let equal : (d : Case) → order wanted (get_or kept.cases.items place d) ≡ Equal =
     (λ d. sym (λ i. order (e i) (get_or (same i) place d)) ∙ at d) in
-    found_range kept marks lines applying place (subst (λ l. place < length l) same c.in-Ok.ensures.bound) equal other
+    found_case kept marks lines applying place (subst (λ l. place < length l) same c.in-Ok.ensures.bound) equal other
 
 pub returns-clause-numbers : goal.returns-clause-numbers
 returns-clause-numbers c =

@@ -10,7 +10,12 @@ use Rattle.reqtable_table.proofs.Told.{told_more}
 use Rattle.reqtable_table.proofs.row.outcome_in.Goals as goal
 
 no_case : KeptCase
-no_case = record { numbers = []; tree = record { place = 0; negated = false }; range = None }
+no_case = record {
+  numbers = [];
+  tree = record { place = 0; negated = false };
+  range = None;
+  prerelease = false;
+}
 
 pub returns-in-Some-clause-outcome : goal.returns-in-Some-clause-outcome
 returns-in-Some-clause-outcome g c = λ admits by.

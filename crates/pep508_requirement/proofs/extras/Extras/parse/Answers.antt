@@ -1,6 +1,6 @@
 use Rattle.std.proofs.Common.{[], ◌==◌, chars, sym, ap, subst, ◌∙◌}
 use Rattle.pep508_url.specs.Vars.{Variables}
-use Rattle.pep508_requirement_text.specs.UrlEnds.{begins_with}
+use Rattle.pep508_error.specs.Cuts.{begins_by}
 use Rattle.pep508_requirement_text.specs.FrontReading.{extras_at}
 use Rattle.pep508_requirement_text.specs.FrontOutcome.{Tells}
 use Rattle.pep508_requirement.proofs.RefusedExtras.{extras_error}
@@ -25,4 +25,4 @@ returns-in-Err-clause-read g c =
 
 pub returns-in-Err-clause-none : goal.returns-in-Err-clause-none
 returns-in-Err-clause-none g c =
-    λ h. c.in-Err.ensures.none (ap (λ text. begins_with (λ b. b == 91) (chars text)) c.new.ensures.rest ∙ h)
+    λ h. c.in-Err.ensures.none (ap (λ text. begins_by (λ b. b == 91) (chars text)) c.new.ensures.rest ∙ h)

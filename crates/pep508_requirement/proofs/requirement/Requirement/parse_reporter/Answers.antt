@@ -1,7 +1,8 @@
 use Rattle.std.proofs.Common.{refl, sym, ap, subst, ◌∙◌}
 use Rattle.std.specs.Str.{skip_leading_whitespace}
 use Rattle.pep508_requirement_text.specs.FrontReading.{front_reading}
-use Rattle.pep508_requirement_text.specs.FrontOutcome.{Tells, behind}
+use Rattle.pep508_requirement_text.specs.FrontOutcome.{Tells}
+use Rattle.pep508_error.specs.Cursors.{behind}
 use Rattle.pep508_requirement.proofs.Refusing.{front_error, marker_error, read_up_to, url_error}
 use Rattle.pep508_requirement.proofs.requirement.Requirement.parse_reporter.Goals as goal
 

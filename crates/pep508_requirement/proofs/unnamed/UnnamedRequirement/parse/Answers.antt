@@ -1,10 +1,12 @@
 use Rattle.std.proofs.Common.{rules, ◌≡◌, ◌⊎◌, ℕ, List, Ok, Err, refl, subst, ◌∙◌}
 use Rattle.pep508_error.specs.declared.refusal.RefusalKind.TheVariants.{Memory}
 use Rattle.pep508_requirement_text.specs.FrontReading.Refused.{Malformed}
-use Rattle.pep508_requirement_text.specs.FrontOutcome.{IsPlain, behind}
+use Rattle.pep508_requirement_text.specs.FrontOutcome.{IsPlain}
+use Rattle.pep508_error.specs.Cursors.{behind}
 use Rattle.pep508_requirement_text.specs.UnnamedReading.{IsUnnamedReading}
 use Rattle.pep508_requirement_text.specs.UnnamedFound.{seen}
-use Rattle.pep508_requirement.proofs.RefusingUnnamed.{unnamed_front_error, unnamed_marker_error, unnamed_url_error}
+use Rattle.pep508_requirement.proofs.RefusingUnnamed.{unnamed_front_error, unnamed_marker_error}
+use Rattle.pep508_requirement.proofs.RefusingUnnamed.{unnamed_url_error}
 use Rattle.pep508_requirement.proofs.unnamed.UnnamedRequirement.parse.Goals as goal
 
 pub returns-in-Err-clause-answered : goal.returns-in-Err-clause-answered

@@ -1,5 +1,5 @@
 use Rattle.std.proofs.Common.{◌∙◌, sym, inl, inr, true≢false}
-use Rattle.reqtable_compare.proofs.Likeness.{names_are, names_same}
+use Rattle.reqtable_compare.proofs.Likeness.{names_are, names_same, same_flags}
 use Rattle.reqtable_compare.proofs.summary.Summary.is_alike.Goals as goal
 
 pub returns-then-eq : goal.returns-then-eq
@@ -9,6 +9,7 @@ returns-then-eq c = (
     other = c.if-not-other.false;
     extras = names_are c.args.self.now.extras.items c.args.other.now.extras.items (sym c.eq.ensures ∙ c.if-eq.true);
     range = c.is_same_range.ensures.0 t;
+    prerelease = same_flags c.args.self.now.prerelease c.args.other.now.prerelease c.if-self-other.false;
   }),
   λ h. elim h [
     | inl none ↦ absurd (true≢false (sym c.if-not-self.false ∙ none.0))

@@ -1,0 +1,193 @@
+//! Conjunctions of many trees.
+
+ghost use Rattle.std.specs.Prelude.{◌≡◌, ◌<◌, length, IfOk, IfSome};
+ghost use Rattle.std.specs.List.{AllByRecursion};
+ghost use Rattle.pep440_version.specs.Order.{version_cmp};
+ghost use Rattle.pep508_diagram.specs.Text.{text_cmp};
+ghost use Rattle.pep508_diagram.specs.Question.{Valuation};
+ghost use Rattle.pep508_tree.specs.Meaning.{IsTree, Extends, holds};
+ghost use Rattle.pep508_conjunctions.specs.Sources.{AreMeet, all_hold};
+
+use crate::meet::{Truths, meet_all};
+use crate::owned::{constant, constants, owned};
+use crate::source::{text_sources, turned, version_sources};
+use pep440_version::Version;
+use pep508_diagram::{MarkerText, VersionVariable};
+use pep508_marker::MarkerValueString;
+use pep508_tree::{Interner, MarkerTree, TreeNode, uncounted_conjunction};
+use std::alloc::{AllocError, Global};
+
+/// Where all of the trees hold, if each asks for a key's version alone.
+fn version_truths(
+    alloc: Global,
+    interner: &Interner,
+    key: VersionVariable,
+    trees: &[MarkerTree],
+    negated: bool,
+) -> Result<Option<Truths<Version>>, AllocError>
+    requires { AllByRecursion (IsTree interner.now.nodes) trees.now }
+    ensures { IfOk result (λ found. IfSome found (AreMeet version_cmp (λ v. v.version key)
+        interner.now.nodes negated trees.now)) }
+{
+    let Some(sources) = version_sources(alloc, interner, key, trees, negated)? else {
+        return Ok(None);
+    };
+    let truths = meet_all(alloc, &sources)?;
+    let copy = owned(alloc, &truths)?;
+    Ok(Some(copy))
+}
+
+/// Where all of the trees hold, if each asks for a key's text alone.
+fn text_truths(
+    alloc: Global,
+    interner: &Interner,
+    key: MarkerValueString,
+    trees: &[MarkerTree],
+    negated: bool,
+) -> Result<Option<Truths<MarkerText>>, AllocError>
+    requires { AllByRecursion (IsTree interner.now.nodes) trees.now }
+    ensures { IfOk result (λ found. IfSome found (AreMeet text_cmp (λ v. v.text key)
+        interner.now.nodes negated trees.now)) }
+{
+    let Some(sources) = text_sources(alloc, interner, key, trees, negated)? else {
+        return Ok(None);
+    };
+    let truths = meet_all(alloc, &sources)?;
+    let copy = owned(alloc, &truths)?;
+    Ok(Some(copy))
+}
+
+/// The tree that holds where all of the trees do, if each asks for a key's version alone.
+fn of_versions(
+    alloc: Global,
+    interner: &mut Interner,
+    key: VersionVariable,
+    trees: &[MarkerTree],
+    negated: bool,
+) -> Result<Option<MarkerTree>, AllocError>
+    requires { AllByRecursion (IsTree interner.old.nodes) trees.now }
+    ensures made { IfOk result (λ found. IfSome found (IsTree interner.new.nodes)) }
+    ensures truth { IfOk result (λ found. IfSome found (λ tree. (v : Valuation) →
+        holds interner.new.nodes tree v ≡ all_hold interner.old.nodes negated trees.now v)) }
+    ensures keeps { Extends interner.old.nodes interner.new.nodes }
+    ensures counts { interner.new.conjunctions ≡ interner.old.conjunctions }
+{
+    let Some(truths) = version_truths(alloc, interner, key, trees, negated)? else {
+        return Ok(None);
+    };
+    let later = constants(alloc, truths.later)?;
+    let tree = interner.versions_node(key, constant(truths.first), later)?;
+    Ok(Some(tree))
+}
+
+/// The tree that holds where all of the trees do, if each asks for a key's text alone.
+fn of_texts(
+    alloc: Global,
+    interner: &mut Interner,
+    key: MarkerValueString,
+    trees: &[MarkerTree],
+    negated: bool,
+) -> Result<Option<MarkerTree>, AllocError>
+    requires { AllByRecursion (IsTree interner.old.nodes) trees.now }
+    ensures made { IfOk result (λ found. IfSome found (IsTree interner.new.nodes)) }
+    ensures truth { IfOk result (λ found. IfSome found (λ tree. (v : Valuation) →
+        holds interner.new.nodes tree v ≡ all_hold interner.old.nodes negated trees.now v)) }
+    ensures keeps { Extends interner.old.nodes interner.new.nodes }
+    ensures counts { interner.new.conjunctions ≡ interner.old.conjunctions }
+{
+    let Some(truths) = text_truths(alloc, interner, key, trees, negated)? else {
+        return Ok(None);
+    };
+    let later = constants(alloc, truths.later)?;
+    let tree = interner.texts_node(key, constant(truths.first), later)?;
+    Ok(Some(tree))
+}
+
+/// A key that trees may ask for alone.
+#[derive(Clone, Copy)]
+enum Key {
+    Versions(VersionVariable),
+    Texts(MarkerValueString),
+    Neither,
+}
+
+/// The key that the first tree asks for first.
+fn first_key(interner: &Interner, trees: &[MarkerTree]) -> Key
+    requires { AllByRecursion (IsTree interner.now.nodes) trees.now }
+{
+    match trees.split_first() {
+        Some((tree, _)) => match tree.node(interner) {
+            TreeNode::Versions(key, _) => Key::Versions(key),
+            TreeNode::Texts(key, _) => Key::Texts(key),
+            _ => Key::Neither,
+        },
+        None => Key::Neither,
+    }
+}
+
+/// The tree that holds where all of the trees do, if all ask for one key alone.
+fn of_one_key(
+    alloc: Global,
+    interner: &mut Interner,
+    trees: &[MarkerTree],
+    negated: bool,
+) -> Result<Option<MarkerTree>, AllocError>
+    requires { AllByRecursion (IsTree interner.old.nodes) trees.now }
+    ensures made { IfOk result (λ found. IfSome found (IsTree interner.new.nodes)) }
+    ensures truth { IfOk result (λ found. IfSome found (λ tree. (v : Valuation) →
+        holds interner.new.nodes tree v ≡ all_hold interner.old.nodes negated trees.now v)) }
+    ensures keeps { Extends interner.old.nodes interner.new.nodes }
+    ensures counts { interner.new.conjunctions ≡ interner.old.conjunctions }
+{
+    match first_key(interner, trees) {
+        Key::Versions(key) => of_versions(alloc, interner, key, trees, negated),
+        Key::Texts(key) => of_texts(alloc, interner, key, trees, negated),
+        Key::Neither => Ok(None),
+    }
+}
+
+/// The tree that holds where the one tree does that there is, if there is one.
+fn of_one(interner: &Interner, trees: &[MarkerTree], negated: bool) -> MarkerTree
+    requires made { AllByRecursion (IsTree interner.now.nodes) trees.now }
+    requires few { length trees.now < 2 }
+    ensures made { IsTree interner.now.nodes result }
+    ensures truth { (v : Valuation) →
+        holds interner.now.nodes result v ≡ all_hold interner.now.nodes negated trees.now v }
+{
+    let _nodes = interner;
+    match trees.first() {
+        Some(tree) => turned(*tree, negated),
+        None => MarkerTree::TRUE,
+    }
+}
+
+/// The tree that holds where all of the trees do, or where all their negations do if the flag is set; without
+/// trees the one that always holds. The only refusal is want of memory, and earlier trees mean what they
+/// meant, refused or not. Counts nothing.
+///
+/// Where all ask for one key alone, n boundaries take O(n log n) comparisons, and one node is made. Else the
+/// conjunctions of both halves are made, and then theirs.
+pub fn conjunction_of_all(
+    alloc: Global,
+    interner: &mut Interner,
+    trees: &[MarkerTree],
+    negated: bool,
+) -> Result<MarkerTree, AllocError>
+    requires { AllByRecursion (IsTree interner.old.nodes) trees.now }
+    ensures made { IfOk result (IsTree interner.new.nodes) }
+    ensures truth { IfOk result (λ tree. (v : Valuation) →
+        holds interner.new.nodes tree v ≡ all_hold interner.old.nodes negated trees.now v) }
+    ensures keeps { Extends interner.old.nodes interner.new.nodes }
+    ensures counts { interner.new.conjunctions ≡ interner.old.conjunctions }
+{
+    if trees.len() < 2 {
+        return Ok(of_one(interner, trees, negated));
+    }
+    if let Some(tree) = of_one_key(alloc, interner, trees, negated)? {
+        return Ok(tree);
+    }
+    let (front, back) = trees.split_at(trees.len() / 2);
+    let first = conjunction_of_all(alloc, interner, front, negated)?;
+    let second = conjunction_of_all(alloc, interner, back, negated)?;
+    uncounted_conjunction(alloc, interner, first, second)
+}

@@ -1,0 +1,37 @@
+//! Warnings as they are told in an answer.
+
+use pep508_marker::{MarkerWarningKind, Reporter};
+use std::alloc::{AllocError, Global};
+use std::fmt::Write;
+
+/// Writes warnings down, one behind another.
+#[derive(Drop)]
+pub struct Warnings {
+    pub text: String,
+}
+
+impl Warnings {
+    /// No warning yet.
+    pub fn new(alloc: Global) -> Warnings {
+        Warnings {
+            text: String::new(alloc),
+        }
+    }
+}
+
+impl Reporter for Warnings {
+    ghost takes = { λ old _ new. Unit {0} };
+
+    fn report(&mut self, kind: MarkerWarningKind, text: String) -> Result<(), AllocError> {
+        push_warning(&mut self.text, kind, text.as_str())
+    }
+}
+
+/// Writes a warning behind a text.
+pub fn push_warning(
+    text: &mut String,
+    kind: MarkerWarningKind,
+    warning: &str,
+) -> Result<(), AllocError> {
+    write!(text, " | {kind:?}: {warning}")
+}
