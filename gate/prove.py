@@ -134,7 +134,7 @@ def all_crates(prover):
     prover.rt.Crate.ci = lambda crate, flags, tests: prover.take_or_prove(crate, flags, tests)
     prover.rt.put_back, prover.rt.in_lanes = put_back, prover.in_lanes
     os.chdir(TOP)
-    status = prover.rt.ci(anew=True)
+    status = toolchain.prove_all(prover.rt)
     print(f"gate: {prover.told()}", file=sys.stderr, flush=True)
     return status
 

@@ -13,8 +13,8 @@ from crates import kit_folder
 
 # What is used of the two modules.
 NAMES = (
-    "Crate", "Kept", "ci", "in_lanes", "need", "put_back", "rtlib", "stop", "handles_of", "processors", "free",
-    "checked", "must_fail", "unread", "REFUSED",
+    "Crate", "ci", "in_lanes", "need", "put_back", "rtlib", "stop", "handles_of", "processors", "free",
+    "checked", "must_fail", "unread",
 )
 LIBRARY_NAMES = ("Crate", "crates_below", "lock", "guarded", "text_of")
 
@@ -39,8 +39,19 @@ def load():
         raise Unknown(f"it has no {', '.join(lacking) or 'Crate.ci'}")
     find_once(module.rtlib.Crate, "below")
     find_once(module.rtlib.Crate, "stamp")
-    keep_nothing(module.Kept)
+    if hasattr(module, "Kept"):
+        keep_nothing(module.Kept)
     return module
+
+
+def prove_all(rt):
+    """Runs `rt ci`, which proves all anew. Kits before 13f keep nothing, and have no word for that."""
+    return rt.ci(anew=True) if hasattr(rt, "Kept") else rt.ci()
+
+
+def is_refused(rt, kind):
+    """Whether what `rt must-fail` says first of an edit is that it was refused. Kits before 13f say it by a truth value."""
+    return kind == getattr(rt, "REFUSED", True)
 
 
 def keep_nothing(kept):

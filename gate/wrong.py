@@ -199,7 +199,7 @@ class Trial:
         for it in edits:
             crate = self.rt_crates[it.crate.name]
             kind, words = self.prover.rt.must_fail(crate, it.path, ["--jobs", "1"])
-            is_refused = kind == self.prover.rt.REFUSED
+            is_refused = toolchain.is_refused(self.prover.rt, kind)
             note = "only because a proof file names" in words or words.endswith(": refused, as it must be")
             self.record(it, is_refused, "" if is_refused and not note else words.partition(": ")[2])
 

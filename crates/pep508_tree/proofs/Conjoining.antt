@@ -1,8 +1,8 @@
 -- Conjunctions of trees: how they last while nodes are added, and how they are put together from those of the
 -- pairs that stand in two trees.
-use Rattle.std.proofs.Common.{◌≡◌, ◌⊎◌, inl, inr, ℕ, zero, suc, ◌+◌, ◌<◌, ◌≤◌, Bool, true, false, ◌&&◌, List, [], ◌∷◌, ◌++◌, length, get_or, take, map, refl, ap, ap₂, sym, subst, ◌∙◌, arith, length-append, append_assoc, Ordering, Less, is_eq, true≢false}
+use Rattle.std.proofs.Common.{◌≡◌, ◌⊎◌, inl, inr, ℕ, zero, suc, ◌+◌, ◌<◌, Bool, true, false, ◌&&◌, List, [], ◌∷◌, ◌++◌, length, get_or, map, refl, ap, ap₂, sym, subst, ◌∙◌, arith, length-append, append_assoc, Ordering, Less, is_eq, true≢false}
 use Rattle.std.proofs.lemmas.Bool.{cases_Bool}
-use Rattle.std.proofs.lemmas.List.{get_or_append_left, take_more, take_all}
+use Rattle.std.proofs.lemmas.List.{get_or_append_left}
 use Rattle.std.specs.List.{AllByRecursion}
 use Rattle.std.specs.Cmp.{IsTotalOrder}
 use Rattle.std.specs.Cmp.Lexicographic.{nat_list_cmp_total}
@@ -42,7 +42,7 @@ extends_on old now new e f =
 pub tree_kept : (old new : List NodeRecord) → Extends old new → (t : Tree) → IsTree old t → IsTree new t
 tree_kept old new e t made = omega (arith, ap length e.1, length-append old e.0)
 
-above_back : (old new : List NodeRecord) → Extends old new → (place : List ℕ) (t : Tree) → IsTree old t →
+pub above_back : (old new : List NodeRecord) → Extends old new → (place : List ℕ) (t : Tree) → IsTree old t →
     Above new place t → Above old place t
 unfolding Above
 above_back old new e place t made above k f =
@@ -273,49 +273,6 @@ module _ {C : Type 0} where
 
 -- ---- conjunctions of pairs
 
--- the conjunctions of the first so many pairs stand, and nodes were only added
-pub record AreConjoined (old now : List NodeRecord) (a b : Tree) (pairs : List (Tree × Tree))
-    (trees : List Tree)
-    (i : ℕ) : Type 0 where
-  pub keeps : Extends old now
-  pub met : Meet (ArePairs old now a b) (take i pairs) trees
-
-pub conjoined_none : (nodes : List NodeRecord) (a b : Tree) (pairs : List (Tree × Tree)) (trees : List Tree) →
-    trees ≡ [] → AreConjoined nodes nodes a b pairs trees 0
-conjoined_none nodes a b pairs trees e = record {
-  keeps = extends_itself nodes;
-  met = subst (Meet (ArePairs nodes nodes a b) (take 0 pairs)) (sym e) tt;
-}
-
-pub conjoined_more : (old now new : List NodeRecord) (a b : Tree) (pairs : List (Tree × Tree))
-    (trees more : List Tree) (i : ℕ) (pair : Tree × Tree) (t : Tree) →
-    AreConjoined old now a b pairs trees i →
-    i < length pairs → pair ≡ get_or pairs i pair → IsTree old pair.0 × IsTree old pair.1 → Extends now new →
-    Conjunction now new (turned a.negated pair.0) (turned b.negated pair.1) t → more ≡ trees ++ t ∷ [] →
-    AreConjoined old new a b pairs more (i + 1)
-conjoined_more old now new a b pairs trees more i pair t s inside e made keeps c pushed = record {
-  keeps = extends_on old now new s.keeps keeps;
-  met =
-      let later : Meet (ArePairs old new a b) (take i pairs) trees =
-      meet_weaker (ArePairs old now a b) (ArePairs old new a b)
-      (λ p u d. conjunction_later old now new (turned a.negated p.0) (turned b.negated p.1) u keeps d)
-      (take i pairs) trees s.met in
-      let here : ArePairs old new a b pair t =
-      conjunction_earlier old now new (turned a.negated pair.0) (turned b.negated pair.1) t s.keeps made.0
-      made.1 c in
-      let longer : take (i + 1) pairs ≡ take i pairs ++ pair ∷ [] =
-      take_more pairs i pair inside ∙ ap (λ p. take i pairs ++ p ∷ []) (sym e) in
-      subst (λ xs. Meet (ArePairs old new a b) xs more) (sym longer)
-      (subst (Meet (ArePairs old new a b) (take i pairs ++ pair ∷ [])) (sym pushed)
-      (meet_push (ArePairs old new a b) (take i pairs) trees pair t later here));
-}
-
-pub conjoined_all : (old now : List NodeRecord) (a b : Tree) (pairs : List (Tree × Tree)) (trees : List Tree)
-    (i : ℕ) → AreConjoined old now a b pairs trees i → length pairs ≤ i →
-    Meet (ArePairs old now a b) pairs trees
-conjoined_all old now a b pairs trees i s all =
-    subst (λ xs. Meet (ArePairs old now a b) xs trees) (take_all i pairs all) s.met
-
 above_turned : (nodes : List NodeRecord) (place : List ℕ) (turns : Bool) (t : Tree) → Above nodes place t →
     Above nodes place (turned turns t)
 unfolding Above
@@ -352,22 +309,9 @@ module _ (old now : List NodeRecord) (a b : Tree) (pairs : NodeOf (Tree × Tree)
         made.above place (ap (λ other. text_cmp place other) (place_joined pairs trees) ∙ s.first place p q);
   }
 
--- ---- two trees in either order
+-- ---- other lists
 
 pub meet_by : {C D : Type 0} (R : C → D → Type 0) (xs other : List C) (ys more : List D) → xs ≡ other →
     more ≡ ys →
     Meet R xs ys → Meet R other more
 meet_by R xs other ys more e f m = subst (λ zs. Meet R zs more) e (subst (Meet R xs) (sym f) m)
-
-pub either_sum : (a b : Tree) (both : Tree × Tree) → (both ≡ (a, b)) ⊎ (both ≡ (b, a)) →
-    both.0.place + both.1.place ≡ a.place + b.place
-either_sum a b both (inl e) = ap (λ (p : Tree × Tree). p.0.place + p.1.place) e
-either_sum a b both (inr e) = ap (λ (p : Tree × Tree). p.0.place + p.1.place) e ∙ omega arith
-
-pub either_made : (nodes : List NodeRecord) (a b : Tree) (both : Tree × Tree) →
-    (both ≡ (a, b)) ⊎ (both ≡ (b, a)) → IsTree nodes a → IsTree nodes b →
-    IsTree nodes both.0 × IsTree nodes both.1
-either_made nodes a b both (inl e) made other =
-    subst (λ (p : Tree × Tree). IsTree nodes p.0 × IsTree nodes p.1) (sym e) (made, other)
-either_made nodes a b both (inr e) made other =
-    subst (λ (p : Tree × Tree). IsTree nodes p.0 × IsTree nodes p.1) (sym e) (other, made)

@@ -18,4 +18,6 @@ pub mod Conjoining
 pub mod Roots
 pub mod Leaves
 pub mod Knowing
+pub mod Counting
+pub mod Walking
 pub mod Plain

@@ -11,5 +11,6 @@ pub mod Places
 pub mod NodeLaws
 pub mod PairOrder
 pub mod Known
+pub mod Pending
 pub mod Interning
 pub mod Joining

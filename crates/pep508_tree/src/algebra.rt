@@ -14,8 +14,8 @@ impl MarkerTree {
     /// they meant, refused or not.
     ///
     /// Takes no more steps than the product of the numbers of the two trees' nodes, each as long as two
-    /// nodes' boundaries, and recursion as deep as the variables on a path. Takes memory of `alloc` for lists
-    /// that are dropped again, and of the interner's for nodes. Counts as one of the interner's conjunctions.
+    /// nodes' boundaries. No recursion, however deep the trees are. Takes memory of `alloc` for lists that
+    /// are dropped again, and of the interner's for nodes. Counts as one of the interner's conjunctions.
     pub fn and(
         self,
         alloc: Global,

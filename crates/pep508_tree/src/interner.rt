@@ -8,11 +8,13 @@ ghost use Rattle.pep508_tree.specs.Forms.{record_of};
 ghost use Rattle.pep508_tree.specs.Nodes.{AreSound, IsRising, IsJoined, chosen, node_at, Above};
 ghost use Rattle.pep508_tree.specs.Nodes.{AllChildren, Made, node_place};
 
-use crate::conjoiner::Conjoiner;
 use crate::leaf::with_constants;
 use crate::node::{Form, Node};
-use crate::tree::MarkerTree;
+use crate::table::NodeTable;
+use crate::walk::conjunction;
+use crate::{MarkerTree, TreePair};
 use std::alloc::{AllocError, Global};
+use std::collections::BTreeMap;
 use std::marker::Model;
 
 /// Makes marker trees, and keeps their nodes, in memory of the allocator that it was made with.
@@ -20,16 +22,20 @@ use std::marker::Model;
 /// The constant trees stand in every interner. Nodes are only added, so a tree keeps its meaning.
 #[derive(Drop)]
 pub struct Interner {
-    conjoiner: Conjoiner,
+    table: NodeTable,
+    known: BTreeMap<TreePair, MarkerTree>,
     conjunctions: u64,
 }
 
 impl Model for Interner {
     ghost use Rattle.pep508_tree.specs.Interning.{InternerRecord};
+    ghost use Rattle.pep508_tree.specs.Known.{AreKnown};
 
     ghost Value = { InternerRecord };
 
-    ghost view = { λ interner. record { nodes = interner.conjoiner; conjunctions = interner.conjunctions } };
+    ghost view = { λ interner. record { nodes = interner.table; conjunctions = interner.conjunctions } };
+
+    ghost invariant = { λ interner. AreKnown interner.table interner.known };
 }
 
 impl Interner {
@@ -39,7 +45,8 @@ impl Interner {
         ensures conjunctions { result.conjunctions ≡ 0 }
     {
         Interner {
-            conjoiner: Conjoiner::new(alloc),
+            table: NodeTable::new(alloc),
+            known: BTreeMap::new(alloc),
             conjunctions: 0,
         }
     }
@@ -60,14 +67,14 @@ impl Interner {
     pub fn forget_conjunctions(&mut self)
         ensures { self.new ≡ self.old }
     {
-        self.conjoiner.forget();
+        self.known = BTreeMap::new(self.table.allocator());
     }
 
     /// What the nodes keep. Does nothing.
     pub fn are_sound(&self)
         ensures { AreSound self.now.nodes }
     {
-        self.conjoiner.are_sound()
+        self.table.are_sound()
     }
 
     /// The conjunction, counted.
@@ -100,7 +107,7 @@ impl Interner {
         ensures counts { self.new.conjunctions ≡ self.old.conjunctions }
     {
         let form = with_constants(alloc, form)?;
-        self.conjoiner.store(form)
+        self.stored(form)
     }
 
     /// The tree of a form, of which each child asks for later variables only. Counts nothing.
@@ -113,7 +120,7 @@ impl Interner {
         ensures keeps { Extends self.old.nodes self.new.nodes }
         ensures counts { self.new.conjunctions ≡ self.old.conjunctions }
     {
-        self.conjoiner.store(form)
+        self.table.store(form)
     }
 
     /// The node of a tree that is not constant.
@@ -123,7 +130,7 @@ impl Interner {
         ensures found { result.now ≡ node_at self.now.nodes (tree.place - 1) }
         ensures sound { AreSound self.now.nodes }
     {
-        self.conjoiner.node_of(tree)
+        self.table.node_of(tree)
     }
 }
 
@@ -146,5 +153,5 @@ pub fn uncounted_conjunction(
     ensures keeps { Extends interner.old.nodes interner.new.nodes }
     ensures counts { interner.new.conjunctions ≡ interner.old.conjunctions }
 {
-    interner.conjoiner.conjunction(alloc, a, b)
+    conjunction(alloc, &mut interner.table, &mut interner.known, a, b)
 }

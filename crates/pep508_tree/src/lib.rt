@@ -5,7 +5,6 @@
 #![tactic(auto)]
 
 mod algebra;
-mod conjoiner;
 mod interner;
 mod leaf;
 mod node;
@@ -14,6 +13,7 @@ mod root;
 mod table;
 mod tree;
 mod tree_pair;
+mod walk;
 
 pub use interner::{Interner, uncounted_conjunction};
 pub use root::{Children, TreeNode};

@@ -90,7 +90,6 @@ fn first_and_others(trees: &[MarkerTree]) -> (MarkerTree, &[MarkerTree])
 
 impl Form<Pair> {
     /// The children, in turn.
-    #[inline(never)]
     pub fn children(&self, alloc: Global) -> Result<Vec<Pair>, AllocError>
         ensures { IfOk result (λ pairs. pairs.items ≡ children (record_of self.now)) }
     {

@@ -1,5 +1,5 @@
 use Rattle.pep508_tree.proofs.Knowing.{known_kept}
-use Rattle.pep508_tree.proofs.conjoiner.Conjoiner.store.Goals as goal
+use Rattle.pep508_tree.proofs.interner.Interner.stored.Goals as goal
 
 pub invariant_of-self : goal.invariant_of-self
 invariant_of-self c =
