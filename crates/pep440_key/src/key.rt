@@ -1,0 +1,41 @@
+//! The key of a version.
+
+ghost use Rattle.std.specs.Prelude.{◌≡◌, ◌++◌, IfOk, OnOk};
+ghost use Rattle.pep440_key.specs.Key.{version_bytes};
+
+use crate::components::{
+    class, push_absent_first, push_absent_last, push_local, push_post, push_pre, push_release,
+};
+use crate::number::push_numbers;
+use pep440_version::Version;
+use std::alloc::{AllocError, Global};
+
+/// The bytes of a version, in whose order versions stand: the keys of two versions compare byte by byte, as
+/// `memcmp` and `[u8]` do, just as the versions do, and are equal exactly where these are, as those of `1.0`
+/// and `1`. No key is the front of another version's, so that bytes may follow it, as the key of what stands
+/// beside the version.
+///
+/// Linear in the version; takes memory for the key, which has 14 bytes for `1.2.3`.
+pub fn version_key(alloc: Global, version: &Version) -> Result<Vec<u8>, AllocError>
+    ensures { IfOk result (λ key. key.items ≡ version_bytes version.now) }
+{
+    let mut key = Vec::new(alloc);
+    push_version(&mut key, version)?;
+    Ok(key)
+}
+
+#[tactic(auto, unfolding(pep440_version::specs::Order::key_of))]
+fn push_version(key: &mut Vec<u8>, version: &Version) -> Result<(), AllocError>
+    ensures { OnOk result (key.new.items ≡ key.old.items ++ version_bytes version.now) }
+{
+    push_numbers(key, &[version.epoch()])?;
+    push_release(key, version.release())?;
+    push_numbers(key, &[class(version)])?;
+    push_pre(key, version.pre())?;
+    push_post(key, version.post(), version.max())?;
+    push_absent_first(key, version.min())?;
+    push_absent_last(key, version.dev())?;
+    push_local(key, version.local())?;
+    key.push(0)?;
+    Ok(())
+}
