@@ -102,6 +102,6 @@ in_order a b =
 pub same_where_equal : (a b : VersionRecord) → (version_bytes a ≡ version_bytes b) ↔ IsTrue (version_eq a b)
 same_where_equal a b = (
   λ e. ap is_eq (sym (in_order a b) ∙ ap (bytes_cmp (version_bytes a)) (sym e)
-    ∙ tied_itself nat_list_cmp_total (version_bytes a)),
+      ∙ tied_itself nat_list_cmp_total (version_bytes a)),
   λ h. ap components_bytes (same_key a b h),
 )

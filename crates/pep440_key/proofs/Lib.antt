@@ -1,2 +1,3 @@
 pub mod NumberOrder
 pub mod KeyOrder
+pub mod Written

@@ -73,7 +73,11 @@ pub(crate) fn push_pre(key: &mut Vec<u8>, pre: Option<Prerelease>) -> Result<(),
     }
 }
 
-pub(crate) fn push_post(key: &mut Vec<u8>, post: Option<u64>, most: Option<u64>) -> Result<(), AllocError>
+pub(crate) fn push_post(
+    key: &mut Vec<u8>,
+    post: Option<u64>,
+    most: Option<u64>,
+) -> Result<(), AllocError>
     ensures { OnOk result (key.new.items ≡ key.old.items ++ component_bytes (post_key post most)) }
 {
     match (post, most) {

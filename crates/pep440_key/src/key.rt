@@ -1,7 +1,9 @@
 //! The key of a version.
 
-ghost use Rattle.std.specs.Prelude.{◌≡◌, ◌++◌, IfOk, OnOk};
-ghost use Rattle.pep440_key.specs.Key.{version_bytes};
+ghost use Rattle.std.specs.Prelude.{◌≡◌, ◌++◌, [], ◌∷◌, IfOk, OnOk};
+ghost use Rattle.std.specs.List.{flat_map};
+ghost use Rattle.pep440_version.specs.Order.{stripped, class_of, pre_key, post_key, absent_first, absent_last};
+ghost use Rattle.pep440_key.specs.Key.{component_bytes, version_bytes};
 
 use crate::components::{
     class, push_absent_first, push_absent_last, push_local, push_post, push_pre, push_release,
@@ -24,18 +26,34 @@ pub fn version_key(alloc: Global, version: &Version) -> Result<Vec<u8>, AllocErr
     Ok(key)
 }
 
-#[tactic(auto, unfolding(pep440_version::specs::Order::key_of))]
 fn push_version(key: &mut Vec<u8>, version: &Version) -> Result<(), AllocError>
     ensures { OnOk result (key.new.items ≡ key.old.items ++ version_bytes version.now) }
 {
-    push_numbers(key, &[version.epoch()])?;
-    push_release(key, version.release())?;
-    push_numbers(key, &[class(version)])?;
-    push_pre(key, version.pre())?;
-    push_post(key, version.post(), version.max())?;
-    push_absent_first(key, version.min())?;
-    push_absent_last(key, version.dev())?;
+    push_front(key, version)?;
+    push_suffixes(key, version)?;
     push_local(key, version.local())?;
     key.push(0)?;
     Ok(())
+}
+
+/// Writes the epoch, the release and the place among the versions of that release.
+fn push_front(key: &mut Vec<u8>, version: &Version) -> Result<(), AllocError>
+    ensures { OnOk result (key.new.items ≡ key.old.items ++ flat_map component_bytes
+        ((version.now.epoch ∷ []) ∷ stripped version.now.release ∷ (class_of version.now ∷ []) ∷ [])) }
+{
+    push_numbers(key, &[version.epoch()])?;
+    push_release(key, version.release())?;
+    push_numbers(key, &[class(version)])
+}
+
+/// Writes what decides between versions of one release that have one place there.
+fn push_suffixes(key: &mut Vec<u8>, version: &Version) -> Result<(), AllocError>
+    ensures { OnOk result (key.new.items ≡ key.old.items ++ flat_map component_bytes
+        (pre_key version.now.pre ∷ post_key version.now.post version.now.most
+        ∷ absent_first version.now.least ∷ absent_last version.now.dev ∷ [])) }
+{
+    push_pre(key, version.pre())?;
+    push_post(key, version.post(), version.max())?;
+    push_absent_first(key, version.min())?;
+    push_absent_last(key, version.dev())
 }

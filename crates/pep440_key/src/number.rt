@@ -9,7 +9,9 @@ use std::alloc::AllocError;
 const MOST_IN_A_BYTE: u64 = 251;
 /// In front of two bytes, of four and of eight.
 const TWO_FOLLOW: u8 = 253;
+
 const FOUR_FOLLOW: u8 = 254;
+
 const EIGHT_FOLLOW: u8 = 255;
 
 /// Writes the number behind the bytes.
