@@ -1,8 +1,7 @@
 -- The bytes of components stand in the components' order, whatever follows them, and so do those of versions.
-use Rattle.std.proofs.Common.{◌≡◌, ℕ, true, List, [], ◌∷◌, ◌++◌, length, refl, ap, sym, ◌∙◌, append_assoc, IsTrue, ◌↔◌, arith}
+use Rattle.std.proofs.Common.{◌≡◌, ℕ, List, [], ◌∷◌, ◌++◌, length, refl, ap, sym, ◌∙◌, append_assoc, IsTrue, ◌↔◌, arith}
 use Rattle.std.proofs.lemmas.List.{append-nil}
-use Rattle.std.specs.declared.cmp.Ordering.{Ordering}
-use Rattle.std.specs.declared.cmp.Ordering.TheVariants.{Less, Equal, Greater}
+use Rattle.std.specs.declared.cmp.Ordering.TheVariants.{Less}
 use Rattle.std.specs.Ordering.{ordering_then, ordering_reverse, nat_cmp, is_eq}
 use Rattle.std.specs.Cmp.{tied_itself}
 use Rattle.std.specs.Cmp.Lexicographic.{slice_cmp, nat_list_cmp_total}
@@ -15,7 +14,8 @@ use Rattle.pep440_key.proofs.NumberOrder.{then_again, number_ordered, end_below}
 
 -- ---- numbers and their end
 
-numbers_after : (n : ℕ) (ns x : List ℕ) → component_bytes (n ∷ ns) ++ x ≡ number_bytes n ++ (component_bytes ns ++ x)
+numbers_after : (n : ℕ) (ns x : List ℕ)
+    → component_bytes (n ∷ ns) ++ x ≡ number_bytes n ++ (component_bytes ns ++ x)
 numbers_after n ns x = simp append_assoc
 
 none_below : (m : ℕ) (b x y : List ℕ) → bytes_cmp (0 ∷ x) (component_bytes (m ∷ b) ++ y) ≡ Less
@@ -27,7 +27,8 @@ component_ordered : (a b x y : List ℕ)
 component_ordered [] [] x y = refl
 component_ordered [] (m ∷ b) x y = none_below m b x y
 component_ordered (n ∷ a) [] x y =
-    nat_list_cmp_total.antisymm (component_bytes (n ∷ a) ++ x) (0 ∷ y) ∙ ap ordering_reverse (none_below n a y x)
+    nat_list_cmp_total.antisymm (component_bytes (n ∷ a) ++ x) (0 ∷ y)
+    ∙ ap ordering_reverse (none_below n a y x)
 component_ordered (n ∷ a) (m ∷ b) x y =
     ap (λ t. bytes_cmp t (component_bytes (m ∷ b) ++ y)) (numbers_after n a x)
     ∙ ap (bytes_cmp (number_bytes n ++ (component_bytes a ++ x))) (numbers_after m b y)
@@ -43,9 +44,11 @@ components_after c cs x = simp append_assoc
 
 abbrev InOrder : List (List ℕ) → List (List ℕ) → List ℕ → List ℕ → Type 0
 InOrder cs ds x y =
-    bytes_cmp (components_bytes cs ++ x) (components_bytes ds ++ y) ≡ ordering_then (key_cmp cs ds) (bytes_cmp x y)
+    bytes_cmp (components_bytes cs ++ x) (components_bytes ds ++ y)
+    ≡ ordering_then (key_cmp cs ds) (bytes_cmp x y)
 
-in_front : (c d : List ℕ) (cs ds : List (List ℕ)) (x y : List ℕ) → InOrder cs ds x y → InOrder (c ∷ cs) (d ∷ ds) x y
+in_front : (c d : List ℕ) (cs ds : List (List ℕ)) (x y : List ℕ) → InOrder cs ds x y
+    → InOrder (c ∷ cs) (d ∷ ds) x y
 in_front c d cs ds x y e =
     ap (λ t. bytes_cmp t (components_bytes (d ∷ ds) ++ y)) (components_after c cs x)
     ∙ ap (bytes_cmp (component_bytes c ++ (components_bytes cs ++ x))) (components_after d ds y)
@@ -86,7 +89,8 @@ local_ordered (r ∷ a) (s ∷ b) x y =
 -- ---- versions
 
 pub before_others : (a b : VersionRecord) (x y : List ℕ)
-    → bytes_cmp (version_bytes a ++ x) (version_bytes b ++ y) ≡ ordering_then (version_cmp a b) (bytes_cmp x y)
+    → bytes_cmp (version_bytes a ++ x) (version_bytes b ++ y)
+    ≡ ordering_then (version_cmp a b) (bytes_cmp x y)
 unfolding key_of
 before_others a b x y =
     all_in_front (key_of (without_local a)) (key_of (without_local b)) (local_key a.local) (local_key b.local) x y

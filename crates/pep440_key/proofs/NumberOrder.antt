@@ -7,7 +7,7 @@ use Rattle.std.specs.declared.cmp.Ordering.{Ordering}
 use Rattle.std.specs.declared.cmp.Ordering.TheVariants.{Less, Equal, Greater}
 use Rattle.std.specs.Ordering.{ordering_then, ordering_reverse, nat_cmp, MatchOrdering}
 use Rattle.std.specs.Cmp.{nat_cmp_is, ranks, tied_itself, nat_cmp_total}
-use Rattle.std.specs.Cmp.Lexicographic.{slice_cmp, nat_list_cmp_total}
+use Rattle.std.specs.Cmp.Lexicographic.{nat_list_cmp_total}
 use Rattle.pep440_key.specs.Key.{bytes_cmp, big_endian, number_bytes}
 
 -- ---- two comparisons one after the other
@@ -36,13 +36,15 @@ halves_less c q r p s h k = let low : suc q * c ≤ p * c = mul-le-mul_right c k
 by_quotients : (c n m : ℕ) → 0 < c → n / c < m / c → n < m
 by_quotients c n m pos h =
     let small : n % c < c = mod-lt n pos in
-    let less : n / c * c + n % c < m / c * c + m % c = halves_less c (n / c) (n % c) (m / c) (m % c) small h in
+    let less : n / c * c + n % c < m / c * c + m % c =
+    halves_less c (n / c) (n % c) (m / c) (m % c) small h in
     omega (arith, div-add-mod' n c, div-add-mod' m c)
 
 level_quotients : (c n m : ℕ) → n / c ≡ m / c → n / c * c ≡ m / c * c
 level_quotients c n m e = ap (λ q. q * c) e
 
-parts_cmp : (c n m : ℕ) (o : Ordering) (r s : Ordering) → 0 < c → r ≡ nat_cmp (n / c) (m / c) → s ≡ nat_cmp (n % c) (m % c)
+parts_cmp : (c n m : ℕ) (o r s : Ordering) → 0 < c → r ≡ nat_cmp (n / c) (m / c)
+    → s ≡ nat_cmp (n % c) (m % c)
     → MatchOrdering r (n / c < m / c) (n / c ≡ m / c) (m / c < n / c)
     → MatchOrdering s (n % c < m % c) (n % c ≡ m % c) (m % c < n % c)
     → ordering_then r (ordering_then s o) ≡ ordering_then (nat_cmp n m) o
@@ -88,7 +90,8 @@ held_ordered zero n m x y h k =
     sym (ap (λ t. ordering_then (nat_cmp n t) (bytes_cmp x y)) (sym same) ∙ first_level n (bytes_cmp x y))
 held_ordered (suc count) n m x y h k =
     one_more count n m x y
-    (held_ordered count (n % 256 ^ count) (m % 256 ^ count) x y (mod-lt n (positive count)) (mod-lt m (positive count)))
+    (held_ordered count (n % 256 ^ count) (m % 256 ^ count) x y (mod-lt n (positive count))
+    (mod-lt m (positive count)))
 
 -- and any numbers, of which the byte in front takes what is over
 big_endian_ordered : (count n m : ℕ) (x y : List ℕ)
@@ -96,7 +99,8 @@ big_endian_ordered : (count n m : ℕ) (x y : List ℕ)
     ≡ ordering_then (nat_cmp n m) (bytes_cmp x y)
 big_endian_ordered count n m x y =
     one_more count n m x y
-    (held_ordered count (n % 256 ^ count) (m % 256 ^ count) x y (mod-lt n (positive count)) (mod-lt m (positive count)))
+    (held_ordered count (n % 256 ^ count) (m % 256 ^ count) x y (mod-lt n (positive count))
+    (mod-lt m (positive count)))
 
 -- ---- a number of the shorter form where it is below a limit
 

@@ -5,7 +5,7 @@ ghost use Rattle.std.specs.List.{flat_map};
 ghost use Rattle.pep440_text.specs.Record.{segment_of};
 ghost use Rattle.pep440_version.specs.Order.{stripped, kind_rank, class_of, absent_first, absent_last};
 ghost use Rattle.pep440_version.specs.Order.{pre_key, post_key, segment_key, local_key};
-ghost use Rattle.pep440_key.specs.Key.{number_bytes, component_bytes};
+ghost use Rattle.pep440_key.specs.Key.{component_bytes};
 
 use crate::number::{push_number, push_numbers};
 use pep440_version::{LocalSegment, Prerelease, PrereleaseKind, Version};

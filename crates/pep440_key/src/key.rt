@@ -2,7 +2,8 @@
 
 ghost use Rattle.std.specs.Prelude.{◌≡◌, ◌++◌, [], ◌∷◌, IfOk, OnOk};
 ghost use Rattle.std.specs.List.{flat_map};
-ghost use Rattle.pep440_version.specs.Order.{stripped, class_of, pre_key, post_key, absent_first, absent_last};
+ghost use Rattle.pep440_version.specs.Order.{stripped, class_of, pre_key, post_key};
+ghost use Rattle.pep440_version.specs.Order.{absent_first, absent_last};
 ghost use Rattle.pep440_key.specs.Key.{component_bytes, version_bytes};
 
 use crate::components::{

@@ -1,7 +1,7 @@
 //! The bytes of numbers.
 
-ghost use Rattle.std.specs.Prelude.{◌≡◌, ◌<◌, ◌^◌, ◌++◌, OnOk, ◌∷◌};
-ghost use Rattle.pep440_key.specs.Key.{big_endian, number_bytes, component_bytes};
+ghost use Rattle.std.specs.Prelude.{◌≡◌, ◌++◌, ◌∷◌, OnOk};
+ghost use Rattle.pep440_key.specs.Key.{number_bytes, component_bytes};
 
 use std::alloc::AllocError;
 
