@@ -1,14 +1,14 @@
 -- What is added in turn: terms to a clause, clauses to others, steps to others.
 use Rattle.std.proofs.Common.{◌≡◌, ℕ, ◌+◌, ◌<◌, Bool, cond, List, [], ◌∷◌, ◌++◌, map, take, drop, get_or}
-use Rattle.std.proofs.Common.{length, Option, Some, None, refl, sym, ap, ap₂, ◌∙◌, append_assoc}
-use Rattle.std.proofs.lemmas.List.{map-append, drop_more}
+use Rattle.std.proofs.Common.{length, Option, Some, None, refl, sym, ap, ◌∙◌, append_assoc}
+use Rattle.std.proofs.lemmas.List.{map-append, take-map, drop_more}
 use Rattle.std.proofs.lemmas.List.Elements.{filter-append}
-use Rattle.std.specs.Prelude.{option_map, Vec}
+use Rattle.std.specs.Prelude.{option_map}
 use Rattle.std.specs.List.{filter, flat_map}
 use Rattle.std.specs.declared.ops.Bound.{Bound}
 use Rattle.pep508_marker.specs.declared.expression.MarkerExpression.{MarkerExpression}
 use Rattle.pep508_marker.specs.Expression.{ExpressionRecord, expression_of}
-use Rattle.pep508_marker_print.specs.Terms.{clause_of, clauses_shown}
+use Rattle.pep508_marker_print.specs.Terms.{clause_of}
 use Rattle.pep508_marker_text.specs.Saying.{Clause, Saying, set_clauses}
 use Rattle.pep508_marker_text.specs.Groups.{points_where}
 use Rattle.pep508_marker_text.specs.Simplified.{has_some}
@@ -16,7 +16,7 @@ use Rattle.pep508_diagram.specs.declared.branch.Branch.{Branch}
 use Rattle.pep508_tree.specs.Tree.{Tree}
 use Rattle.pep508_tree.specs.Nodes.{turned}
 use Rattle.pep508_marker_dnf.specs.Spans.{value_between, differs_before, differs_from}
-use Rattle.pep508_marker_dnf.specs.Steps.{StepRecord, steps_to, turned_step, group_steps, clauses_by, behind}
+use Rattle.pep508_marker_dnf.specs.Steps.{StepRecord, steps_to, turned_step, group_steps, behind}
 use Rattle.pep508_marker_dnf.specs.Trees.{same_tree}
 use Rattle.pep508_marker_dnf.proofs.Stepping.{map_map}
 
@@ -48,20 +48,6 @@ behind_nothing clauses = ap (filter has_some) (same clauses)
     same : (xs : List Clause) → map (λ clause. [] ++ clause) xs ≡ xs
     same [] = refl
     same (x ∷ xs) = ap (λ ys. x ∷ ys) (same xs)
-
--- one more step of a walk
-pub step_added : (at : Tree → List Clause) (path : Clause) (old now : List Clause) (step : StepRecord)
-    (steps : List StepRecord) (whole : List Clause) →
-    old ++ behind path (clauses_by at (step ∷ steps)) ≡ whole →
-    now ≡ old ++ behind (path ++ step.clause) (at step.tree) →
-    now ++ behind path (clauses_by at steps) ≡ whole
-step_added at path old now step steps whole before added =
-    ap (λ front. front ++ behind path (clauses_by at steps))
-    (added ∙ ap (λ more. old ++ more) (behind_both path step.clause (at step.tree)))
-    ∙ append_assoc old (behind path (map (λ clause. step.clause ++ clause) (at step.tree))) (behind path (clauses_by at steps))
-    ∙ ap (λ more. old ++ more)
-    (sym (behind_append path (map (λ clause. step.clause ++ clause) (at step.tree)) (clauses_by at steps)))
-    ∙ before
 
 module _ {T : Type 0} (say : Saying T) where
   before_more : (v : T) (front : Clause) (later : Option Clause) →
@@ -104,35 +90,13 @@ pub pushed : (terms now : List MarkerExpression) (term : MarkerExpression) (said
 pushed terms now term said is e =
     ap clause_of is ∙ map-append expression_of terms (term ∷ []) ∙ ap (λ one. clause_of terms ++ one ∷ []) e
 
-cut_shown : {A B : Type 0} (show : A → B) (start after : List A) (more : List B) →
-    map show after ≡ map show start ++ more → map show (take (length start) after) ≡ map show start
-cut_shown show [] after more e = refl
-cut_shown show (x ∷ xs) [] more e = absurd (cc)
-cut_shown show (x ∷ xs) (y ∷ ys) more e =
-    let one : show y ≡ show x = cc in
-    let rest : map show ys ≡ map show xs ++ more = cc in
-    λ i. one i ∷ cut_shown show xs ys more rest i
-
--- a path with terms behind it, as it is shown
-pub path_with : (start before terms after : List MarkerExpression) → clause_of before ≡ clause_of start →
-    after ≡ before ++ terms → clause_of after ≡ clause_of start ++ clause_of terms
-path_with start before terms after is added =
-    ap clause_of added ∙ map-append expression_of before terms ∙ ap (λ front. front ++ clause_of terms) is
-
--- a path that is cut to its old length
-pub path_back : (start with_terms after cut terms : List MarkerExpression) (depth : ℕ) → depth ≡ length start →
-    clause_of with_terms ≡ clause_of start ++ clause_of terms → clause_of after ≡ clause_of with_terms →
-    cut ≡ take depth after → clause_of cut ≡ clause_of start
-path_back start with_terms after cut terms depth long is kept e =
-    ap clause_of (e ∙ ap (λ n. take n after) long)
-    ∙ cut_shown expression_of start after (clause_of terms) (kept ∙ is)
-
-pub all_added : {Y : Type 0} (path : List MarkerExpression) (start now : List (Vec MarkerExpression Y)) (clauses : List Clause) →
-    path ≡ [] → start ≡ [] → clauses_shown now ≡ clauses_shown start ++ behind (clause_of path) clauses →
-    clauses_shown now ≡ filter has_some clauses
-all_added path start now clauses none no_clause is =
-    is ∙ ap₂ (λ front terms. clauses_shown front ++ behind (clause_of terms) clauses) no_clause none
-    ∙ behind_nothing clauses
+-- a path that goes on from its first terms
+pub path_on : (depth : ℕ) (before cut terms after : List MarkerExpression) → cut ≡ take depth before →
+    after ≡ cut ++ terms → clause_of after ≡ take depth (clause_of before) ++ clause_of terms
+path_on depth before cut terms after is added =
+    ap clause_of added ∙ map-append expression_of cut terms
+    ∙ ap (λ front. front ++ clause_of terms)
+    (ap clause_of is ∙ sym (take-map expression_of depth before))
 
 pub group_at : {T : Type 0} (say : Saying T) (first : Tree) (later : List (Branch T Tree)) (turns : Bool)
     (trees : List Tree) (i : ℕ) (tree : Tree) (old now whole : List StepRecord) (clauses : List Clause) →

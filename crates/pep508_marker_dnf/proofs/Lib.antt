@@ -7,3 +7,4 @@ pub mod Stepping
 pub mod Minor
 pub mod Adding
 pub mod Constants
+pub mod Walking

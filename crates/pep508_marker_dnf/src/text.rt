@@ -64,7 +64,7 @@ pub trait MarkerTreeText {
     ///
     /// Walks each path from the root to where the tree holds, and copies a comparison once for each clause
     /// that it stands in. Of the subtrees between the boundaries of one key, and of the clauses where they
-    /// are simplified, each is compared with each other one at most.
+    /// are simplified, each is compared with each other one at most. No recursion, however deep the tree is.
     fn to_dnf(
         self,
         alloc: Global,

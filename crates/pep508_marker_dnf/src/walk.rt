@@ -1,14 +1,15 @@
 //! The walk from a tree to its clauses.
 
-ghost use Rattle.std.specs.Prelude.{◌≡◌, [], ◌∷◌, ◌++◌, IfOk, OnOk};
+ghost use Rattle.std.specs.Prelude.{◌≡◌, [], ◌∷◌, ◌++◌, take, reverse, IfOk, OnOk};
 ghost use Rattle.std.specs.List.{filter};
 ghost use Rattle.pep508_marker_print.specs.Terms.{clause_of, clauses_shown};
 ghost use Rattle.pep508_marker_text.specs.Clauses.{clauses_of};
 ghost use Rattle.pep508_marker_text.specs.Simplified.{has_some};
 ghost use Rattle.pep508_tree.specs.Meaning.{IsTree, diagram_of};
-ghost use Rattle.pep508_marker_dnf.specs.Steps.{behind};
+ghost use Rattle.pep508_marker_dnf.specs.Steps.{steps_shown};
+ghost use Rattle.pep508_marker_dnf.specs.Pending.{all_at, waits_shown};
 
-use crate::steps::root_steps;
+use crate::steps::{Step, root_steps};
 use pep508_marker::MarkerExpression;
 use pep508_tree::{Interner, MarkerTree};
 use std::alloc::{AllocError, Global};
@@ -40,35 +41,42 @@ fn add_clause(
     Ok(())
 }
 
-/// Adds the clauses of a tree behind the terms that lead to it, but for one without terms.
-fn add_clauses(
-    alloc: Global,
-    tree: MarkerTree,
-    interner: &Interner,
-    path: &mut Vec<MarkerExpression>,
-    clauses: &mut Vec<Vec<MarkerExpression>>,
-) -> Result<(), AllocError>
-    requires { IsTree interner.now.nodes tree }
-    ensures path { OnOk result (clause_of path.new.items ≡ clause_of path.old.items) }
-    ensures clauses { OnOk result (clauses_shown clauses.new.items ≡ clauses_shown clauses.old.items
-        ++ behind (clause_of path.old.items) (clauses_of (diagram_of interner.now.nodes tree))) }
+/// A step that waits, and how many terms of the path lead up to it.
+#[derive(Drop)]
+pub(crate) struct Pending {
+    depth: usize,
+    step: Step,
+}
+
+/// Puts steps behind those that wait, the first one last.
+fn add_steps(waiting: &mut Vec<Pending>, depth: usize, steps: Vec<Step>) -> Result<(), AllocError>
+    ensures { OnOk result (waits_shown waiting.new.items
+        ≡ waits_shown waiting.old.items ++ all_at depth (reverse (steps_shown steps.items))) }
 {
-    interner.are_sound();
-    if tree.is_true() {
-        add_clause(alloc, path, clauses)?;
-        return Ok(());
-    }
-    let depth = path.len();
-    for step in root_steps(alloc, tree, interner)? {
-        let mut terms = step.terms;
-        path.append(&mut terms)?;
-        add_clauses(alloc, step.tree, interner, path, clauses)?;
-        path.truncate(depth);
+    let mut left = steps;
+    while let Some(step) = left.pop() {
+        waiting.push(Pending { depth, step })?;
     }
     Ok(())
 }
 
-/// The clauses of a tree, but for one without terms.
+/// Puts the terms of a step behind those that lead up to it.
+fn go_on(
+    path: &mut Vec<MarkerExpression>,
+    depth: usize,
+    terms: Vec<MarkerExpression>,
+) -> Result<(), AllocError>
+    ensures { OnOk result (clause_of path.new.items
+        ≡ take depth (clause_of path.old.items) ++ clause_of terms.items) }
+{
+    let mut terms = terms;
+    path.truncate(depth);
+    path.append(&mut terms)?;
+    Ok(())
+}
+
+/// The clauses of a tree, but for one without terms. What waits stands on a list, the steps of one path
+/// behind one another, so that a long path takes memory and no stack.
 pub(crate) fn clauses_of(
     alloc: Global,
     tree: MarkerTree,
@@ -78,8 +86,24 @@ pub(crate) fn clauses_of(
     ensures { IfOk result (λ clauses. clauses_shown clauses.items
         ≡ filter has_some (clauses_of (diagram_of interner.now.nodes tree))) }
 {
+    interner.are_sound();
     let mut path = Vec::new(alloc);
     let mut clauses = Vec::new(alloc);
-    add_clauses(alloc, tree, interner, &mut path, &mut clauses)?;
+    let step = Step {
+        terms: Vec::new(alloc),
+        tree,
+    };
+    let mut waiting = vec![in alloc; Pending { depth: 0, step }]?;
+    while let Some(next) = waiting.pop() {
+        let Pending { depth, step } = next;
+        let Step { terms, tree: at } = step;
+        go_on(&mut path, depth, terms)?;
+        if at.is_true() {
+            add_clause(alloc, &path, &mut clauses)?;
+        } else {
+            let steps = root_steps(alloc, at, interner)?;
+            add_steps(&mut waiting, path.len(), steps)?;
+        }
+    }
     Ok(clauses)
 }

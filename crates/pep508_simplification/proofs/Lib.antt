@@ -1,5 +1,7 @@
 pub mod Rooted
 pub mod Naming
+pub mod Counting
+pub mod Walking
 pub mod Cutting
 pub mod Narrowing
 pub mod Simplifying

@@ -1,14 +1,14 @@
 -- Trees in which the named extras are present: how they last while nodes are added, and how they are put together
 -- from those that stand in a node.
-use Rattle.std.proofs.Common.{◌≡◌, ◌∙◌, ℕ, ◌+◌, ◌-◌, ◌<◌, ◌≤◌, Bool, true, false, cond, List, [], ◌∷◌, ◌++◌}
-use Rattle.std.proofs.Common.{length, get_or, take, refl, ap, sym, subst, arith, Option, Some, None, IfSome}
+use Rattle.std.proofs.Common.{◌≡◌, ◌∙◌, ℕ, ◌-◌, ◌<◌, Bool, true, false, cond, List}
+use Rattle.std.proofs.Common.{refl, ap, sym, subst, arith, Option, Some, None, IfSome}
 use Rattle.std.proofs.Common.{Less, true≢false}
 use Rattle.std.specs.Prelude.{◌||◌, MatchOption}
 use Rattle.std.specs.Borrow.{Bor}
 use Rattle.std.specs.BTreeMap.{BTreeMap, get}
 use Rattle.std.specs.Ordering.{nat_cmp}
 use Rattle.std.specs.List.{AllByRecursion}
-use Rattle.std.proofs.lemmas.List.{get_or_append_left, take_more, take_all}
+use Rattle.std.proofs.lemmas.List.{get_or_append_left}
 use Rattle.version_ranges.specs.Point.{BelowAll}
 use Rattle.version_ranges.specs.Turns.{flips}
 use Rattle.pep508_diagram.specs.Text.{text_cmp}
@@ -24,7 +24,7 @@ use Rattle.pep508_tree.proofs.Diagrams.{holds_kept}
 use Rattle.pep508_tree.proofs.Storing.{above_kept}
 use Rattle.pep508_tree.proofs.Meanings.{chosen_all, holds_turned}
 use Rattle.pep508_tree.proofs.Roots.{constant_is}
-use Rattle.pep508_tree.proofs.Conjoining.{extends_itself, extends_on, tree_kept, meet_push, meet_weaker}
+use Rattle.pep508_tree.proofs.Conjoining.{tree_kept}
 use Rattle.pep508_tree.proofs.Conjoining.{meet_with, children_list, children_joined, chosen_joined}
 use Rattle.pep508_tree.proofs.Conjoining.{place_joined}
 use Rattle.pep508_simplification.specs.Simplified.{with_named, is_named}
@@ -73,6 +73,9 @@ plain_is t i = record { place = t.place; negated = flips_itself t.negated i }
 
 pub plain_turned : (t : Tree) → turned t.negated (plain t.place) ≡ t
 plain_turned t i = record { place = t.place; negated = flips_false t.negated i }
+
+pub nowhere : Valuation
+nowhere = record { version = λ key. BelowAll; text = λ key. BelowAll; flag = λ flag. false }
 
 module _ (returns : Bor (List ℕ) → Bool → Type 0) where
   -- ---- nodes that are added
@@ -129,46 +132,6 @@ module _ (returns : Bor (List ℕ) → Bool → Type 0) where
         named = named_now old new (plain place) s e k.made (named_later old old new (plain place) s e k.named);
       }
 
-  -- ---- the trees of a node
-
-  pub record AreFound (old now : List NodeRecord) (trees : List Tree) (i : ℕ) (found : List Tree)
-      (known : BTreeMap ℕ Tree) : Type 0 where
-    pub keeps : Extends old now
-    pub met : Meet (IsNamed returns old now) (take i trees) found
-    pub kept : AreKnown returns now known
-
-  pub found_none : (nodes : List NodeRecord) (trees found : List Tree) (known : BTreeMap ℕ Tree) → found ≡ [] →
-      AreKnown returns nodes known → AreFound nodes nodes trees 0 found known
-  found_none nodes trees found known e kept = record {
-    keeps = extends_itself nodes;
-    met = subst (Meet (IsNamed returns nodes nodes) (take 0 trees)) (sym e) tt;
-    kept = kept;
-  }
-
-  pub found_more : (old now new : List NodeRecord) (trees found more : List Tree) (known later : BTreeMap ℕ Tree)
-      (i : ℕ) (t s : Tree) → AreFound old now trees i found known → i < length trees → t ≡ get_or trees i t →
-      IsTree old t → Extends now new → IsNamed returns now new t s → AreKnown returns new later →
-      more ≡ found ++ s ∷ [] → AreFound old new trees (i + 1) more later
-  found_more old now new trees found more known later i t s f inside e made keeps n kept pushed = record {
-    keeps = extends_on old now new f.keeps keeps;
-    met =
-        let before : Meet (IsNamed returns old new) (take i trees) found =
-        meet_weaker (IsNamed returns old now) (IsNamed returns old new)
-        (λ u w d. named_later old now new u w keeps d) (take i trees) found f.met in
-        let here : IsNamed returns old new t s = named_earlier old now new t s f.keeps made n in
-        let longer : take (i + 1) trees ≡ take i trees ++ t ∷ [] =
-        take_more trees i t inside ∙ ap (λ u. take i trees ++ u ∷ []) (sym e) in
-        subst (λ xs. Meet (IsNamed returns old new) xs more) (sym longer)
-        (subst (Meet (IsNamed returns old new) (take i trees ++ t ∷ [])) (sym pushed)
-        (meet_push (IsNamed returns old new) (take i trees) found t s before here));
-    kept = kept;
-  }
-
-  pub found_all : (old now : List NodeRecord) (trees found : List Tree) (i : ℕ) (known : BTreeMap ℕ Tree) →
-      AreFound old now trees i found known → length trees ≤ i → Meet (IsNamed returns old now) trees found
-  found_all old now trees found i known f all =
-      subst (λ xs. Meet (IsNamed returns old now) xs found) (take_all i trees all) f.met
-
   -- ---- roots
 
   pick : (P : Tree → Type 0) (b : Bool) (set unset : Tree) → P set → P unset → P (cond b set unset)
@@ -218,9 +181,6 @@ module _ (returns : Bor (List ℕ) → Bool → Type 0) where
         ∙ ap (λ c. holds nodes c (with_named says v))
         (side b (is_named says flag) (v.flag flag) set unset (named says by));
   }
-
-  nowhere : Valuation
-  nowhere = record { version = λ key. BelowAll; text = λ key. BelowAll; flag = λ flag. false }
 
   module _ (old now : List NodeRecord) (t : Tree) (trees : List Tree) where
     met_made : (n : NodeRecord) → Meet (IsNamed returns old now) (children n) trees →

@@ -33,11 +33,6 @@ module _ (returns : Bor (List ℕ) → Bool → Type 0) where
   abbrev pub AreKnown : List NodeRecord → BTreeMap ℕ Tree → Type 0
   AreKnown nodes known = (place : ℕ) → IfSome (get nat_cmp known place) (IsKnown nodes place)
 
-  -- what the call answers, with what is remembered afterwards
-  pub record IsFound (old new : List NodeRecord) (tree simple : Tree) (known : BTreeMap ℕ Tree) : Type 0 where
-    pub named : IsNamed old new tree simple
-    pub kept : AreKnown new known
-
   -- the node says what the tree does with the named extras present
   pub record IsAsked (nodes : List NodeRecord) (t : Tree) (n : NodeRecord) : Type 0 where
     pub made : AllChildren (IsTree nodes) n

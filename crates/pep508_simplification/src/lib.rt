@@ -8,6 +8,7 @@ mod named;
 mod narrowed;
 mod root;
 mod simplification;
+mod walk;
 mod within;
 
 pub use simplification::MarkerTreeSimplification;

@@ -64,7 +64,8 @@ pub trait MarkerTreeSimplification: Sized {
         ensures counts { interner.new.conjunctions ≡ interner.old.conjunctions };
 
     /// The tree with the extras taken as present for which the predicate answers true; extras that are no
-    /// names are never asked for. Copies each node of the tree once; looks up trees that were met.
+    /// names are never asked for. Copies each node of the tree once; looks up trees that were met. No
+    /// recursion, however deep the tree is.
     fn simplify_extras_with<F: Fn(&ExtraName) -> bool>(
         self,
         alloc: Global,
