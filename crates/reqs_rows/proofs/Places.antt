@@ -1,5 +1,6 @@
 -- Lists by their places.
-use Rattle.std.proofs.Common.{◌≡◌, ◌<◌, ◌⊎◌, ℕ, zero, suc, List, [], ◌∷◌, ◌++◌, length, get_or, set, Option, Some, None, refl, ap, inl, inr, arith}
+use Rattle.std.proofs.Common.{◌≡◌, ◌≢◌, ◌∙◌, ◌<◌, ◌⊎◌, ℕ, zero, suc, List, [], ◌∷◌, ◌++◌, length, map, get_or, set, Option, Some, None, Result, Ok, Err, OnOk, refl, sym, ap, inl, inr, arith}
+use Rattle.std.proofs.lemmas.List.{get_or-map, length-map, map-set, get_or-set_same, get_or-set_other}
 use Rattle.std.specs.List.{AllZip, AllByRecursion}
 
 -- what stands behind a list is what is read where nothing stands
@@ -41,3 +42,22 @@ pub at_each : {A : Type 0} (P : A → Type 0) (xs : List A) (i : ℕ) (d : A) �
 at_each P [] i d h below = absurd (omega arith)
 at_each P (x ∷ xs) zero d h below = h.0
 at_each P (x ∷ xs) (suc i) d h below = at_each P xs i d h.1 (omega arith)
+
+pub on_both : {T E A B C : Type 0} (r : Result T E) → (A → B → C) → OnOk r A → OnOk r B → OnOk r C
+on_both (Ok x) f a b = f a b
+on_both (Err e) f a b = tt
+
+module _ {X : Type 0} {Y : Type 0} (f : X → Y) (xs : List X) (i : ℕ) (x : X) (d : Y) where
+  -- by what is read there
+  pub read_at : i < length xs → x ≡ get_or xs i x → f x ≡ get_or (map f xs) i d
+  read_at below is = ap f is ∙ sym (get_or-map f xs i x d below)
+
+  -- by what is put there
+  pub put_at : i < length xs → get_or (map f (set xs i x)) i d ≡ f x
+  put_at below =
+      let long = length-map xs f in
+      let inside : i < length (map f xs) = omega (arith, below, long) in
+      ap (λ l. get_or l i d) (map-set f xs i x) ∙ get_or-set_same (map f xs) i (f x) d inside
+
+  pub put_elsewhere : (at : ℕ) → at ≢ i → get_or (map f (set xs i x)) at d ≡ get_or (map f xs) at d
+  put_elsewhere at differs = ap (λ l. get_or l at d) (map-set f xs i x) ∙ get_or-set_other (map f xs) i at (f x) d differs

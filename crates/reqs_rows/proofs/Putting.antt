@@ -21,10 +21,12 @@ module _ (returns : Bor VersionRecord → Bool → Bool → Type 0) (nodes : Lis
       → IsKnown returns nodes candidates old kept own → IsKnown returns nodes candidates new kept own
   known_grown old new grow kept own known = λ place piece e.
       let is = known place piece e in
-      let same : get_or new piece [] ≡ get_or old piece [] = ap (λ l. get_or l piece []) grow.1 ∙ get_or_append_left old grow.0 [] piece is.0 in (
-        (let long = ap length grow.1 ∙ length-append old grow.0 in omega (arith, is.0, long)),
-        λ admits by. subst (IsTextIn admits nodes candidates kept place) (sym same) (is.1 admits by),
-      )
+      let same : get_or new piece [] ≡ get_or old piece [] = ap (λ l. get_or l piece []) grow.1 ∙ get_or_append_left old grow.0 [] piece is.within in
+      let long = ap length grow.1 ∙ length-append old grow.0 in
+      let within = is.within in record {
+        within = omega (arith, within, long);
+        text = λ admits by. subst (IsTextIn admits nodes candidates kept place) (sym same) (is.text admits by);
+      }
 
   module _ (kept : KeptPackage) (v : Valuation) (place : ℕ) (lies : IsPlaceIn nodes v kept place) where
     -- by a piece that is known
@@ -32,7 +34,7 @@ module _ (returns : Bor VersionRecord → Bool → Bool → Type 0) (nodes : Lis
         → (old new : List ℕ) → new ≡ old ++ get_or texts piece []
         → (admits : Admits) → AnswersBy returns admits → PutsRow admits nodes v candidates kept old new
     put_known texts piece is old new e admits by =
-        let row = is.1 admits by v lies in
+        let row = is.text admits by v lies in
         (Some row.0, (lies.asked, row.1), e ∙ ap (λ t. old ++ t) row.2)
 
     -- a piece more is known
@@ -46,12 +48,14 @@ module _ (returns : Bor VersionRecord → Bool → Bool → Type 0) (nodes : Lis
         elim (there at found e) [
           | inl both ↦
               let here : get_or new found [] ≡ row_text candidates row =
-              ap (λ l. get_or l found []) grown ∙ get_or_at texts (row_text candidates row) [] [] found both.1 in (
-                (let long = ap length grown ∙ length-append texts (row_text candidates row ∷ []) in omega (arith, both.1, long)),
-                λ admits by.
+              ap (λ l. get_or l found []) grown ∙ get_or_at texts (row_text candidates row) [] [] found both.1 in
+              let long = ap length grown ∙ length-append texts (row_text candidates row ∷ []) in
+              let last = both.1 in record {
+                within = omega (arith, last, long);
+                text = λ admits by.
                     subst (λ p. IsTextIn admits nodes candidates kept p (get_or new found [])) (sym both.0)
-                    (λ u there. (row, one_row nodes v u kept stands place lies there admits candidates row (is admits by), here)),
-              )
+                    (λ u there. (row, one_row nodes v u kept stands place lies there admits candidates row (is admits by), here));
+              }
           | inr before ↦
               known_grown texts new (row_text candidates row ∷ [], grown) kept own known at found before
         ]
@@ -61,13 +65,13 @@ module _ (returns : Bor VersionRecord → Bool → Bool → Type 0) (nodes : Lis
     pub known_same : (texts : List (List ℕ)) (own : List (Option ℕ)) → IsKnown returns nodes candidates texts a own
         → IsKnown returns nodes candidates texts b own
     known_same texts own known = λ place piece e.
-        let is = known place piece e in (
-          is.0,
-          λ admits by v lies.
+        let is = known place piece e in record {
+          within = is.within;
+          text = λ admits by v lies.
               let was = place_same nodes v b a (same_back a b s) place lies in
-              let row = is.1 admits by v was in
-              (row.0, (row_if_same admits nodes v candidates a b s (Some row.0) (was.asked, row.1)).1, row.2),
-        )
+              let row = is.text admits by v was in
+              (row.0, (row_if_same admits nodes v candidates a b s (Some row.0) (was.asked, row.1)).1, row.2);
+        }
 
     pub lies_same : (v : Valuation) (place : Option ℕ) → LiesIn nodes v a place → LiesIn nodes v b place
     lies_same v None h = sym (any_same nodes v a.lines b.lines s.lines) ∙ h

@@ -19,11 +19,11 @@ IsTextIn admits nodes candidates kept place text =
     (row : RowRecord) × IsRowFor admits nodes v candidates kept row × (text ≡ row_text candidates row)
 
 -- one of these pieces is that text, where versions are admitted by a closure with these results
-abbrev pub IsPiece : (Bor VersionRecord → Bool → Bool → Type 0) → List NodeRecord → List Candidate
-    → List (List ℕ) → KeptPackage → ℕ → ℕ → Type 0
-IsPiece returns nodes candidates texts kept place piece =
-    (piece < length texts) × ((admits : Admits) → AnswersBy returns admits →
-    IsTextIn admits nodes candidates kept place (get_or texts piece []))
+pub record IsPiece (returns : Bor VersionRecord → Bool → Bool → Type 0) (nodes : List NodeRecord)
+    (candidates : List Candidate) (texts : List (List ℕ)) (kept : KeptPackage) (place piece : ℕ) : Type 0 where
+  pub within : piece < length texts
+  pub text : (admits : Admits) → AnswersBy returns admits →
+      IsTextIn admits nodes candidates kept place (get_or texts piece [])
 
 -- what is known of a package is so
 abbrev pub IsKnown : (Bor VersionRecord → Bool → Bool → Type 0) → List NodeRecord → List Candidate

@@ -5,10 +5,10 @@ use Rattle.reqs_rows.specs.Seen.{pieces_of}
 use Rattle.reqs_rows.proofs.Places.{default_behind}
 use Rattle.reqs_rows.proofs.known.reach.Goals as goal
 
-pub loop-known-preserved : goal.loop-known-preserved
-loop-known-preserved c = λ at.
-    let before = c.loop-known.known.items in
+pub loop-alloc-preserved : goal.loop-alloc-preserved
+loop-alloc-preserved c = λ at.
+    let before = c.loop-alloc.known.items in
     ap (λ l. get_or (pieces_of l) at []) c.in_ok-push.ensures.items
     ∙ ap (λ l. get_or l at []) (map-append (λ (own : Known). own.pieces.items) before _
     ∙ ap (λ own. pieces_of before ++ own ∷ []) c.new-pieces.ensures.items)
-    ∙ default_behind (pieces_of before) [] at ∙ c.loop-known.invariant at
+    ∙ default_behind (pieces_of before) [] at ∙ c.loop-alloc.invariant at

@@ -10,10 +10,10 @@ returns-clause-whole c =
     let text = row_text c.args.candidates.now (row_seen c.args.row) in
     let before = c.args.pieces.now in
     let added = c.in_ok-piece.ensures in
-    let texts : c.add-piece.new.self.texts ≡ before.texts ++ text ∷ [] =
+    let texts : c.add.new.self.texts ≡ before.texts ++ text ∷ [] =
     added.kept ∙ ap (λ t. before.texts ++ t ∷ []) c.in_ok-text.ensures in
     on_ok_weaker c.append.result
-    (λ h. h ∙ ap (λ w. w ++ get_or c.add-piece.new.self.texts c.in_ok-piece.piece []) added.whole
+    (λ h. h ∙ ap (λ w. w ++ get_or c.add.new.self.texts c.in_ok-piece.piece []) added.whole
     ∙ ap (λ t. before.whole ++ t) (ap (λ l. get_or l c.in_ok-piece.piece []) texts
     ∙ get_or_at before.texts text [] [] c.in_ok-piece.piece (sym added.named)))
     c.append.ensures.whole
