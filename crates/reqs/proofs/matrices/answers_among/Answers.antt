@@ -1,6 +1,5 @@
-use Rattle.std.proofs.Common.{◌≡◌, ◌∙◌, ◌++◌, ◌∷◌, [], List, ℕ, get_or, ap, sym, subst}
-use Rattle.pep508_evaluation.specs.Valuations.{valuation_of}
-use Rattle.reqtable_requirements.specs.Asks.{asks_of}
+use Rattle.std.proofs.Common.{◌≡◌, ◌∙◌, ◌+◌, ◌++◌, ◌∷◌, [], List, ℕ, get_or, ap, sym, subst}
+use Rattle.reqtable_answer.specs.Answer.{answer_text}
 use Rattle.reqtable_table.proofs.Same.{all_same, packages_on, has_cases, keeps}
 use Rattle.reqs_rows.proofs.Going.{none_known, are_known_grown}
 use Rattle.reqs.specs.Check.{on_request}
@@ -42,7 +41,7 @@ loop-place-preserved g c =
             c.in_ok-put_answer.ensures.put said on_request
             (keeps c.args.interner.now.nodes c.loop-place.table c.args.table.now said c.loop-place.invariant.goes.same k) c.requires.admits in
             let P : List ℕ → Type 0 = λ text. IsFront extras said candidates environments (place + 1) text in
-            subst P (sym (put.2 ∙ ap (λ t. t ++ _) c.in_ok-put_line.ensures.whole))
+            subst P (sym (put.2 ∙ ap (λ t. t ++ answer_text candidates put.0) c.in_ok-put_line.ensures.whole))
             (one_more extras said candidates environments place environment c.loop-place-test.true c.index-environments-place.is front
             (c.loop-place.invariant.goes.answers said k) put.0 put.1);
       };
