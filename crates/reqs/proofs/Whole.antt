@@ -1,5 +1,5 @@
 -- What is answered behind a list of requirements is what is answered to all texts.
-use Rattle.std.proofs.Common.{◌≡◌, ◌⊎◌, inl, inr, ℕ, List, Option, Result, Ok, Err, String, sym, subst}
+use Rattle.std.proofs.Common.{◌≡◌, ◌≢◌, ◌∙◌, ◌⊎◌, inl, inr, ℕ, List, Option, Result, Ok, Err, IfErr, String, sym, subst}
 use Rattle.std.specs.List.{AllZip}
 use Rattle.pep508_url.specs.Vars.{Variables}
 use Rattle.reqtable_text.specs.TextLines.{text_lines}
@@ -10,18 +10,21 @@ use Rattle.pep508_environment.specs.Environment.{EnvironmentRecord}
 use Rattle.reqs_ends.specs.declared.fault.Input.{Input}
 use Rattle.reqs_ends.specs.declared.fault.Input.TheVariants.{First, Second}
 use Rattle.reqs_ends.specs.declared.fault.RunFault.{RunFault}
-use Rattle.reqs_ends.specs.declared.fault.RunFault.TheVariants.{Memory}
+use Rattle.reqs_ends.specs.declared.fault.RunFault.TheVariants.{Memory, Write}
+use Rattle.reqs_ends.specs.declared.fault.Status.{Status}
+use Rattle.reqs_ends.specs.declared.fault.Status.TheVariants.{Answered}
 use Rattle.reqs_ends.specs.Faults.{IsPlain, IsOfTexts, Refuses}
 use Rattle.reqs_ends.specs.Inputs.{extras_of, lines_from, environment_from, environments_from}
-use Rattle.reqs_ends.specs.Ends.{AreWithin, Answering, Refusing, Runs}
-use Rattle.reqs_ends.proofs.Steps.{refuses_texts, texts_refused}
+use Rattle.reqs_ends.specs.Ends.{AreWithin, Answering, Refusing, Runs, EndsAs}
+use Rattle.reqs_ends.proofs.Steps.{refuses_texts, texts_refused, answered}
 use Rattle.reqs.specs.Check.{AnswersText}
-use Rattle.reqs.specs.Matrix.{MatrixTexts, IsRead, IsOverLimit, AnswersAll}
+use Rattle.reqs_pieces.specs.Pieces.{PiecesRecord}
+use Rattle.reqs.specs.Matrix.{MatrixTexts, IsRead, IsOverLimit, AnswersAll, WritesText}
 use Rattle.reqs.specs.Texts.{ReadTexts, behind_lines, texts_of}
 
-module _ {Y : Type 0} (vars : Variables) (extras : List (List ℕ)) (x y z : List ℕ) (names : List (List ℕ))
+module _ (vars : Variables) (extras : List (List ℕ)) (x y z : List ℕ) (names : List (List ℕ))
     (said : List LineRecord) (e : extras_of extras ≡ Ok names) (l : lines_from vars First x ≡ Ok said) where
-  pub whole_check : (result : Result (String Y) RunFault)
+  pub whole_check : {Y : Type 0} (result : Result (String Y) RunFault)
       → AnswersText IsPlain result (behind_lines (environment_from Second 1) names said y z)
       → AnswersText (IsOfTexts vars First x) result (texts_of (environment_from Second 1) vars extras x y z)
   unfolding texts_of
@@ -29,7 +32,7 @@ module _ {Y : Type 0} (vars : Variables) (extras : List (List ℕ)) (x y z : Lis
   whole_check (Err fault) h =
       rw (e, l) (refuses_texts vars First x fault (behind_lines (environment_from Second 1) names said y z) h)
 
-  pub whole_matrix : (limit : ℕ) (result : Result (String Y) RunFault)
+  pub whole_matrix : (limit : ℕ) (result : Result PiecesRecord RunFault)
       → AnswersAll IsPlain limit result (behind_lines (environments_from Second) names said y z)
       → AnswersAll (IsOfTexts vars First x) limit result (texts_of (environments_from Second) vars extras x y z)
   unfolding texts_of
@@ -64,3 +67,19 @@ module _ {W : Type 0} (Answers : Answering) (Refused : Refusing) (contents : W �
   list_refused vars list bytes fault h r =
       texts_refused Answers Refused contents old new told inputs are_told within
       (λ input error. (input ≡ list) × IsErrorIn vars (text_lines bytes) error) fault h r
+
+  -- or whose text was written
+  pub text_written : (text : List ℕ) → Answers inputs Answered text → (result : Result Status RunFault)
+      → WritesText contents old new text result → Runs Answers Refused told contents old new result
+  text_written text h (Ok status) w = answered Answers Refused contents old new told inputs are_told within Answered text h (Ok status) w
+  text_written text h (Err fault) (inl w) = answered Answers Refused contents old new told inputs are_told within Answered text h (Err fault) w
+  text_written text h (Err fault) (inr w) =
+      let P : RunFault → Type 0 = λ f. EndsAs Answers Refused inputs contents old new (Err f) in
+      record { inputs = inputs; are_told = are_told; ends = subst P (sym w.0) tt }
+
+-- nothing is written where the fault isn't the writer's
+pub unwritten : {W : Type 0} (contents : W → Option (List ℕ)) (old new : W) (text : List ℕ) (result : Result Status RunFault)
+    → WritesText contents old new text result → IfErr result (λ fault. fault ≢ Write → new ≡ old)
+unwritten contents old new text (Ok status) w = tt
+unwritten contents old new text (Err fault) (inl w) = λ other. absurd (other w.0)
+unwritten contents old new text (Err fault) (inr w) = λ other. w.1

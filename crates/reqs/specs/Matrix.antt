@@ -1,6 +1,5 @@
 -- What `matrix` does, from the bytes of its inputs to the bytes of its answers.
-use Rattle.std.specs.Prelude.{◌≡◌, ◌⊎◌, ℕ, suc, List, [], ◌∷◌, ◌++◌, codes, Option, Result, Ok, Err, String}
-use Rattle.std.specs.String.{string_bytes}
+use Rattle.std.specs.Prelude.{◌≡◌, ◌⊎◌, ℕ, suc, List, [], ◌∷◌, ◌++◌, codes, Option, Result, Ok, Err}
 use Rattle.std.specs.List.{AllZip}
 use Rattle.std.specs.Fmt.{decimal}
 use Rattle.pep508_url.specs.Vars.{Variables}
@@ -18,12 +17,14 @@ use Rattle.reqtable_table.specs.Cases.{Builds}
 use Rattle.reqtable_table.specs.Kept.{KeptPackage}
 use Rattle.reqs_ends.specs.declared.fault.Input.TheVariants.{First, Second, Third}
 use Rattle.reqs_ends.specs.declared.fault.RunFault.{RunFault}
-use Rattle.reqs_ends.specs.declared.fault.RunFault.TheVariants.{TooManyCases, Memory}
+use Rattle.reqs_ends.specs.declared.fault.RunFault.TheVariants.{TooManyCases, Memory, Write}
 use Rattle.reqs_ends.specs.declared.fault.Status.{Status}
 use Rattle.reqs_ends.specs.declared.fault.Status.TheVariants.{Answered}
 use Rattle.reqs_ends.specs.Faults.{Cause, IsOfTexts, Refuses}
 use Rattle.reqs_ends.specs.Inputs.{environments_from}
 use Rattle.reqs_ends.specs.Ends.{of_input, Runs}
+use Rattle.reqs_io.specs.Front.{WritesWhole, AppendsFront}
+use Rattle.reqs_pieces.specs.Pieces.{PiecesRecord}
 use Rattle.reqs.specs.Check.{on_request}
 use Rattle.reqs.specs.Texts.{ReadTexts, texts_of}
 
@@ -70,9 +71,8 @@ IsRead texts Holds = (read : ReadTexts (List EnvironmentRecord)) × (texts ≡ O
 
 -- the text has the answers; or the texts are refused for what the fault says, or, once all are read, for a
 -- package that has too many cases
-abbrev pub AnswersAll : {Y : Type 0} → (RunFault → Type 0) → ℕ → Result (String Y) RunFault → MatrixTexts
-    → Type 0
-AnswersAll IsOne limit (Ok text) texts = IsRead texts (λ read. IsWithinLimit limit read (string_bytes text))
+abbrev pub AnswersAll : (RunFault → Type 0) → ℕ → Result PiecesRecord RunFault → MatrixTexts → Type 0
+AnswersAll IsOne limit (Ok text) texts = IsRead texts (λ read. IsWithinLimit limit read text.whole)
 AnswersAll IsOne limit (Err fault) texts =
     Refuses IsOne fault texts ⊎ IsRead texts (λ read. IsOverLimit limit read.lines fault)
 
@@ -89,6 +89,12 @@ abbrev pub matrix_texts : Variables → List (List ℕ) → List (List ℕ) → 
 matrix_texts vars extras inputs =
     texts_of (environments_from Second) vars extras
     (of_input inputs First) (of_input inputs Second) (of_input inputs Third)
+
+-- the text was written, or a front of it; or, for want of memory, nothing
+abbrev pub WritesText : {W : Type 0} → (W → Option (List ℕ)) → W → W → List ℕ → Result Status RunFault → Type 0
+WritesText contents old new text (Ok status) = (status ≡ Answered) × WritesWhole contents old new text
+WritesText contents old new text (Err fault) =
+    ((fault ≡ Write) × AppendsFront (contents old) (contents new) text) ⊎ ((fault ≡ Memory) × (new ≡ old))
 
 -- ---- the command
 

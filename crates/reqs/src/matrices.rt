@@ -1,12 +1,9 @@
 //! `matrix`: the answers for many environments, from one table of the requirements.
 
-ghost use Rattle.std.specs.Prelude.{◌≡◌, ◌≢◌, ◌++◌, List, length, map, All, IfErr, IfOk, OnOk};
-ghost use Rattle.std.specs.Prelude.{string_bytes};
+ghost use Rattle.std.specs.Prelude.{◌≡◌, ◌≢◌, ◌++◌, ◌∷◌, [], List, map, IfErr, IfOk, OnOk};
 ghost use Rattle.std.specs.List.{AllZip, AllByRecursion};
 ghost use Rattle.pep508_url.specs.Vars.{Variables};
 ghost use Rattle.reqtable_answer.specs.Admission.{AnswersBy};
-ghost use Rattle.reqtable_answer.specs.Answer.{answer_text};
-ghost use Rattle.reqtable_answer.specs.Rows.{row_seen, IsTakenBelow};
 ghost use Rattle.reqtable_requirements.specs.Asks.{AreOfNodes};
 ghost use Rattle.reqtable_requirements.specs.LineReading.{LineRecord};
 ghost use Rattle.reqtable_requirements.specs.Requirements.{StandsFor};
@@ -18,7 +15,7 @@ ghost use Rattle.reqs_ends.specs.Faults.{IsPlain, IsOfTexts};
 ghost use Rattle.reqs_ends.specs.Inputs.{environments_from};
 ghost use Rattle.reqs.specs.Check.{on_request};
 ghost use Rattle.reqs.specs.Matrix.{environment_line, IsMatrixText, AreRead, AnswersAll, TablesAs};
-ghost use Rattle.reqs.specs.Matrix.{RunsMatrix};
+ghost use Rattle.reqs.specs.Matrix.{RunsMatrix, WritesText};
 ghost use Rattle.reqs.specs.Texts.{behind_lines, texts_of};
 
 use crate::admitting::is_admitted;
@@ -29,14 +26,19 @@ use pep508_tree::Interner;
 use pep508_url::Vars;
 use reqs_ends::{
     Input, RunFault, Status, read_candidates, read_environments, read_extras, read_input,
-    read_requirements, write_answer,
+    read_requirements,
 };
-use reqtable_answer::{Admission, Answer};
+use reqs_pieces::Pieces;
+use reqs_rows::RowTexts;
+use reqtable_answer::Admission;
 use reqtable_requirements::Requirements;
 use reqtable_table::{Runs, Table, TableError};
 use reqtable_text::Candidates;
 use std::alloc::{AllocError, Global};
 use std::io::{Read, Write};
+
+/// How many bytes of the text wait for one another before they are written.
+const WAITING_BYTES: usize = 65_536;
 
 /// Reads a list of requirements, a list of environments and a list of candidates, and writes for each
 /// environment its number, as `env 1`, on a line, and then what `check` writes for it.
@@ -44,7 +46,8 @@ use std::io::{Read, Write};
 /// All inputs are read whole, in this order; then the extras are read as names, and then each input
 /// as what it is. Then one table of the requirements is made, from which all environments are answered, by
 /// `Table::build`. A package that has more cases than the limit is refused: the first by name, whatever the
-/// environments are. The text is made whole before the first write.
+/// environments are. Before the first write all is decided, and all memory is there that writing takes: of
+/// the text each row is kept once, however many environments have it.
 pub fn matrix<L: Read, E: Read, C: Read, W: Write>(
     alloc: Global,
     requirements: &mut L,
@@ -73,7 +76,25 @@ pub fn matrix<L: Read, E: Read, C: Read, W: Write>(
         vars,
         limit,
     )?;
-    write_answer(output, text.as_str(), Status::Answered)
+    write_text(alloc, &text, output)
+}
+
+/// Writes the text of all answers through a buffer, whose memory is taken before the first write.
+fn write_text<W: Write>(
+    alloc: Global,
+    text: &Pieces,
+    output: &mut W,
+) -> Result<Status, RunFault>
+    ensures { WritesText W.contents output.old output.new text.now.whole result }
+{
+    let Ok(buffer) = Vec::with_capacity(alloc, WAITING_BYTES) else {
+        return Err(RunFault::Memory);
+    };
+    let mut buffer = buffer;
+    match text.write_through(&mut buffer, output) {
+        Ok(()) => Ok(Status::Answered),
+        Err(_) => Err(RunFault::Write),
+    }
 }
 
 /// The text of all answers. The bytes of each input are let go once they are read.
@@ -85,7 +106,7 @@ fn matrix_text(
     extras: &[&str],
     vars: &Vars,
     limit: u64,
-) -> Result<String, RunFault>
+) -> Result<Pieces, RunFault>
     ensures { AnswersAll (IsOfTexts vars.now First requirements.old.items) limit result
         (texts_of (environments_from Second) vars.now (map (λ e. e.now) extras.now)
         requirements.old.items environments.old.items candidates.old.items) }
@@ -113,7 +134,7 @@ fn matrix_behind(
     environments: &mut Vec<u8>,
     candidates: &mut Vec<u8>,
     limit: u64,
-) -> Result<String, RunFault>
+) -> Result<Pieces, RunFault>
     requires { AreRead interner.old.nodes requirements }
     ensures { (vars : Variables) (said : List LineRecord) →
         AllZip (StandsFor vars interner.old.nodes) requirements said →
@@ -167,10 +188,10 @@ fn answers_text(
     environments: &[MarkerEnvironment],
     extras: &[ExtraName],
     candidates: &Candidates,
-) -> Result<String, AllocError>
+) -> Result<Pieces, AllocError>
     requires { AllByRecursion (HasItsCases interner.now.nodes) table.old }
     ensures { IfOk result (λ text. (said : List LineRecord) → KeepsAll interner.now.nodes table.old said →
-        IsMatrixText on_request extras.now said candidates.now 1 environments.now (string_bytes text)) }
+        IsMatrixText on_request extras.now said candidates.now 1 environments.now text.whole) }
 {
     let ordered = candidates.in_order(alloc)?;
     let mut runs = table.runs(alloc, &ordered)?;
@@ -197,7 +218,7 @@ fn answers_among<F: Fn(&Version, bool) -> bool>(
     runs: &mut Runs<'_, '_>,
     admission: &Admission<F>,
     candidates: &Candidates,
-) -> Result<String, AllocError>
+) -> Result<Pieces, AllocError>
     requires cases { AllByRecursion (HasItsCases interner.now.nodes) table.old }
     requires callable { F.IsAlwaysCallable admission.now }
     requires admits { AnswersBy (F.post admission.now) on_request }
@@ -205,30 +226,33 @@ fn answers_among<F: Fn(&Version, bool) -> bool>(
     requires told { AreTold (F.post admission.now) table.old runs.old }
     requires candidates { runs.old.candidates ≡ candidates.now }
     ensures { IfOk result (λ text. (said : List LineRecord) → KeepsAll interner.now.nodes table.old said →
-        IsMatrixText on_request extras.now said candidates.now 1 environments.now (string_bytes text)) }
+        IsMatrixText on_request extras.now said candidates.now 1 environments.now text.whole) }
 {
-    let mut text = String::new(alloc);
+    let mut text = Pieces::new(alloc);
+    let mut rows = RowTexts::new(alloc);
     for (place, environment) in environments.iter().enumerate() {
-        let answer = table.answer_among(alloc, interner, environment, extras, runs, admission)?;
-        push_answer(alloc, &mut text, place + 1, &answer, candidates)?;
+        put_line(alloc, &mut text, place + 1)?;
+        rows.put_answer(
+            alloc,
+            table,
+            interner,
+            environment,
+            extras,
+            runs,
+            admission,
+            candidates,
+            &mut text,
+        )?;
     }
     Ok(text)
 }
 
-/// Adds the line of an environment and its answer to a text.
-fn push_answer(
-    alloc: Global,
-    text: &mut String,
-    number: usize,
-    answer: &Answer,
-    candidates: &Candidates,
-) -> Result<(), AllocError>
-    requires { All (λ row. IsTakenBelow (length candidates.now) row.outcome) answer.now.rows.items }
-    ensures { OnOk result (string_bytes text.new ≡ (string_bytes text.old ++ environment_line number)
-        ++ answer_text candidates.now (map row_seen answer.now.rows.items)) }
+/// Puts the line of an environment behind a text.
+fn put_line(alloc: Global, text: &mut Pieces, number: usize) -> Result<(), AllocError>
+    ensures whole { OnOk result (text.new.whole ≡ text.old.whole ++ environment_line number) }
+    ensures texts { OnOk result (text.new.texts ≡ text.old.texts ++ environment_line number ∷ []) }
 {
     let line = format!(in alloc; "env {number}\n")?;
-    text.push_str(line.as_str())?;
-    let rows = answer.text(alloc, candidates)?;
-    text.push_str(rows.as_str())
+    let piece = text.add(line)?;
+    text.append(piece)
 }

@@ -17,11 +17,11 @@ use Rattle.reqtable_requirements.specs.LineReading.{LineRecord}
 use Rattle.reqtable_requirements.specs.Requirements.{StandsFor}
 use Rattle.reqtable_requirements.specs.declared.requirements.Line.{Line}
 use Rattle.reqtable_cases.specs.Lines.{line_marks, is_named, HasTooMany, IsFirstTooMany}
-use Rattle.reqtable_table.specs.declared.given.Given.{Given}
-use Rattle.reqtable_table.specs.declared.grouping.Group.{Group}
+use Rattle.reqtable_groups.specs.declared.given.Given.{Given}
+use Rattle.reqtable_groups.specs.declared.grouping.Group.{Group}
 use Rattle.reqtable_table.specs.declared.table.TableError.{TableError}
 use Rattle.reqtable_table.specs.declared.table.TableError.TheVariants.{TooManyCases, Memory}
-use Rattle.reqtable_table.specs.Given.{given_by, is_under, group_names, lines_under, AreGrouped}
+use Rattle.reqtable_groups.specs.Given.{given_by, is_under, group_names, lines_under, AreGrouped}
 use Rattle.reqtable_table.specs.Kept.{KeptPackage, names_in, kept_under, Keeps, KeepsAll}
 use Rattle.reqtable_table.specs.KeptLines.{kept_by}
 use Rattle.reqtable_table.specs.Cases.{HasItsCases, Builds}

@@ -8,11 +8,11 @@ use Rattle.pep508_tree.specs.Meaning.{NodeRecord, IsTree, Extends}
 use Rattle.pep508_tree.proofs.Conjoining.{tree_kept}
 use Rattle.pep508_cases.specs.Cases.{marks_of, HasMore}
 use Rattle.pep508_cases.proofs.Counting.{more_than_all}
-use Rattle.reqtable_table.specs.declared.given.Given.{Given}
-use Rattle.reqtable_table.specs.declared.grouping.Group.{Group}
+use Rattle.reqtable_groups.specs.declared.given.Given.{Given}
+use Rattle.reqtable_groups.specs.declared.grouping.Group.{Group}
 use Rattle.reqtable_table.specs.declared.table.TableError.{TableError}
 use Rattle.reqtable_table.specs.declared.table.TableError.TheVariants.{TooManyCases, Memory}
-use Rattle.reqtable_table.specs.Given.{lines_in}
+use Rattle.reqtable_groups.specs.Given.{lines_in}
 use Rattle.reqtable_table.specs.Kept.{KeptLine, KeptPackage}
 use Rattle.reqtable_table.specs.Cases.{IsCaseOf}
 use Rattle.reqtable_table.specs.Building.{AreOfTrees, group_marks, IsPackageOf, IsRefusal, IsFirstRefusal}

@@ -1,11 +1,7 @@
-pub mod Names
-pub mod Grouped
-pub mod ByName
 pub mod Marking
 pub mod Packages
 pub mod Rising
 pub mod Said
-pub mod Added
 pub mod Ranging
 pub mod Counting
 pub mod Firsts
@@ -25,3 +21,5 @@ pub mod Rows
 pub mod StandingLines
 pub mod OneCase
 pub mod Told
+pub mod LentTable
+pub mod Placed

@@ -11,7 +11,7 @@ use Rattle.pep508_cases.specs.Cases.{Marks, marks_of, IsCase, AreCases}
 use Rattle.reqtable_answer.specs.Asks.{names_prerelease}
 use Rattle.reqtable_cases.specs.Lines.{marked}
 use Rattle.reqtable_cases.specs.Usable.{IsRangeOf}
-use Rattle.reqtable_table.specs.declared.given.Given.{Given}
+use Rattle.reqtable_groups.specs.declared.given.Given.{Given}
 use Rattle.reqtable_table.specs.Kept.{KeptLine, KeptCase, KeptPackage, kept_front}
 use Rattle.reqtable_table.specs.Cases.{IsCaseOf, HasItsCases}
 use Rattle.reqtable_table.specs.Casing.{given_front, HaveMarks, IsCaseOfGiven}

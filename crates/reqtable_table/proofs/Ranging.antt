@@ -10,7 +10,7 @@ use Rattle.pep508_requirement_text.specs.FrontReading.{Front}
 use Rattle.reqtable_range.specs.Together.{lent}
 use Rattle.reqtable_answer.specs.Asks.{has_url, specifiers_of, names_prerelease}
 use Rattle.reqtable_cases.specs.Usable.{members_asked, is_ranged, is_usable, IsRangeOf, IsRangeOfMembers}
-use Rattle.reqtable_table.specs.declared.given.Given.{Given}
+use Rattle.reqtable_groups.specs.declared.given.Given.{Given}
 use Rattle.reqtable_table.specs.Kept.{kept_source}
 use Rattle.reqtable_table.specs.Casing.{lent_given, given_front}
 

@@ -17,7 +17,7 @@ use Rattle.reqtable_answer.specs.declared.answer.Row.{Row}
 use Rattle.reqtable_answer.specs.Rows.{row_seen}
 use Rattle.reqtable_table.specs.declared.table.Package.{Package}
 use Rattle.reqtable_table.specs.Answers.{kept_marks, kept_asked, is_asked, own_candidates, most_tests, most_tests_of}
-use Rattle.reqtable_table.specs.Answers.{IsRowFor, AreRowsFor, SameLine, SamePackage}
+use Rattle.reqtable_table.specs.Answers.{IsRowFor, IsRowIf, AreRowsFor, SameLine, SamePackage}
 use Rattle.reqtable_table.specs.Cases.{HasItsCases}
 use Rattle.reqtable_table.specs.Choosing.{outcome_in_order, IsRowInOrder}
 use Rattle.reqtable_table.specs.Runs.{RunsRecord, AreOrdered, AreRunsOf}
@@ -38,14 +38,14 @@ kept_records packages = map package_record packages
 
 -- ---- what lines ask for that stayed the same
 
-asked_same : (nodes : List NodeRecord) (v : Valuation) (a b : List KeptLine) → AllZip SameLine a b →
+pub asked_same : (nodes : List NodeRecord) (v : Valuation) (a b : List KeptLine) → AllZip SameLine a b →
     kept_asked nodes v a ≡ kept_asked nodes v b
 asked_same nodes v a b s =
     sym (marked_map kept_front (kept_marks nodes v a) a)
     ∙ (λ i. marked (marks_same nodes v a b s i) (same_fronts a b s i))
     ∙ marked_map kept_front (kept_marks nodes v b) b
 
-any_same : (nodes : List NodeRecord) (v : Valuation) (a b : List KeptLine) → AllZip SameLine a b →
+pub any_same : (nodes : List NodeRecord) (v : Valuation) (a b : List KeptLine) → AllZip SameLine a b →
     list_any (λ (l : KeptLine). holds nodes l.marker v) a ≡ list_any (λ (l : KeptLine). holds nodes l.marker v) b
 any_same nodes v [] [] s = refl
 any_same nodes v [] (y ∷ b) s = absurd s
@@ -56,11 +56,6 @@ any_same nodes v (x ∷ a) (y ∷ b) s =
     λ i. here i || rest i
 
 module _ (admits : Admits) (nodes : List NodeRecord) (v : Valuation) (candidates : List Candidate) where
-  -- the row of a package of which a line applies
-  abbrev pub IsRowIf : KeptPackage → Option RowRecord → Type 0
-  IsRowIf kept None = is_asked nodes v kept ≡ false
-  IsRowIf kept (Some row) = (is_asked nodes v kept ≡ true) × IsRowFor admits nodes v candidates kept row
-
   row_same : (a b : KeptPackage) → SamePackage a b → (row : RowRecord) → IsRowFor admits nodes v candidates a row →
       IsRowFor admits nodes v candidates b row
   row_same a b s row is = record {
@@ -70,14 +65,16 @@ module _ (admits : Admits) (nodes : List NodeRecord) (v : Valuation) (candidates
         (subst (λ asks. IsRowOf admits asks (own_candidates candidates a.name) row) (asked_same nodes v a.lines b.lines s.lines) is.its);
   }
 
-  pub row_if_same : (a b : KeptPackage) → SamePackage a b → (row : Option RowRecord) → IsRowIf a row → IsRowIf b row
+  pub row_if_same : (a b : KeptPackage) → SamePackage a b → (row : Option RowRecord) →
+      IsRowIf admits nodes v candidates a row → IsRowIf admits nodes v candidates b row
   row_if_same a b s None is = sym (any_same nodes v a.lines b.lines s.lines) ∙ is
   row_if_same a b s (Some row) is =
       (sym (any_same nodes v a.lines b.lines s.lines) ∙ is.0, row_same a b s row is.1)
 
   -- by the package's candidates in order
   pub row_in_order : (placed : List (ℕ × Candidate)) → AreInOrder candidates placed → (kept : KeptPackage) (run : List (ℕ × Candidate)) →
-      run ≡ filter (is_candidate kept.name) placed → (row : Option RowRecord) → IsRowInOrder admits nodes v run kept row → IsRowIf kept row
+      run ≡ filter (is_candidate kept.name) placed → (row : Option RowRecord) → IsRowInOrder admits nodes v run kept row →
+      IsRowIf admits nodes v candidates kept row
   row_in_order placed order kept run e None is = is
   row_in_order placed order kept run e (Some row) is =
       let asks = kept_asked nodes v kept.lines in (
@@ -101,14 +98,14 @@ module _ (admits : Admits) (nodes : List NodeRecord) (v : Valuation) (candidates
       filter-append asked table (kept ∷ []) ∙ ap (λ t. filter asked table ++ cond t (kept ∷ []) []) e
 
   pub none_more : (table : List KeptPackage) (kept : KeptPackage) (rows : List RowRecord) →
-      AreRowsFor admits nodes v candidates table rows → IsRowIf kept None →
+      AreRowsFor admits nodes v candidates table rows → IsRowIf admits nodes v candidates kept None →
       AreRowsFor admits nodes v candidates (table ++ kept ∷ []) rows
   none_more table kept rows are is =
       subst (λ l. AllZip (IsRowFor admits nodes v candidates) l rows)
       (sym (one_more table kept false is ∙ append-nil (filter asked table))) are
 
   pub row_more : (table : List KeptPackage) (kept : KeptPackage) (rows : List RowRecord) (row : RowRecord) →
-      AreRowsFor admits nodes v candidates table rows → IsRowIf kept (Some row) →
+      AreRowsFor admits nodes v candidates table rows → IsRowIf admits nodes v candidates kept (Some row) →
       AreRowsFor admits nodes v candidates (table ++ kept ∷ []) (rows ++ row ∷ [])
   row_more table kept rows row are is =
       zip_pushed (IsRowFor admits nodes v candidates) (filter asked table) (filter asked (table ++ kept ∷ [])) rows
@@ -174,6 +171,10 @@ module _ (nodes : List NodeRecord) (v : Valuation) (candidates : List Candidate)
 
   pub none_answered : AreAnswered old 0
   none_answered = record { same = all_same (kept_records old); tests = omega arith }
+
+  -- before the one at a place, of which alone is looked at
+  pub none_before : (i : ℕ) → AreAnswered old i
+  none_before i = record { same = all_same (kept_records old); tests = omega arith }
 
   module _ (now : List Package) (i : ℕ) (kept : Package) (so_far : AreAnswered now i) (within : i < length now)
       (is : kept ≡ get_or now i kept) where
@@ -258,6 +259,11 @@ module _ (nodes : List NodeRecord) (v : Valuation) (runs : RunsRecord) (ordered 
     below_here =
         subst (AllByRecursion (λ (c : ℕ × Candidate). c.0 < length runs.candidates)) (sym own_is)
         (run_below runs.candidates runs.placed ordered.in_order kept.name)
+
+    -- its row
+    pub row_here : (admits : Admits) (row : Option RowRecord) → IsRowInOrder admits nodes v own (package_record kept) row →
+        IsRowIf admits nodes v runs.candidates (package_record kept) row
+    row_here admits = row_in_order admits nodes v runs.candidates runs.placed ordered.in_order (package_record kept) own own_is
 
     module _ (new : Package) (same : SamePackage (package_record new) (package_record kept))
         (tests : tests_of (package_record new).lines ≤ tests_of (package_record kept).lines

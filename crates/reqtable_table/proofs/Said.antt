@@ -23,7 +23,7 @@ use Rattle.reqtable_requirements.specs.LineSpecifiers.{specifiers_by}
 use Rattle.reqtable_requirements.specs.Requirements.{ReadsUrl, StandsFor}
 use Rattle.reqtable_requirements.specs.declared.requirements.Line.{Line}
 use Rattle.reqtable_cases.specs.Lines.{line_marks, is_named}
-use Rattle.reqtable_table.specs.Given.{given_by, is_url_by, is_under}
+use Rattle.reqtable_groups.specs.Given.{given_by, is_url_by, is_under}
 use Rattle.reqtable_table.specs.Kept.{KeptLine, Keeps}
 use Rattle.reqtable_table.specs.KeptLines.{kept_by}
 

@@ -17,9 +17,9 @@ use Rattle.pep508_requirement.specs.declared.version_or_url.VersionOrUrl.TheVari
 use Rattle.reqtable_requirements.specs.LineSpecifiers.{specifiers_by, specifiers_in}
 use Rattle.reqtable_requirements.specs.ReadLines.{AreRead}
 use Rattle.reqtable_requirements.specs.declared.requirements.Line.{Line}
-use Rattle.reqtable_table.specs.declared.grouping.Group.{Group}
+use Rattle.reqtable_groups.specs.declared.grouping.Group.{Group}
 use Rattle.reqtable_table.specs.Building.{IsPackageOf}
-use Rattle.reqtable_table.specs.Given.{given_by, is_url_by, is_under, AreGrouped}
+use Rattle.reqtable_groups.specs.Given.{given_by, is_url_by, is_under, AreGrouped}
 use Rattle.reqtable_table.specs.Kept.{KeptLine, KeptPackage, kept_under, names_in}
 use Rattle.reqtable_table.specs.KeptLines.{kept_by}
 use Rattle.reqtable_table.specs.Standing.{HasItsFlags, IsOfTexts, HasItsLines, IsTable}

@@ -56,7 +56,7 @@ numbers_tied [] = refl
 numbers_tied (n ∷ ns) = ap (λ o. ordering_then o (numbers_cmp ns ns)) (tied_itself nat_cmp_total n) ∙ numbers_tied ns
 
 -- lines of the same numbers are the same
-one_set : (lines : List KeptLine) (s t : Marks) → IsStrictlySortedBy nat_cmp (map number lines) → length s ≡ length lines →
+pub one_set : (lines : List KeptLine) (s t : Marks) → IsStrictlySortedBy nat_cmp (map number lines) → length s ≡ length lines →
     length t ≡ length lines → map number (marked s lines) ≡ map number (marked t lines) → s ≡ t
 one_set lines s t rising a b e =
     let long = length-map lines number in
@@ -121,7 +121,7 @@ asks_same : (marks : Marks) (a b : List KeptLine) → AllZip SameLine a b → ca
 asks_same marks a b s =
     sym (marked_map kept_front marks a) ∙ ap (marked marks) (same_fronts a b s) ∙ marked_map kept_front marks b
 
-marked_numbers : (marks : Marks) (a b : List KeptLine) → AllZip SameLine a b → map number (marked marks a) ≡ map number (marked marks b)
+pub marked_numbers : (marks : Marks) (a b : List KeptLine) → AllZip SameLine a b → map number (marked marks a) ≡ map number (marked marks b)
 marked_numbers marks a b s =
     sym (marked_map number marks a) ∙ ap (marked marks) (numbers_same a b s) ∙ marked_map number marks b
 

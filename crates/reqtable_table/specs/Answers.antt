@@ -1,7 +1,7 @@
 -- What a table answers: the rows of the packages of which a line applies, and how many specifiers are asked
 -- for that.
-use Rattle.std.specs.Prelude.{◌≡◌, ◌+◌, ◌&&◌, ℕ, Bool, List, [], ◌∷◌, map, filter, length}
-use Rattle.std.specs.Prelude.{if◌then◌else◌}
+use Rattle.std.specs.Prelude.{◌≡◌, ◌<◌, ◌+◌, ◌&&◌, ℕ, Bool, true, false, List, [], ◌∷◌, map, filter, length}
+use Rattle.std.specs.Prelude.{get_or, Option, Some, None, if◌then◌else◌}
 use Rattle.std.specs.List.{list_any, enumerate_from, AllZip}
 use Rattle.pep508_diagram.specs.Question.{Valuation}
 use Rattle.pep508_tree.specs.Meaning.{NodeRecord, holds}
@@ -14,7 +14,7 @@ use Rattle.reqtable_answer.specs.Asks.{is_candidate}
 use Rattle.reqtable_cases.specs.Lines.{marked}
 use Rattle.reqtable_cases.specs.Usable.{is_usable, members_asked}
 use Rattle.reqtable_run.specs.Told.{is_plain}
-use Rattle.reqtable_table.specs.Kept.{KeptLine, KeptPackage, kept_front}
+use Rattle.reqtable_table.specs.Kept.{KeptLine, KeptCase, KeptPackage, kept_front}
 
 -- which of some kept lines apply, and what these ask for
 abbrev pub kept_marks : List NodeRecord → Valuation → List KeptLine → Marks
@@ -36,6 +36,25 @@ pub record IsRowFor (admits : Admits) (nodes : List NodeRecord) (v : Valuation) 
     (kept : KeptPackage) (row : RowRecord) : Type 0 where
   pub named : row.name ≡ kept.name
   pub its : IsRowOf admits (kept_asked nodes v kept.lines) (own_candidates candidates kept.name) row
+
+-- that row where a line of the package applies
+abbrev pub IsRowIf : Admits → List NodeRecord → Valuation → List Candidate → KeptPackage → Option RowRecord
+    → Type 0
+IsRowIf admits nodes v candidates kept None = is_asked nodes v kept ≡ false
+IsRowIf admits nodes v candidates kept (Some row) =
+    (is_asked nodes v kept ≡ true) × IsRowFor admits nodes v candidates kept row
+
+-- the place of the case whose lines are those that apply, of which there are some
+pub record IsPlaceIn (nodes : List NodeRecord) (v : Valuation) (kept : KeptPackage) (place : ℕ) : Type 0 where
+  pub asked : is_asked nodes v kept ≡ true
+  pub within : place < length kept.cases
+  pub numbers : (other : KeptCase) → (get_or kept.cases place other).numbers
+      ≡ map (λ line. line.number) (marked (kept_marks nodes v kept.lines) kept.lines)
+
+-- a package lies in the case at a place where a line of it applies
+abbrev pub LiesIn : List NodeRecord → Valuation → KeptPackage → Option ℕ → Type 0
+LiesIn nodes v kept None = is_asked nodes v kept ≡ false
+LiesIn nodes v kept (Some place) = IsPlaceIn nodes v kept place
 
 -- a row for each package of which a line applies
 abbrev pub AreRowsFor : Admits → List NodeRecord → Valuation → List Candidate → List KeptPackage

@@ -7,7 +7,7 @@ use Rattle.pep508_cases.specs.Cases.{Marks}
 use Rattle.reqtable_answer.specs.Asks.{names_prerelease}
 use Rattle.reqtable_cases.specs.Lines.{marked}
 use Rattle.reqtable_cases.specs.Usable.{IsRangeOf}
-use Rattle.reqtable_table.specs.declared.given.Given.{Given}
+use Rattle.reqtable_groups.specs.declared.given.Given.{Given}
 use Rattle.reqtable_table.specs.declared.table.Case.{Case}
 use Rattle.reqtable_table.specs.Kept.{KeptCase, kept_source}
 

@@ -1,7 +1,7 @@
 -- A table's parts as records, and what becomes of a line in it.
 use Rattle.std.specs.Prelude.{map}
 use Rattle.std.specs.List.{list_any}
-use Rattle.reqtable_table.specs.declared.given.Given.{Given}
+use Rattle.reqtable_groups.specs.declared.given.Given.{Given}
 use Rattle.reqtable_table.specs.declared.kept.TableLine.{TableLine}
 use Rattle.reqtable_table.specs.declared.table.Package.{Package}
 use Rattle.reqtable_run.specs.Told.{is_bound}

@@ -1,5 +1,4 @@
 pub mod Kept
-pub mod Given
 pub mod Casing
 pub mod Cases
 pub mod KeptLines

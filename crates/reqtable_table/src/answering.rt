@@ -1,6 +1,7 @@
 //! The answer of a table.
 
-ghost use Rattle.std.specs.Prelude.{◌≡◌, ◌≤◌, ◌+◌, List, length, map, All, IfOk};
+ghost use Rattle.std.specs.Prelude.{◌≡◌, ◌≤◌, ◌<◌, ◌+◌, List, length, map, get_or, option_map, All, IfOk};
+ghost use Rattle.std.specs.Prelude.{IfSome};
 ghost use Rattle.std.specs.List.{AllZip, AllByRecursion};
 ghost use Rattle.pep508_evaluation.specs.Valuations.{valuation_of};
 ghost use Rattle.reqtable_answer.specs.Admission.{Admits, AnswersBy};
@@ -8,13 +9,15 @@ ghost use Rattle.reqtable_answer.specs.Answer.{IsAnswer};
 ghost use Rattle.reqtable_answer.specs.Rows.{row_seen, IsTakenBelow};
 ghost use Rattle.reqtable_requirements.specs.Asks.{asks_of};
 ghost use Rattle.reqtable_requirements.specs.LineReading.{LineRecord};
-ghost use Rattle.reqtable_table.specs.Answers.{most_tests_of, SamePackage};
+ghost use Rattle.reqtable_table.specs.Answers.{most_tests_of, IsRowIf, LiesIn, SamePackage};
 ghost use Rattle.reqtable_table.specs.Cases.{HasItsCases};
 ghost use Rattle.reqtable_table.specs.Counts.{all_tests};
-ghost use Rattle.reqtable_table.specs.Kept.{KeepsAll};
+ghost use Rattle.reqtable_table.specs.Kept.{KeepsAll, KeptPackage};
 ghost use Rattle.reqtable_table.specs.Runs.{AreRunsOf, AreTold};
+ghost use Rattle.reqtable_table.specs.Standing.{IsTable};
 
-use crate::row::rows_of;
+use crate::asked::places_of;
+use crate::row::{row_at, rows_of};
 use crate::runs::Runs;
 use crate::setting::Setting;
 use crate::table::Table;
@@ -22,7 +25,7 @@ use pep440_version::Version;
 use pep508_environment::MarkerEnvironment;
 use pep508_name::ExtraName;
 use pep508_tree::Interner;
-use reqtable_answer::{Admission, Answer};
+use reqtable_answer::{Admission, Answer, Row};
 use reqtable_text::Candidates;
 use std::alloc::{AllocError, Global};
 
@@ -109,5 +112,70 @@ impl Table {
             admission,
         )?;
         Ok(Answer { rows })
+    }
+
+    /// In which of its cases each package lies in an environment with extras: the case's place, where a line
+    /// of the package applies.
+    ///
+    /// The interner is the one that the table was built with. Evaluates each line's marker, and finds a
+    /// package's case in as many steps as the logarithm of its cases. Wants memory for the list, and for the
+    /// lines of one package.
+    pub fn places(
+        &self,
+        alloc: Global,
+        interner: &Interner,
+        environment: &MarkerEnvironment,
+        extras: &[ExtraName],
+    ) -> Result<Vec<Option<usize>>, AllocError>
+        requires { AllByRecursion (HasItsCases interner.now.nodes) self.now }
+        ensures lie { IfOk result (λ places. AllZip
+            (LiesIn interner.now.nodes (valuation_of environment.now extras.now)) self.now places.items) }
+        ensures stands { IsTable self.now }
+    {
+        let setting = Setting::new(interner, environment, extras);
+        places_of(alloc, &self.packages, &setting)
+    }
+
+    /// The row of the package at a place in an environment with extras, where a line of it applies: as it
+    /// stands in what `answer_among` answers, at the cost that is told there for one package.
+    pub fn row_among<F: Fn(&Version, bool) -> bool>(
+        &mut self,
+        alloc: Global,
+        index: usize,
+        interner: &Interner,
+        environment: &MarkerEnvironment,
+        extras: &[ExtraName],
+        runs: &mut Runs<'_, '_>,
+        admission: &Admission<F>,
+    ) -> Result<Option<Row>, AllocError>
+        requires within { index < length self.old }
+        requires callable { F.IsAlwaysCallable admission.now }
+        requires cases { AllByRecursion (HasItsCases interner.now.nodes) self.old }
+        requires runs { AreRunsOf self.old runs.old }
+        requires told { AreTold (F.post admission.now) self.old runs.old }
+        ensures row { IfOk result (λ row. (admits : Admits) (other : KeptPackage) →
+            AnswersBy (F.post admission.now) admits →
+            IsRowIf admits interner.now.nodes (valuation_of environment.now extras.now) runs.old.candidates
+            (get_or self.old index other) (option_map row_seen row)) }
+        ensures below { IfOk result (λ row.
+            IfSome row (λ row. IsTakenBelow (length runs.old.candidates) row.outcome)) }
+        ensures kept { AllZip SamePackage self.new self.old }
+        ensures candidates { runs.new.candidates ≡ runs.old.candidates }
+        ensures runs { AreRunsOf self.new runs.new }
+        ensures told { AreTold (F.post admission.now) self.new runs.new }
+    {
+        let setting = Setting::new(interner, environment, extras);
+        let packages = &mut self.packages;
+        let told = &mut runs.told;
+        row_at(
+            alloc,
+            packages,
+            index,
+            &setting,
+            runs.ordered,
+            &runs.runs,
+            told,
+            admission,
+        )
     }
 }

@@ -1,7 +1,7 @@
 //! The lines of a package that apply, and the case that they are.
 
-ghost use Rattle.std.specs.Prelude.{◌≡◌, ◌<◌, ℕ, List, length, map, get_or, IfOk};
-ghost use Rattle.std.specs.List.{list_any, AllByRecursion};
+ghost use Rattle.std.specs.Prelude.{◌≡◌, ◌<◌, ℕ, List, length, map, get_or, IfOk, OnOk};
+ghost use Rattle.std.specs.List.{list_any, AllZip, AllByRecursion};
 ghost use Rattle.std.specs.List.Sorted.{IsStrictlySortedBy};
 ghost use Rattle.std.specs.Ordering.{nat_cmp};
 ghost use Rattle.std.specs.Cmp.Lexicographic.{slice_cmp};
@@ -9,7 +9,8 @@ ghost use Rattle.std.specs.Str.{bytes_eq};
 ghost use Rattle.pep508_tree.specs.Meaning.{IsTree};
 ghost use Rattle.reqtable_answer.specs.Asks.{has_extra};
 ghost use Rattle.reqtable_cases.specs.Lines.{marked};
-ghost use Rattle.reqtable_table.specs.Answers.{kept_marks};
+ghost use Rattle.reqtable_table.specs.Answers.{kept_marks, LiesIn};
+ghost use Rattle.reqtable_table.specs.Cases.{HasItsCases};
 ghost use Rattle.reqtable_table.specs.Choosing.{case_asks, AreApplying, IsCaseFor};
 ghost use Rattle.reqtable_table.specs.Kept.{KeptCase};
 ghost use Rattle.reqtable_table.specs.KeptLines.{line_record, package_record};
@@ -26,22 +27,65 @@ use reqtable_answer::united_extras;
 use std::alloc::{AllocError, Global};
 use std::cmp::Ordering;
 
-/// Which of the lines apply.
-pub(crate) fn marks_in(
-    alloc: Global,
+/// Puts which of the lines apply in place of what stands in the list.
+pub(crate) fn mark(
+    marks: &mut Vec<bool>,
     lines: &[TableLine],
     setting: &Setting<'_>,
-) -> Result<Vec<bool>, AllocError>
+) -> Result<(), AllocError>
     requires { AllByRecursion (λ line. IsTree (nodes_in setting.now) line.marker)
         (map line_record lines.now) }
-    ensures { IfOk result (λ marks. marks.items
+    ensures { OnOk result (marks.new.items
         ≡ kept_marks (nodes_in setting.now) (valuation_in setting.now) (map line_record lines.now)) }
 {
-    let mut marks = Vec::with_capacity(alloc, lines.len())?;
+    marks.clear();
     for line in lines {
         marks.push(setting.holds(line.marker))?;
     }
-    Ok(marks)
+    Ok(())
+}
+
+/// In which of its cases each package lies.
+pub(crate) fn places_of(
+    alloc: Global,
+    packages: &[Package],
+    setting: &Setting<'_>,
+) -> Result<Vec<Option<usize>>, AllocError>
+    requires lines { AllByRecursion HasItsLines (map package_record packages.now) }
+    requires cases { AllByRecursion (HasItsCases (nodes_in setting.now)) (map package_record packages.now) }
+    ensures { IfOk result (λ places. AllZip (LiesIn (nodes_in setting.now) (valuation_in setting.now))
+        (map package_record packages.now) places.items) }
+{
+    let mut marks = Vec::new(alloc);
+    let mut numbers = Vec::new(alloc);
+    let mut places = Vec::with_capacity(alloc, packages.len())?;
+    for kept in packages {
+        let place = place_in(kept, setting, &mut marks, &mut numbers)?;
+        places.push(place)?;
+    }
+    Ok(places)
+}
+
+/// The place of the case in which a package lies, where a line of it applies.
+fn place_in(
+    kept: &Package,
+    setting: &Setting<'_>,
+    marks: &mut Vec<bool>,
+    numbers: &mut Vec<usize>,
+) -> Result<Option<usize>, AllocError>
+    requires lines { HasItsLines (package_record kept.now) }
+    requires cases { HasItsCases (nodes_in setting.now) (package_record kept.now) }
+    ensures { IfOk result
+        (LiesIn (nodes_in setting.now) (valuation_in setting.now) (package_record kept.now)) }
+{
+    mark(marks, &kept.lines, setting)?;
+    if !marks.contains(&true) {
+        return Ok(None);
+    }
+    match place_of(kept, marks, numbers) {
+        Ok(place) => Ok(Some(place)),
+        Err(error) => Err(error),
+    }
 }
 
 /// The extras that the marked lines ask for, each once and in the order of their bytes.
@@ -80,8 +124,13 @@ fn lists_of<'a>(
 
 /// The place of the case that the marked lines are, which apply under some valuation while the others don't.
 ///
-/// It is found by the lines' numbers, in as many steps as the logarithm of the number of cases.
-pub(crate) fn case_in(alloc: Global, kept: &Package, marks: &[bool]) -> Result<usize, AllocError>
+/// It is found by the lines' numbers, which are put in place of what stands in the list, in as many steps as
+/// the logarithm of the number of cases.
+pub(crate) fn place_of(
+    kept: &Package,
+    marks: &[bool],
+    numbers: &mut Vec<usize>,
+) -> Result<usize, AllocError>
     requires lines { HasItsLines (package_record kept.now) }
     requires applying { AreApplying marks.now (package_record kept.now) }
     ensures within { IfOk result (λ place. place < length kept.now.cases.items) }
@@ -92,29 +141,30 @@ pub(crate) fn case_in(alloc: Global, kept: &Package, marks: &[bool]) -> Result<u
         IsCaseFor (case_asks marks.now (map line_record kept.now.lines.items))
         (get_or kept.now.cases.items place other)) }
 {
-    let numbers = numbers_in(alloc, &kept.lines, marks)?;
+    number(numbers, &kept.lines, marks)?;
+    let wanted = numbers.as_slice();
     let found = kept
         .cases
-        .binary_search_by(|case| compare(&case.lines, &numbers));
+        .binary_search_by(|case| compare(&case.lines, wanted));
     match found {
         Ok(place) => Ok(place),
         Err(_) => unreachable!(),
     }
 }
 
-/// The numbers of the marked lines.
-fn numbers_in(alloc: Global, lines: &[TableLine], marks: &[bool]) -> Result<Vec<usize>, AllocError>
+/// Puts the numbers of the marked lines in place of what stands in the list.
+fn number(numbers: &mut Vec<usize>, lines: &[TableLine], marks: &[bool]) -> Result<(), AllocError>
     requires { length marks.now ≡ length lines.now }
-    ensures { IfOk result (λ numbers.
-        numbers.items ≡ map (λ line. line.number) (marked marks.now lines.now)) }
+    ensures { OnOk result
+        (numbers.new.items ≡ map (λ line. line.number) (marked marks.now lines.now)) }
 {
-    let mut numbers = Vec::new(alloc);
+    numbers.clear();
     for (index, line) in lines.iter().enumerate() {
         if marks[index] {
             numbers.push(line.number)?;
         }
     }
-    Ok(numbers)
+    Ok(())
 }
 
 /// Which of two cases stands first, by the numbers of their lines.

@@ -9,13 +9,13 @@ ghost use Rattle.reqtable_cases.specs.Usable.{IsRangeOf};
 ghost use Rattle.pep508_cases.specs.Cases.{case_seen, cases_seen};
 ghost use Rattle.reqtable_table.specs.Casing.{lent_given, given_front, case_record, IsCaseOfGiven, HaveMarks};
 
-use crate::given::Given;
 use crate::table::Case;
 use pep440_specifier::VersionSpecifier;
 use pep440_version::Version;
 use pep508_cases::TreeCase;
 use pep508_tree::MarkerTree;
 use reqtable_cases::asked_range;
+use reqtable_groups::Given;
 use std::alloc::{AllocError, Global};
 use version_ranges::Ranges;
 

@@ -3,10 +3,10 @@
 ghost use Rattle.std.specs.Prelude.{◌≡◌, map, IfOk};
 ghost use Rattle.reqtable_table.specs.KeptLines.{kept_by, line_record};
 
-use crate::given::Given;
 use pep440_specifier_list::CountedSpecifiers;
 use pep508_name::ExtraName;
 use pep508_tree::MarkerTree;
+use reqtable_groups::Given;
 use reqtable_run::telling::has_bound;
 use std::alloc::{AllocError, Global};
 

@@ -7,8 +7,6 @@ mod casing;
 mod choosing;
 #[cfg(test)]
 mod fields;
-mod given;
-mod grouping;
 mod kept;
 pub mod laws;
 mod row;

@@ -10,11 +10,11 @@ ghost use Rattle.reqtable_answer.specs.Admission.{Admits, AnswersBy};
 ghost use Rattle.reqtable_answer.specs.Rows.{row_seen, IsTakenBelow};
 ghost use Rattle.reqtable_cases.specs.Lines.{marked};
 ghost use Rattle.reqtable_table.specs.Answers.{kept_asked, most_tests, most_tests_of};
-ghost use Rattle.reqtable_table.specs.Answers.{AreRowsFor, SameLine, SamePackage};
+ghost use Rattle.reqtable_table.specs.Answers.{AreRowsFor, IsRowIf, SameLine, SamePackage};
 ghost use Rattle.reqtable_table.specs.Cases.{HasItsCases};
 ghost use Rattle.reqtable_table.specs.Choosing.{case_asks, outcome_in_order, IsCaseFor, IsRowInOrder};
 ghost use Rattle.reqtable_table.specs.Counts.{tests_of, all_tests};
-ghost use Rattle.reqtable_table.specs.Kept.{KeptCase};
+ghost use Rattle.reqtable_table.specs.Kept.{KeptCase, KeptPackage};
 ghost use Rattle.reqtable_table.specs.declared.table.Case.{Case};
 ghost use Rattle.reqtable_table.specs.KeptLines.{line_record, package_record};
 ghost use Rattle.reqtable_table.specs.Owns.{own_record, runs_of};
@@ -22,7 +22,7 @@ ghost use Rattle.reqtable_table.specs.Runs.{AreOrdered, AreRunsOf, IsTold, AreTo
 ghost use Rattle.reqtable_table.specs.Settings.{nodes_in, valuation_in};
 ghost use Rattle.reqtable_table.specs.Standing.{HasItsFlags, IsOfTexts, HasItsLines};
 
-use crate::asked::{case_in, extras_of, marks_in};
+use crate::asked::{extras_of, mark, place_of};
 use crate::choosing::{any_marked, chosen};
 use crate::kept::TableLine;
 use crate::runs::Told;
@@ -78,6 +78,45 @@ pub(crate) fn rows_of<F: Fn(&Version, bool) -> bool>(
     Ok(rows)
 }
 
+/// The row of the package at a place, where a line of it applies.
+pub(crate) fn row_at<F: Fn(&Version, bool) -> bool>(
+    alloc: Global,
+    packages: &mut [Package],
+    index: usize,
+    setting: &Setting<'_>,
+    ordered: &Ordered<'_>,
+    runs: &[Run<'_, '_>],
+    told: &mut [Told],
+    admission: &Admission<F>,
+) -> Result<Option<Row>, AllocError>
+    requires within { index < length packages.old }
+    requires callable { F.IsAlwaysCallable admission.now }
+    requires lines { AllByRecursion HasItsLines (map package_record packages.old) }
+    requires cases { AllByRecursion (HasItsCases (nodes_in setting.now)) (map package_record packages.old) }
+    requires ordered { AreOrdered ordered.now.candidates ordered.now.placed }
+    requires runs { AreRunsOf (map package_record packages.old) (runs_of ordered.now runs.now told.old) }
+    requires told { AreTold (F.post admission.now) (map package_record packages.old)
+        (runs_of ordered.now runs.now told.old) }
+    ensures row { IfOk result (λ row. (admits : Admits) (other : KeptPackage) →
+        AnswersBy (F.post admission.now) admits →
+        IsRowIf admits (nodes_in setting.now) (valuation_in setting.now) ordered.now.candidates
+        (get_or (map package_record packages.old) index other) (option_map row_seen row)) }
+    ensures below { IfOk result (λ row.
+        IfSome row (λ row. IsTakenBelow (length ordered.now.candidates) row.outcome)) }
+    ensures kept { AllZip SamePackage (map package_record packages.new) (map package_record packages.old) }
+    ensures told { AreTold (F.post admission.now) (map package_record packages.new)
+        (runs_of ordered.now runs.now told.new) }
+{
+    row_of(
+        alloc,
+        &mut packages[index],
+        setting,
+        &runs[index],
+        &mut told[index],
+        admission,
+    )
+}
+
 /// Adds a row, where there is one.
 fn add_row(rows: &mut Vec<Row>, row: Option<Row>) -> Result<(), AllocError>
     ensures { OnOk result (rows.new.items ≡ rows.old.items ++ option_map_or (λ row. row ∷ []) row []) }
@@ -115,11 +154,13 @@ fn row_of<F: Fn(&Version, bool) -> bool>(
         + most_tests (kept_asked (nodes_in setting.now) (valuation_in setting.now)
         (map line_record kept.old.lines.items)) (map placed_seen own.now) }
 {
-    let marks = marks_in(alloc, &kept.lines, setting)?;
+    let mut marks = Vec::new(alloc);
+    mark(&mut marks, &kept.lines, setting)?;
     if !marks.contains(&true) {
         return Ok(None);
     }
-    let place = case_in(alloc, kept, &marks)?;
+    let mut numbers = Vec::new(alloc);
+    let place = place_of(kept, &marks, &mut numbers)?;
     let name = kept.name.try_clone(alloc)?;
     let extras = extras_of(alloc, &kept.lines, &marks)?;
     match outcome_in(alloc, kept, &marks, place, own, told, admission) {

@@ -12,19 +12,19 @@ ghost use Rattle.reqtable_table.specs.Building.{AreOfTrees, IsPackageOf, IsRefus
 ghost use Rattle.reqtable_table.specs.Cases.{Builds, HasItsCases, cases_under};
 ghost use Rattle.reqtable_table.specs.Casing.{case_record};
 ghost use Rattle.reqtable_table.specs.Counts.{up_to_64_bits, tests_of, table_tests};
-ghost use Rattle.reqtable_table.specs.Given.{lines_in};
+ghost use Rattle.reqtable_groups.specs.Given.{lines_in};
 ghost use Rattle.reqtable_table.specs.Kept.{KeptPackage};
 ghost use Rattle.reqtable_table.specs.KeptLines.{line_record, package_record};
 ghost use Rattle.reqtable_table.specs.Standing.{IsTable};
 
 use crate::casing::{cases_of, markers};
-use crate::grouping::{Group, grouped};
 use crate::kept::{TableLine, kept_lines};
 use pep440_specifier::laws::a_read_specifier_is_built;
 use pep440_version::Version;
 use pep508_cases::{CasesError, tree_cases};
 use pep508_name::PackageName;
 use pep508_tree::{Interner, MarkerTree};
+use reqtable_groups::{Group, grouped};
 use reqtable_requirements::Requirements;
 use std::alloc::{AllocError, AllocFailed, Global};
 use std::error::Error;

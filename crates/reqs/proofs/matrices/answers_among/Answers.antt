@@ -1,48 +1,57 @@
-use Rattle.std.proofs.Common.{◌∙◌, List, map, string_bytes, subst}
-use Rattle.pep508_evaluation.specs.Valuations.{valuation_of}
-use Rattle.reqtable_text.specs.declared.candidates.Candidate.{Candidate}
-use Rattle.reqtable_answer.specs.Answer.{IsAnswer}
-use Rattle.reqtable_answer.specs.Rows.{row_seen}
-use Rattle.reqtable_requirements.specs.Asks.{asks_of}
+use Rattle.std.proofs.Common.{◌≡◌, ◌∙◌, ◌+◌, ◌++◌, ◌∷◌, [], List, ℕ, get_or, ap, sym, subst}
+use Rattle.reqtable_answer.specs.Answer.{answer_text}
 use Rattle.reqtable_table.proofs.Same.{all_same, packages_on, has_cases, keeps}
+use Rattle.reqs_rows.proofs.Going.{none_known, are_known_grown}
 use Rattle.reqs.specs.Check.{on_request}
-use Rattle.reqs.proofs.Numbered.{one_more, finished}
+use Rattle.reqs.specs.Matrix.{environment_line}
+use Rattle.reqs.proofs.Numbered.{one_more, finished, IsFront}
 use Rattle.reqs.proofs.matrices.answers_among.Goals as goal
 
 pub loop-place-init : goal.loop-place-init
 loop-place-init g c = record {
-  goes = record { same = all_same c.args.table.now; answers = λ said k rest h. rw c.new-text.ensures.bytes h };
+  goes = record { same = all_same c.args.table.now; answers = λ said k rest h. rw c.new-text.ensures.whole h };
   are = c.requires.runs;
   told = c.requires.told;
   candidates = c.requires.candidates;
+  known = none_known (goal.F-post g c.args.admission.now) c.args.interner.now.nodes c.args.candidates.now c.new-text.result.texts c.args.table.now
+      c.new-rows.result c.new-rows.ensures;
 }
 
-pub answer_among-requires-clause-cases : goal.answer_among-requires-clause-cases
-answer_among-requires-clause-cases g c =
+pub put_answer-requires-clause-cases : goal.put_answer-requires-clause-cases
+put_answer-requires-clause-cases g c =
     has_cases c.args.interner.now.nodes c.loop-place.table c.args.table.now c.loop-place.invariant.goes.same c.requires.cases
+
+pub put_answer-requires-clause-known : goal.put_answer-requires-clause-known
+put_answer-requires-clause-known g c =
+    are_known_grown _ c.args.interner.now.nodes c.args.candidates.now c.loop-place.table c.loop-place.text.texts c.put_line.new.text.texts
+    (environment_line (c.loop-place.place + 1) ∷ [], c.in_ok-put_line.ensures.texts) c.loop-place.rows c.loop-place.invariant.known
 
 pub loop-place-preserved : goal.loop-place-preserved
 loop-place-preserved g c =
-    let rows = map row_seen c.in_ok-answer.answer.rows.items in
-    let environment = c.index-environments-place.result in record {
+    let extras = c.args.extras.now in
+    let candidates = c.args.candidates.now in
+    let environments = c.args.environments.now in
+    let place = c.loop-place.place in
+    let environment = c.index-environments-place.result in
+    let front = c.loop-place.text.whole in record {
       goes = record {
-        same = packages_on _ _ _ c.in_ok-answer.ensures.kept c.loop-place.invariant.goes.same;
+        same = packages_on _ _ _ c.put_answer.ensures.kept c.loop-place.invariant.goes.same;
         answers = λ said k.
-            let P : List Candidate → Type 0 = λ cs. IsAnswer on_request (asks_of (valuation_of environment c.args.extras.now) said) cs rows in
-            rw c.in_ok-push_answer.ensures
-            (one_more c.args.extras.now said c.args.candidates.now c.args.environments.now c.loop-place.place environment
-            c.loop-place-test.true c.index-environments-place.is (string_bytes c.loop-place.text) (c.loop-place.invariant.goes.answers said k) rows
-            (subst P c.loop-place.invariant.candidates
-            (c.in_ok-answer.ensures.answered said on_request
-            (keeps c.args.interner.now.nodes c.loop-place.table c.args.table.now said c.loop-place.invariant.goes.same k)
-            c.requires.admits)));
+            let put =
+            c.in_ok-put_answer.ensures.put said on_request
+            (keeps c.args.interner.now.nodes c.loop-place.table c.args.table.now said c.loop-place.invariant.goes.same k) c.requires.admits in
+            let P : List ℕ → Type 0 = λ text. IsFront extras said candidates environments (place + 1) text in
+            subst P (sym (put.2 ∙ ap (λ t. t ++ answer_text candidates put.0) c.in_ok-put_line.ensures.whole))
+            (one_more extras said candidates environments place environment c.loop-place-test.true c.index-environments-place.is front
+            (c.loop-place.invariant.goes.answers said k) put.0 put.1);
       };
-      are = c.in_ok-answer.ensures.runs;
-      told = c.in_ok-answer.ensures.told;
-      candidates = c.in_ok-answer.ensures.candidates ∙ c.loop-place.invariant.candidates;
+      are = c.put_answer.ensures.runs;
+      told = c.put_answer.ensures.told;
+      candidates = c.put_answer.ensures.candidates ∙ c.loop-place.invariant.candidates;
+      known = c.in_ok-put_answer.ensures.known;
     }
 
 pub returns : goal.returns
 returns g c = λ said k.
-    finished c.args.extras.now said c.args.candidates.now c.args.environments.now c.loop-place.place (string_bytes c.loop-place.text)
+    finished c.args.extras.now said c.args.candidates.now c.args.environments.now c.loop-place.place c.loop-place.text.whole
     c.loop-place-test.false (c.loop-place.invariant.goes.answers said k)

@@ -1,9 +1,8 @@
-use Rattle.std.proofs.Common.{◌≡◌, ℕ, ◌∷◌, [], Vec, Global, refl, rules, string_bytes}
+use Rattle.std.proofs.Common.{ℕ, ◌∷◌, [], Vec, Global, refl}
 use Rattle.std.proofs.lemmas.Result.{err_from_is_err_and}
 use Rattle.reqs_ends.specs.declared.fault.Input.TheVariants.{First}
-use Rattle.reqs_ends.specs.declared.fault.Status.TheVariants.{Answered}
-use Rattle.reqs_ends.proofs.Steps.{first_unread, second_unread, third_unread, answered}
-use Rattle.reqs.proofs.Whole.{may_be_said, list_refused}
+use Rattle.reqs_ends.proofs.Steps.{first_unread, second_unread, third_unread}
+use Rattle.reqs.proofs.Whole.{may_be_said, list_refused, text_written, unwritten}
 use Rattle.reqs.proofs.matrices.matrix.Goals as goal
 
 pub returns-in_err-requirements-clause-runs : goal.returns-in_err-requirements-clause-runs
@@ -45,10 +44,13 @@ returns-clause-runs g c =
     let first = c.in_ok-requirements in
     let second = c.in_ok-environments in
     let third = c.in_ok-candidates in
-    let bytes : c.as_str.result.now ≡ string_bytes c.in_ok-text.text = search rules in
-    answered _ _ _ _ _ _
+    let text = c.in_ok-text.text.whole in
+    text_written _ _ _ _ _ _
     (first.requirements.items ∷ second.environments.items ∷ third.candidates.items ∷ [])
     (first.ensures.0, (second.ensures.0, (third.ensures.0, tt)))
     (first.ensures.1, (second.ensures.1, (third.ensures.1, tt)))
-    Answered (string_bytes c.in_ok-text.text) (refl, c.in_ok-text.ensures) c.write_answer.result
-    (rw bytes at c.write_answer.ensures)
+    text (refl, c.in_ok-text.ensures) c.write_text.result c.write_text.ensures
+
+pub returns-clause-unwritten : goal.returns-clause-unwritten
+returns-clause-unwritten g c =
+    unwritten g.W.Write.contents _ _ c.in_ok-text.text.whole c.write_text.result c.write_text.ensures

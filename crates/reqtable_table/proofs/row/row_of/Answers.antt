@@ -12,8 +12,8 @@ use Rattle.reqtable_table.proofs.MarkedAsks.{any_mark}
 use Rattle.reqtable_table.proofs.Same.{same_package}
 use Rattle.reqtable_table.proofs.row.row_of.Goals as goal
 
-pub returns-in_err-marks-clause-same : goal.returns-in_err-marks-clause-same
-returns-in_err-marks-clause-same g c = same_package (package_record c.args.kept.now)
+pub returns-in_err-mark-clause-same : goal.returns-in_err-mark-clause-same
+returns-in_err-mark-clause-same g c = same_package (package_record c.args.kept.now)
 
 pub returns-then-not-contains-clause-same : goal.returns-then-not-contains-clause-same
 returns-then-not-contains-clause-same g c = same_package (package_record c.args.kept.now)
@@ -36,8 +36,8 @@ returns-then-not-contains-clause-row g c = λ admits by.
     let nodes = nodes_in c.args.setting.now in
     let v = valuation_in c.args.setting.now in
     let lines = c.args.kept.now.lines.items in
-    let marks_are : c.in_ok-marks.marks.items ≡ kept_marks nodes v (records lines) =
-    c.in_ok-marks.ensures ∙ ap (λ l. kept_marks nodes v (records l)) c.deref.ensures.value in
+    let marks_are : c.mark.new.marks.items ≡ kept_marks nodes v (records lines) =
+    c.in_ok-mark.ensures ∙ ap (λ l. kept_marks nodes v (records l)) c.deref.ensures.value in
     sym (any_mark (λ b. beq b true) is_itself nodes v (records lines))
     ∙ sym (ap (list_any (λ b. beq b true)) (c.deref-2.ensures.value ∙ marks_are))
     ∙ sym c.contains.ensures.value ∙ c.if-not-contains.true
@@ -47,9 +47,9 @@ returns-in-Ok-clause-row g c = λ admits by.
     let nodes = nodes_in c.args.setting.now in
     let v = valuation_in c.args.setting.now in
     let lines = c.args.kept.now.lines.items in
-    let marks_are : c.in_ok-marks.marks.items ≡ kept_marks nodes v (records lines) =
-    c.in_ok-marks.ensures ∙ ap (λ l. kept_marks nodes v (records l)) c.deref.ensures.value in
-    let asks : c.deref-5.result.now ≡ c.in_ok-marks.marks.items → c.deref-4.result.now ≡ lines →
+    let marks_are : c.mark.new.marks.items ≡ kept_marks nodes v (records lines) =
+    c.in_ok-mark.ensures ∙ ap (λ l. kept_marks nodes v (records l)) c.deref.ensures.value in
+    let asks : c.deref-5.result.now ≡ c.mark.new.marks.items → c.deref-4.result.now ≡ lines →
     case_asks c.deref-5.result.now (records c.deref-4.result.now) ≡ kept_asked nodes v (records lines) =
     (λ m l i. case_asks ((m ∙ marks_are) i) (records (l i))) in
     record {

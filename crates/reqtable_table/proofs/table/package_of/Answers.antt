@@ -4,7 +4,7 @@ use Rattle.std.specs.List.{AllByRecursion, AllZip}
 use Rattle.pep508_tree.specs.Tree.{Tree}
 use Rattle.pep508_tree.specs.Meaning.{IsTree}
 use Rattle.pep508_cases.specs.Cases.{AreCases, marks_of, case_seen, cases_seen}
-use Rattle.reqtable_table.specs.declared.given.Given.{Given}
+use Rattle.reqtable_groups.specs.declared.given.Given.{Given}
 use Rattle.reqtable_table.specs.Casing.{case_record, IsCaseOfGiven}
 use Rattle.reqtable_table.specs.KeptLines.{package_record}
 use Rattle.reqtable_table.proofs.Packages.{given_trees, have_marks, has_its_cases, as_long}

@@ -3,7 +3,7 @@ use Rattle.std.proofs.lemmas.List.{map-append}
 use Rattle.std.specs.List.{AllByRecursion}
 use Rattle.std.specs.Vec.Iter.{into_iter_items}
 use Rattle.pep508_tree.proofs.Conjoining.{extends_on}
-use Rattle.reqtable_table.specs.Given.{lines_in}
+use Rattle.reqtable_groups.specs.Given.{lines_in}
 use Rattle.reqtable_table.specs.KeptLines.{package_record}
 use Rattle.reqtable_table.specs.Building.{AreOfTrees, IsPackageOf}
 use Rattle.reqtable_table.proofs.Packages.{zip_pushed}

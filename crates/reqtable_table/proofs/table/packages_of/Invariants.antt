@@ -2,7 +2,7 @@ use Rattle.std.proofs.Common.{◌≡◌, ◌≤◌, ◌+◌, ◌*◌, ◌++◌, 
 use Rattle.std.specs.List.{AllZip, AllByRecursion}
 use Rattle.std.specs.Vec.Iter.{into_iter_items}
 use Rattle.pep508_tree.specs.Meaning.{Extends}
-use Rattle.reqtable_table.specs.Given.{lines_in}
+use Rattle.reqtable_groups.specs.Given.{lines_in}
 use Rattle.reqtable_table.specs.KeptLines.{package_record}
 use Rattle.reqtable_table.specs.Building.{AreOfTrees, IsPackageOf}
 use Rattle.reqtable_table.proofs.table.packages_of.Given as goal

@@ -1,6 +1,5 @@
 use Rattle.std.proofs.Common.{◌≡◌, ◌∙◌, ◌≤◌, ◌+◌, Vec, Global, List, map, ap, sym, subst}
 use Rattle.std.proofs.lemmas.List.{with_items_is}
-use Rattle.std.specs.List.{AllZip}
 use Rattle.std.specs.Vec.{with_items}
 use Rattle.pep508_diagram.specs.Question.{Valuation}
 use Rattle.pep508_evaluation.specs.Valuations.{valuation_of}
@@ -10,25 +9,16 @@ use Rattle.reqtable_answer.specs.Admission.{Admits}
 use Rattle.reqtable_answer.specs.Answer.{RowRecord}
 use Rattle.reqtable_answer.specs.Rows.{row_seen}
 use Rattle.reqtable_table.specs.declared.table.Package.{Package}
-use Rattle.reqtable_table.specs.Answers.{SamePackage, AreRowsFor, most_tests_of}
+use Rattle.reqtable_table.specs.Answers.{AreRowsFor, most_tests_of}
 use Rattle.reqtable_table.specs.Counts.{all_tests}
 use Rattle.reqtable_table.specs.Kept.{KeptPackage}
 use Rattle.reqtable_table.specs.KeptLines.{package_record}
 use Rattle.reqtable_table.specs.Owns.{runs_of}
-use Rattle.reqtable_table.specs.Runs.{RunsRecord, AreRunsOf}
+use Rattle.reqtable_table.specs.Runs.{AreRunsOf}
 use Rattle.reqtable_table.specs.Settings.{nodes_in, valuation_in}
-use Rattle.reqtable_table.specs.Standing.{IsTable}
 use Rattle.reqtable_table.proofs.RowsOfLines.{rows_are_the_answer}
-use Rattle.reqtable_table.proofs.Same.{table_same, runs_on}
+use Rattle.reqtable_table.proofs.LentTable.{stays, runs_stay}
 use Rattle.reqtable_table.proofs.table.Table.answer_among.Goals as goal
-
-stays : (held : Vec Package Global) (was new : List Package) → (with_items held new).items ≡ new → was ≡ held.items →
-    AllZip SamePackage (map package_record new) (map package_record was) → IsTable (map package_record held.items) →
-    IsTable (map package_record (with_items held new).items)
-stays held was new items e same is =
-    subst (λ l. IsTable (map package_record l)) (sym items)
-    (table_same (map package_record new) (map package_record held.items)
-    (subst (λ l. AllZip SamePackage (map package_record new) (map package_record l)) e same) is)
 
 few : (held : Vec Package Global) (was new : List Package) (table : List KeptPackage) (nodes old : List NodeRecord) (v u : Valuation)
     (candidates : List Candidate) → (with_items held new).items ≡ new → map package_record was ≡ table → old ≡ nodes → u ≡ v →
@@ -39,14 +29,6 @@ few held was new table nodes old v u candidates items t n e h =
     (subst (λ l. all_tests (map package_record new) ≤ all_tests l + most_tests_of nodes v candidates l) t
     (subst (λ m. all_tests (map package_record new) ≤ all_tests (map package_record was) + most_tests_of m v candidates (map package_record was)) n
     (subst (λ w. all_tests (map package_record new) ≤ all_tests (map package_record was) + most_tests_of old w candidates (map package_record was)) e h)))
-
-runs_stay : (held : Vec Package Global) (was new : List Package) (all : RunsRecord) → (with_items held new).items ≡ new →
-    was ≡ held.items → AllZip SamePackage (map package_record new) (map package_record was) → AreRunsOf (map package_record held.items) all →
-    AreRunsOf (map package_record (with_items held new).items) all
-runs_stay held was new all items e same are =
-    subst (λ l. AreRunsOf (map package_record l) all) (sym items)
-    (runs_on all (map package_record new) (map package_record held.items)
-    (subst (λ l. AllZip SamePackage (map package_record new) (map package_record l)) e same) are)
 
 pub invariant_of-self : goal.invariant_of-self
 invariant_of-self g c =

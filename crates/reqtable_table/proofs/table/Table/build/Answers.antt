@@ -1,6 +1,6 @@
 use Rattle.std.proofs.Common.{subst, map}
 use Rattle.reqtable_requirements.specs.ReadLines.{AreRead}
-use Rattle.reqtable_table.specs.Given.{AreGrouped}
+use Rattle.reqtable_groups.specs.Given.{AreGrouped}
 use Rattle.reqtable_table.specs.KeptLines.{package_record}
 use Rattle.reqtable_table.proofs.Built.{groups_of_trees, all_cases, all_built, refused_so}
 use Rattle.reqtable_table.proofs.StandingLines.{is_table}

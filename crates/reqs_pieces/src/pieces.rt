@@ -1,0 +1,95 @@
+//! Texts of pieces, each of which is kept once.
+
+ghost use Rattle.std.specs.Prelude.{◌≡◌, ◌<◌, ◌++◌, ◌∷◌, [], length, get_or, IfOk, OnOk, OnErr};
+ghost use Rattle.std.specs.Prelude.{string_bytes};
+ghost use Rattle.reqs_io.specs.Front.{WritesWhole, AppendsFront};
+
+use crate::waiting::add_text;
+use reqs_io::{WriteFault, write_whole};
+use std::alloc::{AllocError, Global};
+use std::io::Write;
+use std::marker::Model;
+
+/// A text of pieces. A piece is kept once, however often it stands in the text: each time takes four bytes.
+#[derive(Drop)]
+pub struct Pieces {
+    texts: Vec<String>,
+    order: Vec<u32>,
+}
+
+impl Model for Pieces {
+    ghost use Rattle.std.specs.Prelude.{◌<◌, map, length, All};
+    ghost use Rattle.std.specs.Prelude.{string_bytes};
+    ghost use Rattle.reqs_pieces.specs.Pieces.{PiecesRecord, text_of};
+
+    ghost Value = { PiecesRecord };
+
+    ghost view = { λ p. record {
+      texts = map string_bytes p.texts.items;
+      whole = text_of (map string_bytes p.texts.items) p.order.items;
+    } };
+
+    ghost invariant = { λ p. All (λ piece. piece < length p.texts.items) p.order.items };
+}
+
+impl Pieces {
+    /// An empty text, which has no pieces.
+    pub fn new(alloc: Global) -> Pieces
+        ensures texts { result.texts ≡ [] }
+        ensures whole { result.whole ≡ [] }
+    {
+        Pieces {
+            texts: Vec::new(alloc),
+            order: Vec::new(alloc),
+        }
+    }
+
+    /// Keeps a piece, which stands nowhere yet, and names it. The 2^32nd is refused as for want of memory.
+    pub fn add(&mut self, text: String) -> Result<u32, AllocError>
+        ensures named { IfOk result (λ piece. piece ≡ length self.old.texts) }
+        ensures kept { OnOk result (self.new.texts ≡ self.old.texts ++ string_bytes text ∷ []) }
+        ensures whole { OnOk result (self.new.whole ≡ self.old.whole) }
+        ensures err { OnErr result (self.new ≡ self.old) }
+    {
+        let Ok(piece) = u32::try_from(self.texts.len()) else {
+            return Err(AllocError);
+        };
+        self.texts.push(text)?;
+        Ok(piece)
+    }
+
+    /// Puts a piece behind the text.
+    pub fn append(&mut self, piece: u32) -> Result<(), AllocError>
+        requires { piece < length self.old.texts }
+        ensures kept { self.new.texts ≡ self.old.texts }
+        ensures whole { OnOk result
+            (self.new.whole ≡ self.old.whole ++ get_or self.old.texts piece []) }
+        ensures err { OnErr result (self.new ≡ self.old) }
+    {
+        self.order.push(piece)?;
+        Ok(())
+    }
+
+    /// Writes the whole text; where it is empty no write is made.
+    ///
+    /// Pieces wait in the buffer, which is cleared first and doesn't grow, until it has no room for one more: so
+    /// none of the writes wants memory, and each but the last has as many bytes as the buffer holds or lacks less
+    /// than a piece of it. Linear in the text and the number of pieces.
+    pub fn write_through<W: Write>(
+        &self,
+        buffer: &mut Vec<u8>,
+        writer: &mut W,
+    ) -> Result<(), WriteFault>
+        ensures all { OnOk result (WritesWhole W.contents writer.old writer.new self.now.whole) }
+        ensures front { OnErr result
+            (AppendsFront (W.contents writer.old) (W.contents writer.new) self.now.whole) }
+    {
+        let texts = &self.texts;
+        buffer.clear();
+        for piece in &self.order {
+            let text = &texts[*piece as usize];
+            add_text(writer, buffer, text.as_bytes())?;
+        }
+        write_whole(writer, buffer)
+    }
+}

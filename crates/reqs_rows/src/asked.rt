@@ -1,0 +1,15 @@
+//! What is asked of a table.
+
+use pep508_environment::MarkerEnvironment;
+use pep508_name::ExtraName;
+use pep508_tree::Interner;
+use reqtable_text::Candidates;
+
+/// An environment with extras, the interner of the markers, and the candidates that are chosen among.
+#[derive(Drop)]
+pub(crate) struct Asked<'a> {
+    pub(crate) interner: &'a Interner,
+    pub(crate) environment: &'a MarkerEnvironment,
+    pub(crate) extras: &'a [ExtraName],
+    pub(crate) candidates: &'a Candidates,
+}

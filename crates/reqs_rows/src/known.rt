@@ -1,0 +1,62 @@
+//! The pieces that are known, by places.
+
+ghost use Rattle.std.specs.Prelude.{◌≡◌, ◌⊎◌, ◌<◌, ℕ, get_or, [], Some, None, OnOk, vec_len};
+ghost use Rattle.reqs_rows.specs.Seen.{pieces_of};
+
+use std::alloc::{AllocError, Global};
+
+/// The pieces of a package's row, by the places of its cases.
+#[derive(Drop)]
+pub(crate) struct Known {
+    pub(crate) pieces: Vec<Option<u32>>,
+}
+
+/// The piece of the row in the case at a place, where it is known.
+pub(crate) fn piece_at(pieces: &[Option<u32>], place: usize) -> Option<u32>
+    ensures { result ≡ get_or pieces.now place None }
+{
+    if place < pieces.len() {
+        pieces[place]
+    } else {
+        None
+    }
+}
+
+/// Keeps the piece of the row in the case at a place. Memory for as many cases.
+pub(crate) fn keep(
+    pieces: &mut Vec<Option<u32>>,
+    place: usize,
+    piece: u32,
+) -> Result<(), AllocError>
+    ensures { OnOk result ((at found : ℕ) → get_or pieces.new.items at None ≡ Some found →
+        ((at ≡ place) × (piece ≡ found)) ⊎ (get_or pieces.old.items at None ≡ Some found)) }
+{
+    pad(pieces, place)?;
+    pieces[place] = Some(piece);
+    Ok(())
+}
+
+/// Sees that there is the place, of whose case nothing is known where there was none.
+fn pad(pieces: &mut Vec<Option<u32>>, place: usize) -> Result<(), AllocError>
+    ensures within { OnOk result (place < vec_len pieces.new) }
+    ensures same { OnOk result
+        ((at : ℕ) → get_or pieces.new.items at None ≡ get_or pieces.old.items at None) }
+{
+    while pieces.len() <= place {
+        pieces.push(None)?;
+    }
+    Ok(())
+}
+
+/// Sees that there is the package at an index, of which nothing is known where there was none.
+pub(crate) fn reach(alloc: Global, known: &mut Vec<Known>, index: usize) -> Result<(), AllocError>
+    ensures within { OnOk result (index < vec_len known.new) }
+    ensures same { OnOk result ((at : ℕ) →
+        get_or (pieces_of known.new.items) at [] ≡ get_or (pieces_of known.old.items) at []) }
+{
+    while known.len() <= index {
+        let pieces = Vec::new(alloc);
+        known.push(Known { pieces })?;
+    }
+    Ok(())
+}

@@ -1,0 +1,163 @@
+//! The row of one package.
+
+ghost use Rattle.std.specs.Prelude.{◌≡◌, ◌≢◌, ◌⊎◌, ◌<◌, ◌++◌, ◌∷◌, ℕ, [], length, get_or, Some, None, IfOk, OnOk};
+ghost use Rattle.std.specs.Prelude.{string_bytes};
+ghost use Rattle.std.specs.List.{AllZip, AllByRecursion};
+ghost use Rattle.reqtable_answer.specs.Admission.{Admits, AnswersBy};
+ghost use Rattle.reqtable_answer.specs.Answer.{row_text};
+ghost use Rattle.reqtable_answer.specs.Rows.{row_seen, IsTakenBelow};
+ghost use Rattle.reqtable_table.specs.Answers.{IsPlaceIn, LiesIn, SamePackage};
+ghost use Rattle.reqtable_table.specs.Cases.{HasItsCases};
+ghost use Rattle.reqtable_table.specs.Kept.{KeptPackage};
+ghost use Rattle.reqtable_table.specs.Runs.{AreRunsOf, AreTold};
+ghost use Rattle.reqtable_table.specs.Standing.{HasItsLines};
+ghost use Rattle.reqs_rows.specs.Asked.{nodes_in, valuation_in, candidates_in};
+ghost use Rattle.reqs_rows.specs.Seen.{pieces_of};
+ghost use Rattle.reqs_rows.specs.Texts.{IsKnown, Grow, PutsRow};
+
+use crate::asked::Asked;
+use crate::known::{Known, keep, piece_at, reach};
+use pep440_version::Version;
+use reqs_pieces::Pieces;
+use reqtable_answer::{Admission, Answer, Row};
+use reqtable_table::{Runs, Table};
+use reqtable_text::Candidates;
+use std::alloc::{AllocError, Global};
+
+/// Puts the row of the package at an index behind the text, where it has one: where it lies in the case at a
+/// place.
+pub(crate) fn put_row<F: Fn(&Version, bool) -> bool>(
+    alloc: Global,
+    table: &mut Table,
+    index: usize,
+    place: Option<usize>,
+    asked: &Asked<'_>,
+    runs: &mut Runs<'_, '_>,
+    admission: &Admission<F>,
+    known: &mut Vec<Known>,
+    pieces: &mut Pieces,
+) -> Result<(), AllocError>
+    requires within { index < length table.old }
+    requires callable { F.IsAlwaysCallable admission.now }
+    requires lines { AllByRecursion HasItsLines table.old }
+    requires cases { AllByRecursion (HasItsCases (nodes_in asked.now)) table.old }
+    requires runs { AreRunsOf table.old runs.old }
+    requires told { AreTold (F.post admission.now) table.old runs.old }
+    requires candidates { runs.old.candidates ≡ candidates_in asked.now }
+    requires lies { (other : KeptPackage) →
+        LiesIn (nodes_in asked.now) (valuation_in asked.now) (get_or table.old index other) place }
+    requires known { (other : KeptPackage) → IsKnown (F.post admission.now) (nodes_in asked.now)
+        (candidates_in asked.now) pieces.old.texts (get_or table.old index other)
+        (get_or (pieces_of known.old.items) index []) }
+    ensures put { OnOk result ((admits : Admits) (other : KeptPackage) →
+        AnswersBy (F.post admission.now) admits →
+        PutsRow admits (nodes_in asked.now) (valuation_in asked.now) (candidates_in asked.now)
+        (get_or table.old index other) pieces.old.whole pieces.new.whole) }
+    ensures grow { OnOk result (Grow pieces.old.texts pieces.new.texts) }
+    ensures known { OnOk result ((other : KeptPackage) → IsKnown (F.post admission.now) (nodes_in asked.now)
+        (candidates_in asked.now) pieces.new.texts (get_or table.old index other)
+        (get_or (pieces_of known.new.items) index [])) }
+    ensures others { OnOk result ((at : ℕ) → at ≢ index →
+        get_or (pieces_of known.new.items) at [] ≡ get_or (pieces_of known.old.items) at []) }
+    ensures kept { AllZip SamePackage table.new table.old }
+    ensures candidates { runs.new.candidates ≡ runs.old.candidates }
+    ensures runs { AreRunsOf table.new runs.new }
+    ensures told { AreTold (F.post admission.now) table.new runs.new }
+{
+    let Some(place) = place else {
+        return Ok(());
+    };
+    reach(alloc, known, index)?;
+    let own = &mut known[index].pieces;
+    put_row_in(
+        alloc, table, index, place, asked, runs, admission, own, pieces,
+    )
+}
+
+/// The same in the case at a place.
+fn put_row_in<F: Fn(&Version, bool) -> bool>(
+    alloc: Global,
+    table: &mut Table,
+    index: usize,
+    place: usize,
+    asked: &Asked<'_>,
+    runs: &mut Runs<'_, '_>,
+    admission: &Admission<F>,
+    own: &mut Vec<Option<u32>>,
+    pieces: &mut Pieces,
+) -> Result<(), AllocError>
+    requires within { index < length table.old }
+    requires callable { F.IsAlwaysCallable admission.now }
+    requires lines { AllByRecursion HasItsLines table.old }
+    requires cases { AllByRecursion (HasItsCases (nodes_in asked.now)) table.old }
+    requires runs { AreRunsOf table.old runs.old }
+    requires told { AreTold (F.post admission.now) table.old runs.old }
+    requires candidates { runs.old.candidates ≡ candidates_in asked.now }
+    requires lies { (other : KeptPackage) →
+        IsPlaceIn (nodes_in asked.now) (valuation_in asked.now) (get_or table.old index other) place }
+    requires known { (other : KeptPackage) → IsKnown (F.post admission.now) (nodes_in asked.now)
+        (candidates_in asked.now) pieces.old.texts (get_or table.old index other) own.old.items }
+    ensures put { OnOk result ((admits : Admits) (other : KeptPackage) →
+        AnswersBy (F.post admission.now) admits →
+        PutsRow admits (nodes_in asked.now) (valuation_in asked.now) (candidates_in asked.now)
+        (get_or table.old index other) pieces.old.whole pieces.new.whole) }
+    ensures grow { OnOk result (Grow pieces.old.texts pieces.new.texts) }
+    ensures known { OnOk result ((other : KeptPackage) → IsKnown (F.post admission.now) (nodes_in asked.now)
+        (candidates_in asked.now) pieces.new.texts (get_or table.old index other) own.new.items) }
+    ensures kept { AllZip SamePackage table.new table.old }
+    ensures candidates { runs.new.candidates ≡ runs.old.candidates }
+    ensures runs { AreRunsOf table.new runs.new }
+    ensures told { AreTold (F.post admission.now) table.new runs.new }
+{
+    if let Some(piece) = piece_at(own, place) {
+        return pieces.append(piece);
+    }
+    let row = table.row_among(
+        alloc,
+        index,
+        asked.interner,
+        asked.environment,
+        asked.extras,
+        runs,
+        admission,
+    )?;
+    match row {
+        Some(row) => put_new(alloc, row, place, asked.candidates, own, pieces),
+        // (a package that lies in a case has a row)
+        None => Ok(()),
+    }
+}
+
+/// Puts the row in the case at a place behind the text, as a piece that is known from then on.
+fn put_new(
+    alloc: Global,
+    row: Row,
+    place: usize,
+    candidates: &Candidates,
+    own: &mut Vec<Option<u32>>,
+    pieces: &mut Pieces,
+) -> Result<(), AllocError>
+    requires { IsTakenBelow (length candidates.now) row.outcome }
+    ensures whole { OnOk result
+        (pieces.new.whole ≡ pieces.old.whole ++ row_text candidates.now (row_seen row)) }
+    ensures texts { OnOk result
+        (pieces.new.texts ≡ pieces.old.texts ++ row_text candidates.now (row_seen row) ∷ []) }
+    ensures known { OnOk result ((at found : ℕ) → get_or own.new.items at None ≡ Some found →
+        ((at ≡ place) × (length pieces.old.texts ≡ found)) ⊎ (get_or own.old.items at None ≡ Some found)) }
+{
+    let text = text_of(alloc, row, candidates)?;
+    let piece = pieces.add(text)?;
+    keep(own, place, piece)?;
+    pieces.append(piece)
+}
+
+/// The text of a row.
+fn text_of(alloc: Global, row: Row, candidates: &Candidates) -> Result<String, AllocError>
+    requires { IsTakenBelow (length candidates.now) row.outcome }
+    ensures { IfOk result (λ text. string_bytes text ≡ row_text candidates.now (row_seen row)) }
+{
+    let mut rows = Vec::with_capacity(alloc, 1)?;
+    rows.push(row)?;
+    let answer = Answer { rows };
+    answer.text(alloc, candidates)
+}

@@ -1,0 +1,144 @@
+//! The texts of rows that are known, and answers that are put together of them.
+
+ghost use Rattle.std.specs.Prelude.{◌≡◌, List, [], OnOk};
+ghost use Rattle.std.specs.List.{AllZip, AllByRecursion};
+ghost use Rattle.pep508_evaluation.specs.Valuations.{valuation_of};
+ghost use Rattle.reqtable_answer.specs.Admission.{Admits, AnswersBy};
+ghost use Rattle.reqtable_requirements.specs.Asks.{asks_of};
+ghost use Rattle.reqtable_requirements.specs.LineReading.{LineRecord};
+ghost use Rattle.reqtable_table.specs.Answers.{LiesIn, SamePackage};
+ghost use Rattle.reqtable_table.specs.Cases.{HasItsCases};
+ghost use Rattle.reqtable_table.specs.Kept.{KeepsAll};
+ghost use Rattle.reqtable_table.specs.Runs.{AreRunsOf, AreTold};
+ghost use Rattle.reqtable_table.specs.Standing.{HasItsLines};
+ghost use Rattle.reqs_rows.specs.Asked.{nodes_in, valuation_in, candidates_in};
+ghost use Rattle.reqs_rows.specs.Seen.{pieces_of};
+ghost use Rattle.reqs_rows.specs.Texts.{AreKnown, PutsAnswer, PutsRows};
+
+use crate::asked::Asked;
+use crate::known::Known;
+use crate::row::put_row;
+use pep440_version::Version;
+use pep508_environment::MarkerEnvironment;
+use pep508_name::ExtraName;
+use pep508_tree::Interner;
+use reqs_pieces::Pieces;
+use reqtable_answer::Admission;
+use reqtable_table::{Runs, Table};
+use reqtable_text::Candidates;
+use std::alloc::{AllocError, Global};
+use std::marker::Model;
+
+/// Which piece the row of a package is in a case in which it was asked for.
+#[derive(Drop)]
+pub struct RowTexts {
+    known: Vec<Known>,
+}
+
+impl Model for RowTexts {
+    ghost use Rattle.std.specs.Prelude.{ℕ, List, Option};
+    ghost use Rattle.reqs_rows.specs.Seen.{pieces_of};
+
+    ghost Value = { List (List (Option ℕ)) };
+
+    ghost view = { λ t. pieces_of t.known.items };
+}
+
+impl RowTexts {
+    /// No piece is known yet.
+    pub fn new(alloc: Global) -> RowTexts
+        ensures { result ≡ [] }
+    {
+        RowTexts {
+            known: Vec::new(alloc),
+        }
+    }
+
+    /// Puts the text of the table's answer in an environment with extras behind a text of pieces: what
+    /// `Answer::text` gives of what `answer_among` answers.
+    ///
+    /// Finds the case of each package (`Table::places`). A row is made, and its text, in the first environment
+    /// that lies in its case; from then on it takes a few steps, and the memory of `Pieces` for where it
+    /// stands. All environments go by the pieces, the candidates and the admission by which these texts are
+    /// known.
+    pub fn put_answer<F: Fn(&Version, bool) -> bool>(
+        &mut self,
+        alloc: Global,
+        table: &mut Table,
+        interner: &Interner,
+        environment: &MarkerEnvironment,
+        extras: &[ExtraName],
+        runs: &mut Runs<'_, '_>,
+        admission: &Admission<F>,
+        candidates: &Candidates,
+        pieces: &mut Pieces,
+    ) -> Result<(), AllocError>
+        requires callable { F.IsAlwaysCallable admission.now }
+        requires cases { AllByRecursion (HasItsCases interner.now.nodes) table.old }
+        requires runs { AreRunsOf table.old runs.old }
+        requires told { AreTold (F.post admission.now) table.old runs.old }
+        requires candidates { runs.old.candidates ≡ candidates.now }
+        requires known { AreKnown (F.post admission.now) interner.now.nodes candidates.now pieces.old.texts
+            table.old self.old }
+        ensures put { OnOk result ((said : List LineRecord) (admits : Admits) →
+            KeepsAll interner.now.nodes table.old said → AnswersBy (F.post admission.now) admits →
+            PutsAnswer admits (asks_of (valuation_of environment.now extras.now) said) candidates.now
+            pieces.old.whole pieces.new.whole) }
+        ensures known { OnOk result (AreKnown (F.post admission.now) interner.now.nodes candidates.now
+            pieces.new.texts table.new self.new) }
+        ensures kept { AllZip SamePackage table.new table.old }
+        ensures candidates { runs.new.candidates ≡ runs.old.candidates }
+        ensures runs { AreRunsOf table.new runs.new }
+        ensures told { AreTold (F.post admission.now) table.new runs.new }
+    {
+        let places = table.places(alloc, interner, environment, extras)?;
+        let asked = Asked {
+            interner,
+            environment,
+            extras,
+            candidates,
+        };
+        let known = &mut self.known;
+        put_rows(
+            alloc, table, &places, &asked, runs, admission, known, pieces,
+        )
+    }
+}
+
+/// Puts the rows of all packages behind the text, which lie in the cases at these places.
+fn put_rows<F: Fn(&Version, bool) -> bool>(
+    alloc: Global,
+    table: &mut Table,
+    places: &[Option<usize>],
+    asked: &Asked<'_>,
+    runs: &mut Runs<'_, '_>,
+    admission: &Admission<F>,
+    known: &mut Vec<Known>,
+    pieces: &mut Pieces,
+) -> Result<(), AllocError>
+    requires lie { AllZip (LiesIn (nodes_in asked.now) (valuation_in asked.now)) table.old places.now }
+    requires callable { F.IsAlwaysCallable admission.now }
+    requires lines { AllByRecursion HasItsLines table.old }
+    requires cases { AllByRecursion (HasItsCases (nodes_in asked.now)) table.old }
+    requires runs { AreRunsOf table.old runs.old }
+    requires told { AreTold (F.post admission.now) table.old runs.old }
+    requires candidates { runs.old.candidates ≡ candidates_in asked.now }
+    requires known { AreKnown (F.post admission.now) (nodes_in asked.now) (candidates_in asked.now)
+        pieces.old.texts table.old (pieces_of known.old.items) }
+    ensures put { OnOk result ((admits : Admits) → AnswersBy (F.post admission.now) admits →
+        PutsRows admits (nodes_in asked.now) (valuation_in asked.now) (candidates_in asked.now) table.old
+        pieces.old.whole pieces.new.whole) }
+    ensures known { OnOk result (AreKnown (F.post admission.now) (nodes_in asked.now) (candidates_in asked.now)
+        pieces.new.texts table.new (pieces_of known.new.items)) }
+    ensures kept { AllZip SamePackage table.new table.old }
+    ensures candidates { runs.new.candidates ≡ runs.old.candidates }
+    ensures runs { AreRunsOf table.new runs.new }
+    ensures told { AreTold (F.post admission.now) table.new runs.new }
+{
+    for (index, place) in places.iter().enumerate() {
+        put_row(
+            alloc, table, index, *place, asked, runs, admission, known, pieces,
+        )?;
+    }
+    Ok(())
+}

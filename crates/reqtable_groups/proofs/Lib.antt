@@ -1,0 +1,4 @@
+pub mod Names
+pub mod Added
+pub mod GroupedLines
+pub mod ByName

@@ -1,9 +1,0 @@
-use Rattle.std.proofs.Common.{◌≡◌, map, take}
-use Rattle.pep508_tree.specs.Meaning.{holds}
-use Rattle.reqtable_table.specs.Settings.{nodes_in, valuation_in}
-use Rattle.reqtable_table.proofs.asked.marks_in.Given as goal
-
-abbrev pub invariant-loop-line : goal.invariant-loop-line
-invariant-loop-line l =
-    l.marks.items
-    ≡ map (λ line. holds (nodes_in l.setting) line.marker (valuation_in l.setting)) (take l.line-index l.lines)

@@ -1,0 +1,45 @@
+use Rattle.std.proofs.Common.{◌≡◌, ◌∙◌, ◌<◌, Bool, true, false, List, length, map, get_or, refl, sym, ap, subst}
+use mathlib.Core.Bool.{beq}
+use Rattle.std.proofs.lemmas.List.{length-map}
+use Rattle.std.specs.List.{list_any}
+use Rattle.reqtable_cases.specs.Lines.{marked}
+use Rattle.reqtable_table.specs.Answers.{kept_marks}
+use Rattle.reqtable_table.specs.KeptLines.{package_record}
+use Rattle.reqtable_table.specs.Casing.{case_record}
+use Rattle.reqtable_table.specs.Settings.{nodes_in, valuation_in}
+use Rattle.reqtable_table.proofs.AskedLines.{records}
+use Rattle.reqtable_table.proofs.MarkedAsks.{any_mark}
+use Rattle.reqtable_table.proofs.asked.place_in.Goals as goal
+
+is_itself : (b : Bool) → beq b true ≡ b
+is_itself true = refl
+is_itself false = refl
+
+pub returns-then-not-contains : goal.returns-then-not-contains
+returns-then-not-contains c =
+    let nodes = nodes_in c.args.setting.now in
+    let v = valuation_in c.args.setting.now in
+    let lines = c.args.kept.now.lines.items in
+    let marks_are : c.mark.new.marks.items ≡ kept_marks nodes v (records lines) =
+    c.in_ok-mark.ensures ∙ ap (λ l. kept_marks nodes v (records l)) c.deref.ensures.value in
+    sym (any_mark (λ b. beq b true) is_itself nodes v (records lines))
+    ∙ sym (ap (list_any (λ b. beq b true)) (c.deref-2.ensures.value ∙ marks_are))
+    ∙ sym c.contains.ensures.value ∙ c.if-not-contains.true
+
+pub returns-in-Ok : goal.returns-in-Ok
+returns-in-Ok c =
+    let nodes = nodes_in c.args.setting.now in
+    let v = valuation_in c.args.setting.now in
+    let lines = c.args.kept.now.lines.items in
+    let marks_are : c.mark.new.marks.items ≡ kept_marks nodes v (records lines) =
+    c.in_ok-mark.ensures ∙ ap (λ l. kept_marks nodes v (records l)) c.deref.ensures.value in
+    let long = length-map c.args.kept.now.cases.items case_record in
+    record {
+      asked =
+          sym (any_mark (λ b. beq b true) is_itself nodes v (records lines))
+          ∙ sym (ap (list_any (λ b. beq b true)) (c.deref-2.ensures.value ∙ marks_are))
+          ∙ sym c.contains.ensures.value ∙ c.if-not-contains.false;
+      within = subst (λ n. c.in-Ok.place < n) (sym long) c.in-Ok.ensures.within;
+      numbers = λ other. c.in-Ok.ensures.numbers other
+          ∙ ap (λ m. map (λ line. line.number) (marked m (records lines))) (c.deref-3.ensures.value ∙ marks_are);
+    }
