@@ -5,3 +5,4 @@ pub mod Warning
 pub mod Rooted
 pub mod Edging
 pub mod Alike
+pub mod Telling

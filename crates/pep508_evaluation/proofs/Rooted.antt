@@ -1,10 +1,10 @@
 -- The diagram of a tree by the node at its root.
-use Rattle.std.proofs.Common.{◌≡◌, ℕ, zero, suc, ◌+◌, ◌-◌, ◌<◌, ◌≤◌, ◌==◌, Bool, true, false, not, List, []}
-use Rattle.std.proofs.Common.{◌∷◌, ◌++◌, map, length, get_or, refl, sym, ap, ap₂, ◌∙◌, arith, take, add-one}
-use Rattle.std.proofs.Common.{append-nil, append_assoc, Option, Some, None, inl, inr, cond, if◌then◌else◌}
+use Rattle.std.proofs.Common.{◌≡◌, ℕ, ◌+◌, ◌-◌, ◌<◌, ◌==◌, Bool, true, false, not, List, []}
+use Rattle.std.proofs.Common.{◌∷◌, ◌++◌, map, length, get_or, refl, sym, ap, ap₂, ◌∙◌, arith}
+use Rattle.std.proofs.Common.{Option, Some, None, inl, inr, cond, if◌then◌else◌}
 use Rattle.std.proofs.Common.{true≢false}
 use Rattle.std.proofs.lemmas.Bool.{cases_Bool}
-use Rattle.std.specs.List.{flat_map, slice_get}
+use Rattle.std.specs.List.{flat_map}
 use Rattle.std.specs.Prelude.{IfSome}
 use Rattle.std.specs.Cmp.{unsigned_Decides}
 use Rattle.version_ranges.specs.declared.boundary.Boundary.{Boundary}
@@ -171,28 +171,3 @@ pub signed_version_names : (turns : Bool) (key : VersionVariable) (first : Tree)
     root_names (Some (signed turns (Versions key first later))) ≡ []
 signed_version_names true key first later = refl
 signed_version_names false key first later = refl
-
--- ---- one more child
-
-some_is : (x y : Tree) → Some x ≡ Some y → x ≡ y
-some_is x y f = cc
-
-pub one_more : {A : Type 0} (f : Tree → List A) (cs : List Tree) (i : ℕ) (c : Tree) →
-    Some c ≡ slice_get cs i → flat_map f (take (i + 1) cs) ≡ flat_map f (take i cs) ++ f c
-one_more f cs i c e = rw add-one (from cs i e)
-  where
-    from : (cs : List Tree) (i : ℕ) → Some c ≡ slice_get cs i →
-        flat_map f (take (suc i) cs) ≡ flat_map f (take i cs) ++ f c
-    from [] i e = absurd (cc)
-    from (x ∷ xs) zero e = append-nil (f x) ∙ ap f (sym (some_is c x e))
-    from (x ∷ xs) (suc i) e =
-        ap (λ rest. f x ++ rest) (from xs i e) ∙ sym (append_assoc (f x) (flat_map f (take i xs)) (f c))
-
-pub taken_all : (cs : List Tree) (i end : ℕ) → end ≡ length cs → end ≤ i → take i cs ≡ cs
-taken_all cs i end e over = all cs i (omega (arith, e))
-  where
-    all : (cs : List Tree) (i : ℕ) → length cs ≤ i → take i cs ≡ cs
-    all [] zero h = refl
-    all [] (suc i) h = refl
-    all (x ∷ xs) zero h = absurd (omega arith)
-    all (x ∷ xs) (suc i) h = ap (λ ys. x ∷ ys) (all xs i (omega arith))

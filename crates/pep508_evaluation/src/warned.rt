@@ -1,7 +1,7 @@
 //! What is warned of where a tree is evaluated.
 
 ghost use Rattle.std.specs.Prelude.{◌≡◌, ◌++◌, OnOk, IfOk, None, Some, [], ◌∷◌, map, option_copied};
-ghost use Rattle.std.specs.Prelude.{option_to_list, is_some};
+ghost use Rattle.std.specs.Prelude.{option_to_list, is_some, reverse};
 ghost use Rattle.std.specs.List.{FoldsTo};
 ghost use Rattle.version_ranges.specs.Boundaries.{point_of};
 ghost use Rattle.version_ranges.specs.Bounds.{single_value};
@@ -11,6 +11,7 @@ ghost use Rattle.pep508_tree.specs.Meaning.{IsTree, holds, diagram_of};
 ghost use Rattle.pep508_evaluation.specs.Valuations.{valuation_of};
 ghost use Rattle.pep508_evaluation.specs.Warned.{key_names, old_names, edge, compared, warned, TakesKind};
 ghost use Rattle.pep508_evaluation.specs.Edges.{text_edges, root_edges, root_names};
+ghost use Rattle.pep508_evaluation.specs.Steps.{children_of};
 ghost use Rattle.pep508_tree.specs.Roots.{root_of};
 
 use crate::chosen::{evaluate, is_reached, step};
@@ -213,7 +214,29 @@ fn report_root_name<R: Reporter>(
     }
 }
 
-/// Warns of all old names in a tree.
+/// Puts what stands in a tree's node behind the trees that wait, the first one last.
+fn add_children(
+    tree: MarkerTree,
+    interner: &Interner,
+    waiting: &mut Vec<MarkerTree>,
+) -> Result<(), AllocError>
+    requires { IsTree interner.now.nodes tree }
+    ensures { OnOk result (waiting.new.items
+        ≡ waiting.old.items ++ reverse (children_of (root_of interner.now.nodes tree))) }
+{
+    let mut left = root_child_count(tree, interner);
+    while left > 0 {
+        left -= 1;
+        match root_child(tree, interner, left) {
+            Some(child) => waiting.push(child)?,
+            None => unreachable!(),
+        }
+    }
+    Ok(())
+}
+
+/// Warns of all old names in a tree. What waits stands on a list, so that a long path takes memory and no
+/// stack.
 fn report_old_names<R: Reporter>(
     alloc: Global,
     tree: MarkerTree,
@@ -227,18 +250,16 @@ fn report_old_names<R: Reporter>(
         (old_names None (diagram_of interner.now.nodes tree)) reporter.new) }
 {
     interner.are_sound();
-    report_root_name(alloc, tree, interner, reporter)?;
-    for index in 0..root_child_count(tree, interner) {
-        match root_child(tree, interner, index) {
-            Some(child) => report_old_names(alloc, child, interner, reporter)?,
-            None => unreachable!(),
-        }
+    let mut waiting = vec![in alloc; tree]?;
+    while let Some(next) = waiting.pop() {
+        report_root_name(alloc, next, interner, reporter)?;
+        add_children(next, interner, &mut waiting)?;
     }
     Ok(())
 }
 
 /// Whether a tree holds in an environment with extras. Warns of old names, and of what is compared. For a
-/// reporter that wants nothing it walks one path alone.
+/// reporter that wants nothing it walks one path alone. No recursion, however deep the tree is.
 pub(crate) fn evaluate_reporter<R: Reporter>(
     alloc: Global,
     tree: MarkerTree,
