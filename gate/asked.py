@@ -13,8 +13,7 @@ which specifiers are turned into. None is
 - what operators and `format!` call: equality, order, hashes and prints.
 
 A call is asked where its name stands as a call, `.name(`, `Owner::name` or `name(`, in a program of questions,
-in a crate of tests, in a `#[test]` function, or in crates/reqs_ends, crates/reqs_lists, crates/reqs and crates/reqs_cli, which the
-stored runs run. A call `.name(` counts for a type that its file names, and for the only type with such a
+in a crate of tests, in a `#[test]` function, or in one of the crates of RUN, which the stored runs run. A call `.name(` counts for a type that its file names, and for the only type with such a
 function where the file imports something of that type's crate. The functions of a trait that such a text has an
 impl of are asked, since the library calls that. Comments, texts, items for proofs and clauses don't count.
 
@@ -35,7 +34,7 @@ FACES = ("pep440_rs", "pep508_rs", "reqtable", "reqs", "reqs_io")
 # Of version_ranges the sets are public; their boundaries are lent to the crates of ranges and trees.
 SETS = ("Ranges", "RangeValue", "Iter")
 # Run by tests/cli.sh on the stored runs.
-RUN = ("reqs_ends", "reqs_lists", "reqs", "reqs_cli")
+RUN = ("reqs_ends", "reqs_lists", "reqs_pieces", "reqs_rows", "reqs", "reqs_cli")
 # Calls that need no question, and why.
 LENT = "lent to the crates of trees, and public only since its type is"
 UNASKED = {
@@ -43,6 +42,7 @@ UNASKED = {
     "MarkerTree::is_negated": LENT,
     "MarkerTree::turned": LENT,
     "MarkerTree::cmp_places": LENT,
+    "Table::answer_among": "what `Table::answer`, which is asked, does behind bringing the candidates in order",
 }
 
 # What is no code: comments, texts, characters, items for proofs alone and clauses.

@@ -91,7 +91,8 @@ matrix_texts vars extras inputs =
     (of_input inputs First) (of_input inputs Second) (of_input inputs Third)
 
 -- the text was written, or a front of it; or, for want of memory, nothing
-abbrev pub WritesText : {W : Type 0} → (W → Option (List ℕ)) → W → W → List ℕ → Result Status RunFault → Type 0
+abbrev pub WritesText : {W : Type 0} → (W → Option (List ℕ)) → W → W → List ℕ → Result Status RunFault
+    → Type 0
 WritesText contents old new text (Ok status) = (status ≡ Answered) × WritesWhole contents old new text
 WritesText contents old new text (Err fault) =
     ((fault ≡ Write) × AppendsFront (contents old) (contents new) text) ⊎ ((fault ≡ Memory) × (new ≡ old))

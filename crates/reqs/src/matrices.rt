@@ -80,11 +80,7 @@ pub fn matrix<L: Read, E: Read, C: Read, W: Write>(
 }
 
 /// Writes the text of all answers through a buffer, whose memory is taken before the first write.
-fn write_text<W: Write>(
-    alloc: Global,
-    text: &Pieces,
-    output: &mut W,
-) -> Result<Status, RunFault>
+fn write_text<W: Write>(alloc: Global, text: &Pieces, output: &mut W) -> Result<Status, RunFault>
     ensures { WritesText W.contents output.old output.new text.now.whole result }
 {
     let Ok(buffer) = Vec::with_capacity(alloc, WAITING_BYTES) else {

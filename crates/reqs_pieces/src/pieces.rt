@@ -72,8 +72,8 @@ impl Pieces {
 
     /// Writes the whole text; where it is empty no write is made.
     ///
-    /// Pieces wait in the buffer, which is cleared first and doesn't grow, until it has no room for one more: so
-    /// none of the writes wants memory, and each but the last has as many bytes as the buffer holds or lacks less
+    /// Pieces wait in the buffer, which is cleared first and doesn't grow, until it has no room for one more.
+    /// So no write wants memory, and each but the last has as many bytes as the buffer holds, or lacks less
     /// than a piece of it. Linear in the text and the number of pieces.
     pub fn write_through<W: Write>(
         &self,

@@ -1,5 +1,5 @@
 -- A package's row is put behind a text.
-use Rattle.std.proofs.Common.{◌≡◌, ◌∙◌, ◌<◌, ◌⊎◌, ℕ, Bool, List, [], ◌∷◌, ◌++◌, length, get_or, Option, Some, None, refl, sym, ap, subst, inl, inr, arith, length-append}
+use Rattle.std.proofs.Common.{◌≡◌, ◌∙◌, ◌⊎◌, ℕ, Bool, List, [], ◌∷◌, ◌++◌, length, get_or, Option, Some, None, sym, ap, subst, inl, inr, arith, length-append}
 use Rattle.std.proofs.lemmas.List.{get_or_append_left, get_or_at}
 use Rattle.std.specs.Borrow.{Bor}
 use Rattle.pep440_version.specs.Record.{VersionRecord}
@@ -8,7 +8,7 @@ use Rattle.pep508_tree.specs.Meaning.{NodeRecord}
 use Rattle.reqtable_text.specs.declared.candidates.Candidate.{Candidate}
 use Rattle.reqtable_answer.specs.Admission.{Admits, AnswersBy}
 use Rattle.reqtable_answer.specs.Answer.{RowRecord, row_text}
-use Rattle.reqtable_table.specs.Answers.{IsPlaceIn, LiesIn, IsRowFor, IsRowIf, SamePackage}
+use Rattle.reqtable_table.specs.Answers.{IsPlaceIn, LiesIn, IsRowFor, SamePackage}
 use Rattle.reqtable_table.specs.Kept.{KeptPackage}
 use Rattle.reqtable_table.specs.Standing.{HasItsLines}
 use Rattle.reqtable_table.proofs.Placed.{one_row, same_back, place_same}

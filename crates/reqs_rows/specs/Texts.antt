@@ -20,7 +20,8 @@ IsTextIn admits nodes candidates kept place text =
 
 -- one of these pieces is that text, where versions are admitted by a closure with these results
 pub record IsPiece (returns : Bor VersionRecord → Bool → Bool → Type 0) (nodes : List NodeRecord)
-    (candidates : List Candidate) (texts : List (List ℕ)) (kept : KeptPackage) (place piece : ℕ) : Type 0 where
+    (candidates : List Candidate) (texts : List (List ℕ)) (kept : KeptPackage) (place piece : ℕ)
+    : Type 0 where
   pub within : piece < length texts
   pub text : (admits : Admits) → AnswersBy returns admits →
       IsTextIn admits nodes candidates kept place (get_or texts piece [])
@@ -60,4 +61,5 @@ PutsRows admits nodes v candidates table old new =
 -- the text of the answer was put behind a text
 abbrev pub PutsAnswer : Admits → List Front → List Candidate → List ℕ → List ℕ → Type 0
 PutsAnswer admits asks candidates old new =
-    (rows : List RowRecord) × IsAnswer admits asks candidates rows × (new ≡ old ++ answer_text candidates rows)
+    (rows : List RowRecord) × IsAnswer admits asks candidates rows
+    × (new ≡ old ++ answer_text candidates rows)

@@ -57,10 +57,10 @@ impl RowTexts {
     /// Puts the text of the table's answer in an environment with extras behind a text of pieces: what
     /// `Answer::text` gives of what `answer_among` answers.
     ///
-    /// Finds the case of each package (`Table::places`). A row is made, and its text, in the first environment
-    /// that lies in its case; from then on it takes a few steps, and the memory of `Pieces` for where it
-    /// stands. All environments go by the pieces, the candidates and the admission by which these texts are
-    /// known.
+    /// Finds the case of each package (`Table::places`). A row is made, and its text, in the first
+    /// environment that lies in its case; from then on it takes a few steps, and the memory of `Pieces` for
+    /// where it stands. All environments go by the pieces, the candidates and the admission by which these
+    /// texts are known.
     pub fn put_answer<F: Fn(&Version, bool) -> bool>(
         &mut self,
         alloc: Global,
@@ -128,8 +128,8 @@ fn put_rows<F: Fn(&Version, bool) -> bool>(
     ensures put { OnOk result ((admits : Admits) → AnswersBy (F.post admission.now) admits →
         PutsRows admits (nodes_in asked.now) (valuation_in asked.now) (candidates_in asked.now) table.old
         pieces.old.whole pieces.new.whole) }
-    ensures known { OnOk result (AreKnown (F.post admission.now) (nodes_in asked.now) (candidates_in asked.now)
-        pieces.new.texts table.new (pieces_of known.new.items)) }
+    ensures known { OnOk result (AreKnown (F.post admission.now) (nodes_in asked.now)
+        (candidates_in asked.now) pieces.new.texts table.new (pieces_of known.new.items)) }
     ensures kept { AllZip SamePackage table.new table.old }
     ensures candidates { runs.new.candidates ≡ runs.old.candidates }
     ensures runs { AreRunsOf table.new runs.new }

@@ -1,7 +1,7 @@
 -- What lying in a case says of a package.
-use Rattle.std.proofs.Common.{◌≡◌, ◌∙◌, ◌<◌, ℕ, false, List, [], ◌∷◌, None, length, map, get_or, sym, ap, subst, refl}
+use Rattle.std.proofs.Common.{◌≡◌, ◌∙◌, ◌<◌, ℕ, false, List, [], ◌∷◌, None, length, map, get_or, sym, ap, subst}
 use Rattle.std.proofs.lemmas.List.{length-map}
-use Rattle.std.specs.List.{AllZip, AllByRecursion}
+use Rattle.std.specs.List.{AllZip}
 use Rattle.pep508_diagram.specs.Question.{Valuation}
 use Rattle.pep508_tree.specs.Tree.{always}
 use Rattle.pep508_tree.specs.Meaning.{NodeRecord, holds}
@@ -9,7 +9,7 @@ use Rattle.reqtable_text.specs.declared.candidates.Candidate.{Candidate}
 use Rattle.reqtable_answer.specs.Admission.{Admits}
 use Rattle.reqtable_answer.specs.Answer.{RowRecord, IsRowOf}
 use Rattle.reqtable_cases.specs.Lines.{marked}
-use Rattle.reqtable_table.specs.Answers.{kept_marks, kept_asked, own_candidates, IsRowFor, IsPlaceIn, SameLine, SamePackage}
+use Rattle.reqtable_table.specs.Answers.{kept_marks, own_candidates, IsRowFor, IsPlaceIn, SameLine, SamePackage}
 use Rattle.reqtable_table.specs.Kept.{KeptLine, KeptCase, KeptPackage, kept_front}
 use Rattle.reqtable_table.specs.Standing.{HasItsLines}
 use Rattle.reqtable_table.proofs.Rows.{any_same}

@@ -114,12 +114,8 @@ impl Table {
         Ok(Answer { rows })
     }
 
-    /// In which of its cases each package lies in an environment with extras: the case's place, where a line
-    /// of the package applies.
-    ///
-    /// The interner is the one that the table was built with. Evaluates each line's marker, and finds a
-    /// package's case in as many steps as the logarithm of its cases. Wants memory for the list, and for the
-    /// lines of one package.
+    /// The place of the case in which each package lies in an environment with extras, where a line of it
+    /// applies: found as `answer_among` tells. Memory for the list, and for the lines of one package.
     pub fn places(
         &self,
         alloc: Global,

@@ -122,10 +122,8 @@ fn lists_of<'a>(
     Ok(lists)
 }
 
-/// The place of the case that the marked lines are, which apply under some valuation while the others don't.
-///
-/// It is found by the lines' numbers, which are put in place of what stands in the list, in as many steps as
-/// the logarithm of the number of cases.
+/// The place of the case that the marked lines are, which apply under some valuation while the others don't:
+/// found by their numbers, which are put in the list, in as many steps as the logarithm of the cases.
 pub(crate) fn place_of(
     kept: &Package,
     marks: &[bool],

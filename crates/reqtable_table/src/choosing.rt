@@ -26,13 +26,9 @@ use reqtable_run::telling::is_told;
 use std::alloc::{AllocError, Global};
 use version_ranges::Ranges;
 
-/// The place of the first candidate that all marked lines take and that is admitted.
-///
-/// Where the case has a range it tells, without asking a specifier, of each candidate without a local part
-/// that is no post-release, and of post-releases too where no marked line has `<` or `>`; those of these that
-/// lie between two of its intervals are passed over together, in as many steps as the logarithms of the
-/// number of intervals and of the candidates. Any other candidate is asked of each specifier of the marked
-/// lines, up to the first that refuses.
+/// The place of the first candidate that all marked lines take and that is admitted, found as
+/// `Table::answer_among` tells. A candidate of which the range doesn't tell is asked of each specifier of the
+/// marked lines, up to the first that refuses.
 pub(crate) fn chosen<F: Fn(&Version, bool) -> bool>(
     alloc: Global,
     lines: &mut [TableLine],

@@ -121,8 +121,7 @@ impl Table {
     /// For each package the cases are found line by line, so that no more sets are looked at than `limit`
     /// allows: n lines of a package take at most `2 * n * limit` conjunctions. Beside these the lines are
     /// brought in order by name, and for each case of n specifiers its range takes O(n log n) comparisons of
-    /// versions.
-    /// The table keeps what it needs of the requirements, and no second copy of it.
+    /// versions. The table keeps what it needs of the requirements, and no second copy of it.
     pub fn build(
         alloc: Global,
         requirements: Requirements,
@@ -160,8 +159,7 @@ impl Table {
         }
     }
 
-    /// How many specifiers were asked of versions since the table was built, up to `u64::MAX`. Linear in the
-    /// lines.
+    /// How many specifiers were asked since the table was built, up to `u64::MAX`. Linear in the lines.
     pub fn tests(&self) -> u64
         ensures { result ≡ table_tests self.now }
     {

@@ -1,4 +1,4 @@
-use Rattle.std.proofs.Common.{◌∙◌, ◌++◌, ◌∷◌, [], map, get_or, ap}
+use Rattle.std.proofs.Common.{◌∙◌, ◌++◌, ◌∷◌, [], get_or, ap}
 use Rattle.std.proofs.lemmas.List.{map-append}
 use Rattle.reqs_rows.specs.declared.known.Known.{Known}
 use Rattle.reqs_rows.specs.Seen.{pieces_of}

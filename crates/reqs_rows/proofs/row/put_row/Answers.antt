@@ -1,4 +1,4 @@
-use Rattle.std.proofs.Common.{◌≡◌, ◌∙◌, ◌<◌, [], List, ℕ, Option, None, length, get_or, ap, sym, subst, append-nil, arith}
+use Rattle.std.proofs.Common.{◌∙◌, ◌<◌, [], None, length, get_or, sym, subst, append-nil, arith}
 use Rattle.std.proofs.lemmas.Result.{on_ok_weaker}
 use Rattle.reqtable_table.specs.Answers.{LiesIn}
 use Rattle.reqtable_table.proofs.Same.{all_same}
@@ -13,7 +13,7 @@ pub returns-in_default-clause-put : goal.returns-in_default-clause-put
 returns-in_default-clause-put g c = λ admits other by. (
   None,
   subst (LiesIn (nodes_in c.args.asked.now) (valuation_in c.args.asked.now) (get_or c.args.table.now c.args.index other))
-  c.in_default.is (c.requires.lies other),
+      c.in_default.is (c.requires.lies other),
   sym (append-nil c.args.pieces.now.whole),
 )
 

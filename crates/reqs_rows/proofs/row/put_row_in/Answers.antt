@@ -1,6 +1,5 @@
-use Rattle.std.proofs.Common.{◌≡◌, ◌∙◌, ◌++◌, ◌∷◌, [], List, Some, None, option_map, get_or, ap, sym, subst, true≢false}
+use Rattle.std.proofs.Common.{◌∙◌, [], Some, None, option_map, get_or, ap, sym, subst, true≢false}
 use Rattle.std.proofs.lemmas.Result.{on_ok_weaker}
-use Rattle.reqtable_text.specs.declared.candidates.Candidate.{Candidate}
 use Rattle.reqtable_answer.specs.Rows.{row_seen}
 use Rattle.reqtable_table.specs.Answers.{IsRowIf}
 use Rattle.reqtable_table.specs.Kept.{KeptPackage}
@@ -56,8 +55,8 @@ returns-in-Some-row-clause-put g c =
     let kept = get_or c.args.table.now c.args.index other in (
       Some (row_seen c.in-Some-row.row),
       subst (λ r. IsRowIf admits nodes v candidates kept (option_map row_seen r)) c.in-Some-row.is
-      (subst (λ cs. IsRowIf admits nodes v cs kept (option_map row_seen c.in_ok-row.row)) c.requires.candidates
-      (c.in_ok-row.ensures.row admits other by)),
+          (subst (λ cs. IsRowIf admits nodes v cs kept (option_map row_seen c.in_ok-row.row)) c.requires.candidates
+          (c.in_ok-row.ensures.row admits other by)),
       h,
     ))
     c.put_new.ensures.whole

@@ -1,4 +1,4 @@
-use Rattle.std.proofs.Common.{◌≡◌, ◌∙◌, ◌∷◌, ◌++◌, [], List, All, length, map, ap, sym, subst, append-nil}
+use Rattle.std.proofs.Common.{◌∙◌, ◌∷◌, ◌++◌, [], All, length, map, ap, sym, subst, append-nil}
 use Rattle.std.proofs.lemmas.List.Elements.{All-cons, All-nil}
 use Rattle.std.proofs.lemmas.Result.{IfOk-weaker}
 use Rattle.reqtable_answer.specs.Answer.{row_text, answer_text}

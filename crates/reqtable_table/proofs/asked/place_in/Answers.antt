@@ -1,10 +1,9 @@
-use Rattle.std.proofs.Common.{◌≡◌, ◌∙◌, ◌<◌, Bool, true, false, List, length, map, get_or, refl, sym, ap, subst}
+use Rattle.std.proofs.Common.{◌≡◌, ◌∙◌, ◌<◌, Bool, true, false, map, refl, sym, ap, subst}
 use mathlib.Core.Bool.{beq}
 use Rattle.std.proofs.lemmas.List.{length-map}
 use Rattle.std.specs.List.{list_any}
 use Rattle.reqtable_cases.specs.Lines.{marked}
 use Rattle.reqtable_table.specs.Answers.{kept_marks}
-use Rattle.reqtable_table.specs.KeptLines.{package_record}
 use Rattle.reqtable_table.specs.Casing.{case_record}
 use Rattle.reqtable_table.specs.Settings.{nodes_in, valuation_in}
 use Rattle.reqtable_table.proofs.AskedLines.{records}

@@ -1,4 +1,4 @@
-use Rattle.std.proofs.Common.{◌+◌, map, take, ap, subst}
+use Rattle.std.proofs.Common.{◌+◌, map, take, subst}
 use Rattle.std.proofs.lemmas.List.{take_all}
 use Rattle.std.specs.List.{AllZip}
 use Rattle.reqtable_table.specs.Answers.{LiesIn}

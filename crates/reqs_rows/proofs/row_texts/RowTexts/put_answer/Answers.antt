@@ -1,4 +1,4 @@
-use Rattle.std.proofs.Common.{List, ℕ, Option, sym, subst}
+use Rattle.std.proofs.Common.{sym, subst}
 use Rattle.std.proofs.lemmas.Result.{on_ok_weaker}
 use Rattle.pep508_evaluation.specs.Valuations.{valuation_of}
 use Rattle.reqtable_table.proofs.RowsOfLines.{rows_are_the_answer}

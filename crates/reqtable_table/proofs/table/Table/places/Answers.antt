@@ -1,4 +1,4 @@
-use Rattle.std.proofs.Common.{◌∙◌, List, Vec, Global, Option, ℕ, map, ap, subst}
+use Rattle.std.proofs.Common.{◌∙◌, List, map, ap, subst}
 use Rattle.std.proofs.lemmas.Result.{IfOk-weaker}
 use Rattle.std.specs.List.{AllZip}
 use Rattle.pep508_diagram.specs.Question.{Valuation}
@@ -7,7 +7,7 @@ use Rattle.pep508_tree.specs.Meaning.{NodeRecord}
 use Rattle.reqtable_table.specs.Answers.{LiesIn}
 use Rattle.reqtable_table.specs.Kept.{KeptPackage}
 use Rattle.reqtable_table.specs.KeptLines.{package_record}
-use Rattle.reqtable_table.specs.Settings.{nodes_in, valuation_in}
+use Rattle.reqtable_table.specs.Settings.{nodes_in}
 use Rattle.reqtable_table.proofs.table.Table.places.Goals as goal
 
 pub returns-clause-lie : goal.returns-clause-lie

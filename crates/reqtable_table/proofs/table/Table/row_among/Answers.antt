@@ -1,22 +1,18 @@
-use Rattle.std.proofs.Common.{◌≡◌, ◌∙◌, ◌<◌, ℕ, Vec, Global, List, Option, option_map, length, map, get_or, ap, sym, subst, arith}
+use Rattle.std.proofs.Common.{◌≡◌, ◌∙◌, ◌<◌, ℕ, List, Option, option_map, length, map, get_or, ap, sym, subst, arith}
 use Rattle.std.proofs.lemmas.List.{with_items_is, length-map}
 use Rattle.std.proofs.lemmas.Result.{IfOk-weaker}
-use Rattle.std.specs.List.{AllZip}
-use Rattle.std.specs.Option.{IfSome}
-use Rattle.std.specs.Vec.{with_items}
 use Rattle.pep508_diagram.specs.Question.{Valuation}
 use Rattle.pep508_evaluation.specs.Valuations.{valuation_of}
 use Rattle.pep508_tree.specs.Meaning.{NodeRecord}
 use Rattle.reqtable_text.specs.declared.candidates.Candidate.{Candidate}
 use Rattle.reqtable_answer.specs.Admission.{Admits}
 use Rattle.reqtable_answer.specs.Answer.{RowRecord}
-use Rattle.reqtable_answer.specs.Rows.{row_seen, IsTakenBelow}
-use Rattle.reqtable_table.specs.declared.table.Package.{Package}
-use Rattle.reqtable_table.specs.Answers.{SamePackage, IsRowIf}
+use Rattle.reqtable_answer.specs.Rows.{row_seen}
+use Rattle.reqtable_table.specs.Answers.{IsRowIf}
 use Rattle.reqtable_table.specs.Kept.{KeptPackage}
 use Rattle.reqtable_table.specs.KeptLines.{package_record}
 use Rattle.reqtable_table.specs.Owns.{runs_of}
-use Rattle.reqtable_table.specs.Runs.{RunsRecord, AreRunsOf}
+use Rattle.reqtable_table.specs.Runs.{AreRunsOf}
 use Rattle.reqtable_table.specs.Settings.{nodes_in, valuation_in}
 use Rattle.reqtable_table.proofs.LentTable.{stays, runs_stay}
 use Rattle.reqtable_table.proofs.table.Table.row_among.Goals as goal
