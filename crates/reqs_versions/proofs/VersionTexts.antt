@@ -1,5 +1,5 @@
 -- Versions in bytes, and bytes that are none.
-use Rattle.std.proofs.Common.{◌≡◌, ◌∙◌, ℕ, true, false, List, length, Option, Some, None, Ok, Err, string_bytes, ap, refl, sym, subst}
+use Rattle.std.proofs.Common.{◌≡◌, ◌∙◌, ◌⊎◌, ℕ, ℤ, pos, negsuc, inl, inr, option_map, true, false, List, length, Option, Some, None, Ok, Err, string_bytes, ap, refl, sym, subst}
 use Rattle.std.specs.Str.{is_utf8, IsUtf8}
 use Rattle.std.proofs.lemmas.Str.{is_utf8-from_IsUtf8}
 use Rattle.read_outcome.specs.Outcome.{Tells}
@@ -11,9 +11,10 @@ use Rattle.pep440_version.specs.ErrorPrints.{version_error_text}
 use Rattle.pep440_version.specs.declared.parse_error.VersionParseError.{VersionParseError}
 use Rattle.pep440_version.specs.declared.parse_error.VersionParseError.TheVariants as errors
 use Rattle.pep440_version.proofs.Found.{is_version}
-use Rattle.reqs_reply.specs.Endings.{span}
+use Rattle.pep440_key.specs.Key.{version_bytes}
+use Rattle.reqs_reply.specs.Endings.{span, written}
 use Rattle.reqs_reply.proofs.Ends.{is_utf8-false}
-use Rattle.reqs_versions.specs.Versions.{version_in, IsNoVersion}
+use Rattle.reqs_versions.specs.Versions.{version_in, IsNoVersion, IsWritten, KeyGiven}
 
 -- bytes that are no text are no version's
 pub no_text : (bytes : List ℕ) → (IsUtf8 bytes → ⊥) → version_in bytes ≡ None
@@ -60,3 +61,21 @@ no_version bytes text error e is plain tells =
       stands = refl;
       says = refl;
     }
+
+-- ---- keys
+
+-- what was written of a key is that of the version
+pub key_given : (version : Option VersionRecord) (key old new : List ℕ) (code : ℤ)
+    → Some key ≡ option_map version_bytes version → IsWritten key old new code
+    → ((code ≡ negsuc 2) × (new ≡ old)) ⊎ KeyGiven version old new code
+key_given None key old new code e h = absurd (cc)
+key_given (Some version) key old new code e (inl none) = inl none
+key_given (Some version) key old new code e (inr wrote) =
+    let is : key ≡ version_bytes version = cc in
+    inr (wrote.0 ∙ ap (λ k. pos (length k)) is, wrote.1 ∙ ap (λ k. written k old) is)
+
+-- and where there is no key there is no version
+pub no_key : (version : Option VersionRecord) (old : List ℕ) → None ≡ option_map version_bytes version
+    → ((negsuc 1 ≡ negsuc 2) × (old ≡ old)) ⊎ KeyGiven version old old (negsuc 1)
+no_key None old e = inr (refl, refl)
+no_key (Some version) old e = absurd (cc)

@@ -11,8 +11,9 @@ use Rattle.pep440_version.specs.Order.{version_cmp}
 use Rattle.pep440_version.specs.VersionReading.{VersionFault, version_reading, told_version}
 use Rattle.pep440_version.specs.ErrorPrints.{version_error_text}
 use Rattle.pep440_version.specs.declared.parse_error.VersionParseError.{VersionParseError}
+use Rattle.pep440_key.specs.Key.{version_bytes}
 use Rattle.reqs_reply.specs.declared.place.Place.{Place}
-use Rattle.reqs_reply.specs.Endings.{Ending, EndsIn, span, IsNotText}
+use Rattle.reqs_reply.specs.Endings.{Ending, EndsIn, span, written, IsNotText}
 
 -- the version that bytes are, if they are the text of one
 unfoldable pub version_in : List ℕ → Option VersionRecord
@@ -58,3 +59,23 @@ order_of None b = pos 2
 -- what is answered on the order of two texts' versions; 3 stands for want of memory, which may come at any time
 abbrev pub IsOrder : List ℕ → List ℕ → ℤ → Type 0
 IsOrder left right code = (code ≡ pos 3) ⊎ (code ≡ order_of (version_in left) (version_in right))
+
+-- ---- keys
+
+-- what is given for a version's key: -2 where there is none, and nothing is written; or its length, and of it is
+-- written what fits
+abbrev pub KeyGiven : Option VersionRecord → List ℕ → List ℕ → ℤ → Type 0
+KeyGiven None old new code = (code ≡ negsuc 1) × (new ≡ old)
+KeyGiven (Some version) old new code =
+    (code ≡ pos (length (version_bytes version))) × (new ≡ written (version_bytes version) old)
+
+-- a key is written so, and its length given; or nothing is
+abbrev pub IsWritten : List ℕ → List ℕ → List ℕ → ℤ → Type 0
+IsWritten key old new code =
+    ((code ≡ negsuc 2) × (new ≡ old)) ⊎ ((code ≡ pos (length key)) × (new ≡ written key old))
+
+-- what is answered with the key of a text's version; -3 stands for want of memory, which may come at any time,
+-- and then nothing is written
+abbrev pub IsKey : List ℕ → List ℕ → List ℕ → ℤ → Type 0
+IsKey bytes old new code =
+    ((code ≡ negsuc 2) × (new ≡ old)) ⊎ KeyGiven (version_in bytes) old new code

@@ -5,4 +5,4 @@ mod lists;
 mod versions;
 
 pub use lists::{specifiers, specifiers_take};
-pub use versions::{version, version_order};
+pub use versions::{version, version_key, version_order};

@@ -1,15 +1,17 @@
 //! Versions.
 
-ghost use Rattle.std.specs.Prelude.{◌≡◌, true, IfOk};
+ghost use Rattle.std.specs.Prelude.{◌≡◌, true, IfOk, option_map};
 ghost use Rattle.std.specs.Str.{is_utf8};
 ghost use Rattle.pep440_version.specs.Outcome.{Tells};
 ghost use Rattle.pep440_version.specs.Reading.{version_of};
 ghost use Rattle.pep440_version.specs.VersionReading.{version_reading, told_version};
+ghost use Rattle.pep440_key.specs.Key.{version_bytes};
 ghost use Rattle.reqs_reply.specs.Endings.{EndsIn, NoAnswer, RepliesAs, ending_of};
 ghost use Rattle.reqs_versions.specs.Versions.{version_in, RefusesVersion, VersionEnds, order_of, IsOrder};
+ghost use Rattle.reqs_versions.specs.Versions.{IsWritten, IsKey};
 
 use pep440_version::{Version, VersionParseError};
-use reqs_reply::{Ended, Place, Reply, text_of};
+use reqs_reply::{Ended, Place, Reply, text_of, write_front};
 use std::alloc::{AllocError, Global};
 use std::cmp::Ordering;
 use std::str;
@@ -92,5 +94,42 @@ fn order_of(left: &Option<Version>, right: &Option<Version>) -> i32
             Ordering::Greater => 1,
         },
         _ => 2,
+    }
+}
+
+/// Writes the key of a text's version, the front that fits: bytes in whose order versions stand, and which are
+/// the same exactly where versions are equal (PEP 440, "Summary of permitted suffixes and relative ordering").
+/// Gives the key's length; -2 where the text is no version, and -3 where memory ran out.
+pub fn version_key(alloc: Global, bytes: &[u8], out: &mut [u8]) -> i64
+    ensures { IsKey bytes.now out.old out.new result }
+{
+    match key_in(alloc, bytes) {
+        Ok(Some(key)) => write_key(&key, out),
+        Ok(None) => -2,
+        Err(_) => -3,
+    }
+}
+
+/// The key of a text's version, if the text is that of one.
+fn key_in(alloc: Global, bytes: &[u8]) -> Result<Option<Vec<u8>>, AllocError>
+    ensures { IfOk result (λ key. option_map (λ k. k.items) key
+        ≡ option_map version_bytes (version_in bytes.now)) }
+{
+    match read_version(alloc, bytes)? {
+        None => Ok(None),
+        Some(version) => Ok(Some(pep440_key::version_key(alloc, &version)?)),
+    }
+}
+
+/// Writes of a key the front that fits, and gives its length.
+fn write_key(key: &[u8], out: &mut [u8]) -> i64
+    ensures { IsWritten key.now out.old out.new result }
+{
+    match i64::try_from(key.len()) {
+        Ok(length) => {
+            write_front(key, out);
+            length
+        }
+        Err(_) => -3,
     }
 }
