@@ -1,0 +1,36 @@
+//! Python's versions and specifiers (PEP 440), requirements and markers (PEP 508), and lists of requirements, by a C library whose
+//! answers are proved.
+//!
+//! Texts are handed to the library as they are, and it keeps nothing of them. Where memory runs out the process ends, as with Rust's
+//! own collections. This crate itself is not proved: it calls, and splits what it is answered.
+#![warn(missing_docs)]
+
+mod lists;
+mod marker;
+mod native;
+mod refused;
+mod requirement;
+mod specifiers;
+mod version;
+
+pub use lists::{check, conflicts, matrix, normal, same, Same, LIMIT};
+pub use marker::MarkerTree;
+pub use refused::Refused;
+pub use requirement::Requirement;
+pub use specifiers::VersionSpecifiers;
+pub use version::Version;
+
+/// The number of the linked library's interface, which is 1.
+///
+/// ```
+/// assert_eq!(fowlyore::abi(), 1);
+/// assert!(fowlyore::is_known());
+/// ```
+pub fn abi() -> u32 {
+    native::abi()
+}
+
+/// Whether the linked library has the interface that this crate is written for.
+pub fn is_known() -> bool {
+    native::is_known()
+}

@@ -1,0 +1,93 @@
+//! Lists of requirements: the five commands of the program `reqs`, over texts.
+
+use crate::{native, Refused};
+
+/// How many cases a package may have, where no other limit is named.
+pub const LIMIT: u64 = 4096;
+
+/// What two lists require.
+#[derive(Clone, Debug, PartialEq, Eq, Hash)]
+pub enum Same {
+    /// The same of every package, in every environment with any extras.
+    Yes,
+    /// Different things: the first package by name that differs, and a marker that holds just where the first difference is,
+    /// or `all environments`.
+    No {
+        /// The package's name.
+        package: String,
+        /// Where it differs.
+        marker: String,
+    },
+}
+
+/// What `reqs check` prints: for each package that a line which applies asks for, its extras and the greatest candidate.
+///
+/// ```
+/// let environment = br#"{"implementation_name": "cpython", "implementation_version": "3.11.7", "os_name": "posix",
+///     "platform_machine": "x86_64", "platform_python_implementation": "CPython", "platform_release": "6.1",
+///     "platform_system": "Linux", "platform_version": "", "python_full_version": "3.11.7",
+///     "python_version": "3.11", "sys_platform": "linux"}"#;
+/// let rows = fowlyore::check(b"foo[bar]>=1,<2\n", environment, b"foo 1.0\nfoo 1.5\nfoo 2.0\n", &[])?;
+/// assert_eq!(rows, "foo[bar] 1.5\n");
+/// # Ok::<(), fowlyore::Refused>(())
+/// ```
+pub fn check(
+    requirements: &[u8],
+    environment: &[u8],
+    candidates: &[u8],
+    extras: &[&str],
+) -> Result<String, Refused> {
+    native::check([requirements, environment, candidates], extras)
+}
+
+/// What `reqs matrix` prints: the same for each environment of a JSON list, from one table, whose packages have at most `limit` cases.
+pub fn matrix(
+    requirements: &[u8],
+    environments: &[u8],
+    candidates: &[u8],
+    extras: &[&str],
+    limit: u64,
+) -> Result<String, Refused> {
+    native::matrix([requirements, environments, candidates], extras, limit)
+}
+
+/// Whether two lists require the same.
+///
+/// ```
+/// use fowlyore::{same, Same, LIMIT};
+///
+/// assert_eq!(same(b"foo>=1,<2\n", b"Foo<2.0\nfoo>=1\n", LIMIT)?, Same::Yes);
+/// let no = Same::No { package: "bar".into(), marker: "sys_platform == 'win32'".into() };
+/// assert_eq!(same(b"foo\n", b"foo\nbar ; sys_platform == 'win32'\n", LIMIT)?, no);
+/// # Ok::<(), fowlyore::Refused>(())
+/// ```
+pub fn same(left: &[u8], right: &[u8], limit: u64) -> Result<Same, Refused> {
+    let answer = native::same(left, right, limit)?;
+    if !answer.is_different {
+        return Ok(Same::Yes);
+    }
+    let mut lines = answer.text.lines().skip(1).map(String::from);
+    let package = lines.next().unwrap_or_default();
+    let marker = lines.next().unwrap_or_default();
+    Ok(Same::No { package, marker })
+}
+
+/// What `reqs conflicts` prints: each case of a package whose lines have no version in common.
+///
+/// ```
+/// assert_eq!(fowlyore::conflicts(b"foo>=2\nfoo<1\n", fowlyore::LIMIT)?, "foo 1,2\n");
+/// # Ok::<(), fowlyore::Refused>(())
+/// ```
+pub fn conflicts(requirements: &[u8], limit: u64) -> Result<String, Refused> {
+    native::conflicts(requirements, limit)
+}
+
+/// The list in its normal form.
+///
+/// ```
+/// assert_eq!(fowlyore::normal(b"Foo_Bar [b , a] < 2.0 , >= 1.16\n")?, "foo-bar[b,a]>=1.16,<2.0\n");
+/// # Ok::<(), fowlyore::Refused>(())
+/// ```
+pub fn normal(requirements: &[u8]) -> Result<String, Refused> {
+    native::normal(requirements)
+}

@@ -1,0 +1,32 @@
+//! Refusals.
+
+use std::error::Error;
+use std::fmt;
+
+/// Why a text was refused, and where.
+///
+/// ```
+/// let refused = fowlyore::check(b"foo>=1\nbar>>2\n", b"{}", b"", &[]).unwrap_err();
+/// assert_eq!((refused.input, refused.line, refused.start, refused.len), (1, 2, 3, 3));
+/// ```
+#[derive(Clone, Debug, PartialEq, Eq, Hash)]
+pub struct Refused {
+    /// What is wrong.
+    pub message: String,
+    /// Which text of the call is at fault, from 1, and 0 where none is told.
+    pub input: u32,
+    /// The line at fault, from 1, and 0 where the text is one.
+    pub line: usize,
+    /// Where the part at fault begins, in bytes of the line or the text.
+    pub start: usize,
+    /// How many bytes it has.
+    pub len: usize,
+}
+
+impl fmt::Display for Refused {
+    fn fmt(&self, f: &mut fmt::Formatter<'_>) -> fmt::Result {
+        f.write_str(&self.message)
+    }
+}
+
+impl Error for Refused {}
