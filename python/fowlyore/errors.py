@@ -59,6 +59,12 @@ def characters(line: bytes, start: int, length: int) -> "tuple[int, int]":
     return front, front + len(line[start : start + length].decode("utf-8", "replace"))
 
 
+def on_one_line(kind: Type[Kind], text: str) -> None:
+    """Refuses a text that goes over more than one line: PEP 508 has no line feed, and the library's batches have lines."""
+    if "\n" in text.strip():
+        raise kind(f"{text!r} goes over more than one line", text=text)
+
+
 def refusal(kind: Type[Kind], fault: _native.Fault, text: str, message: str) -> Kind:
     """The error for one text that is none. An empty part at the front of some text is a place that isn't told."""
     if text and fault.start == 0 and fault.length == 0:

@@ -4,7 +4,6 @@ A list is given in one of three ways: a str or bytes is its text, a path (`pathl
 iterable has its lines: texts, or `Requirement`s.
 """
 
-import json
 import os
 import re
 from dataclasses import dataclass
@@ -13,7 +12,7 @@ from typing import Any, Callable, Iterable, List, Mapping, Optional, Sequence, T
 from . import _native
 from .errors import Refused, characters
 from .distributions import installed
-from .markers import completed, default_environment, environment_json
+from .markers import completed, environment_json
 from .requirements import Requirement
 from .version import Version
 
@@ -141,7 +140,7 @@ def environment_input(given: Environment) -> Input:
 
 
 def environments_input(given: Environments) -> Input:
-    return as_bytes("environments", given, lambda those: json.dumps([dict(it) for it in those]))
+    return as_bytes("environments", given, lambda those: f"[{','.join(environment_json(it).decode() for it in those)}]")
 
 
 def candidates_input(given: Candidates) -> Input:
@@ -227,6 +226,7 @@ def matrix(
 
     A package may have `limit` cases, which are sets of its lines that apply together.
 
+    >>> from fowlyore import default_environment
     >>> linux = {**default_environment(), "sys_platform": "linux"}
     >>> windows = {**default_environment(), "sys_platform": "win32"}
     >>> matrix("colorama ; sys_platform == 'win32'", [linux, windows], {"colorama": ["0.4.6"]})

@@ -7,7 +7,7 @@ import sys
 from typing import Any, Dict, Mapping, Optional
 
 from . import _native
-from .errors import Refused, refusal
+from .errors import Refused, on_one_line, refusal
 
 __all__ = ["InvalidMarker", "Marker", "UndefinedComparison", "UndefinedEnvironmentName", "default_environment"]
 
@@ -58,6 +58,10 @@ def default_environment() -> Dict[str, str]:
     }
 
 
+# What the library reads of an environment.
+MEMBERS = frozenset(default_environment())
+
+
 def completed(given: Optional[Mapping[str, Any]]) -> Dict[str, Any]:
     """The running interpreter's environment with other values put in. Markers read `python_full_version` alone, so that it
     follows where only `python_version` is given."""
@@ -71,7 +75,7 @@ def completed(given: Optional[Mapping[str, Any]]) -> Dict[str, Any]:
 
 def environment_json(environment: Mapping[str, Any]) -> bytes:
     """The JSON that the library reads. An interpreter from a development tree may end its version with `+`, which is none."""
-    values = {key: value for key, value in environment.items() if key != "extra"}
+    values = {key: value for key, value in environment.items() if key in MEMBERS}
     full = values.get("python_full_version")
     if isinstance(full, str) and full.endswith("+"):
         values["python_full_version"] = full + "local"
@@ -95,15 +99,13 @@ class Marker:
     def __init__(self, marker: str) -> None:
         if not isinstance(marker, str):
             raise TypeError(f"a marker is read from a str, not from {type(marker).__name__}")
-        text = marker.strip()
-        if "\n" in text:
-            raise InvalidMarker(f"Invalid marker: {marker!r}: it goes over more than one line")
+        on_one_line(InvalidMarker, marker)
         try:
             self._text = _native.marker(_native.encoded(marker))
         except _native.Fault as fault:
             message = f"Invalid marker: {marker!r}: {fault.message}"
             raise refusal(InvalidMarker, fault, marker, message) from None
-        self._given = text
+        self._given = marker.strip()
 
     def __str__(self) -> str:
         return self._text or _ALWAYS

@@ -2,16 +2,17 @@
 
 import re
 from functools import cached_property
-from typing import Optional, Set
+from typing import FrozenSet, Optional, Set, Tuple
 
 from . import _native
-from .errors import Refused, refusal
+from .errors import Refused, on_one_line, refusal
 from .markers import InvalidMarker, Marker
 from .specifiers import SpecifierSet
 
 __all__ = ["InvalidRequirement", "Requirement"]
 
-_NAME = re.compile(r"\s*([A-Za-z0-9](?:[A-Za-z0-9._-]*[A-Za-z0-9])?)")
+# The name and the extras at the front of a requirement's text.
+_FRONT = re.compile(r"\s*([A-Za-z0-9](?:[A-Za-z0-9._-]*[A-Za-z0-9])?)\s*(?:\[([^\]]*)\])?")
 
 
 class InvalidRequirement(Refused):
@@ -26,12 +27,12 @@ class InvalidRequirement(Refused):
 class Requirement:
     """A requirement: a name, extras, specifiers or a URL, and a marker.
 
-    The name is as it was written, and the extras have their normal names. The marker is None where the requirement always
-    applies. All of these can be set.
+    Name and extras are as they were written, and compared by their normal names. The marker is None where the requirement
+    always applies. All of these can be set.
 
     >>> requirement = Requirement('Requests[Socks]>=2.8.1, == 2.8.* ; python_version > "3.7"')
     >>> requirement.name, requirement.extras, str(requirement.specifier), str(requirement.marker)
-    ('Requests', {'socks'}, '==2.8.*,>=2.8.1', "python_full_version >= '3.8'")
+    ('Requests', {'Socks'}, '==2.8.*,>=2.8.1', "python_full_version >= '3.8'")
     >>> requirement == Requirement("requests[socks] (==2.8.*,>=2.8.1) ; python_full_version >= '3.8.0'")
     True
     """
@@ -40,15 +41,19 @@ class Requirement:
         text = requirement_string
         if not isinstance(text, str):
             raise TypeError(f"a requirement is read from a str, not from {type(text).__name__}")
+        on_one_line(InvalidRequirement, text)
         try:
             parts = _native.requirement(_native.encoded(text))
         except _native.Fault as fault:
             raise refusal(InvalidRequirement, fault, text, fault.message) from None
         self._given, self._parts = text, parts
-        found = _NAME.match(text)
-        self._written = self.name = found[1] if found else parts.name
+        found = _FRONT.match(text)
+        if found is None:
+            raise AssertionError(f"{text!r} has a name and none")
+        self.name: str = found[1]
         self.url: Optional[str] = parts.url or None
-        self.extras: Set[str] = set(parts.extras.split(",")) if parts.extras else set()
+        self.extras: Set[str] = {it.strip() for it in (found[2] or "").split(",") if it.strip()}
+        self._written = self._front()
 
     @cached_property
     def specifier(self) -> SpecifierSet:
@@ -60,30 +65,32 @@ class Requirement:
         """The marker, or None where the requirement always applies."""
         return _marker_of(self._parts.marker, self._given) if self._parts.marker else None
 
-    def _normal_name(self) -> str:
-        return self._parts.name if self.name == self._written else Requirement(self.name)._parts.name
-
-    def _text(self, name: str) -> str:
+    def _front(self) -> str:
         extras = f"[{','.join(sorted(self.extras))}]" if self.extras else ""
-        url = f"@ {self.url}" + (" " if self.marker else "") if self.url else ""
-        marker = f"; {self.marker}" if self.marker else ""
-        return f"{name}{extras}{self.specifier}{url}{marker}"
+        return self.name + extras
+
+    def _normal_front(self) -> Tuple[str, FrozenSet[str]]:
+        """The normal names of the package and of the extras."""
+        front = self._front()
+        parts = self._parts if front == self._written else Requirement(front)._parts
+        return parts.name, frozenset(parts.extras.split(","))
 
     def __str__(self) -> str:
-        return self._text(self.name)
+        url = f"@ {self.url}" + (" " if self.marker else "") if self.url else ""
+        marker = f"; {self.marker}" if self.marker else ""
+        return f"{self._front()}{self.specifier}{url}{marker}"
 
     def __repr__(self) -> str:
         return f"<Requirement({str(self)!r})>"
 
     def __hash__(self) -> int:
-        return hash((Requirement, self._normal_name(), frozenset(self.extras), self.specifier, self.url, self.marker))
+        return hash((Requirement, self._normal_front(), self.specifier, self.url, self.marker))
 
     def __eq__(self, other: object) -> bool:
         if not isinstance(other, Requirement):
             return NotImplemented
         return (
-            self._normal_name() == other._normal_name()
-            and self.extras == other.extras
+            self._normal_front() == other._normal_front()
             and self.specifier == other.specifier
             and self.url == other.url
             and self.marker == other.marker
