@@ -43,9 +43,10 @@ def parser() -> argparse.ArgumentParser:
 
 
 def add(commands: Any, name: str, about: str, limit: bool = False) -> argparse.ArgumentParser:
-    it: argparse.ArgumentParser = commands.add_parser(name, help=about, description=about[0].upper() + about[1:] + ".")
+    it: argparse.ArgumentParser = commands.add_parser(name, help=about, description=f"{about[0].upper()}{about[1:]}.")
     if limit:
-        it.add_argument("--limit", type=int, default=LIMIT, metavar="N", help="how many cases a package may have (%(default)s)")
+        of_limit = "how many cases a package may have, which are sets of its lines that apply together (%(default)s)"
+        it.add_argument("--limit", type=int, default=LIMIT, metavar="N", help=of_limit)
     return it
 
 
@@ -54,7 +55,8 @@ def add_check(commands: Any) -> None:
     it = add(commands, "check", about)
     it.add_argument("requirements", metavar="FILE", help="the list")
     environment = it.add_mutually_exclusive_group()
-    environment.add_argument("--environment", metavar="JSON", help="a file of all values for markers (else this interpreter's)")
+    of_values = "a file of all values for markers (else this interpreter's)"
+    environment.add_argument("--environment", metavar="JSON", help=of_values)
     environment.add_argument("--python-version", metavar="VERSION", help="this interpreter's values, but of another version")
     add_candidates(it)
     it.add_argument("--explain", action="store_true", help="say below each none which line refuses the greatest candidates")

@@ -6,7 +6,7 @@ Short calls hold the interpreter's lock, since letting go of it costs as much as
 import ctypes
 import os
 import threading
-from typing import Any, List, NamedTuple, Optional
+from typing import Any, List, NamedTuple, Optional, Tuple
 
 ABI = 1
 ANSWERED, DIFFERENT, REFUSED, MEMORY = 0, 1, 2, 3
@@ -45,7 +45,8 @@ class Room(threading.local):
     """A buffer for each thread, so that no thread reads another one's answer."""
 
     def __init__(self) -> None:
-        self.buffer = ctypes.create_string_buffer(ROOM)
+        # (whose slices are bytes, which its type doesn't say)
+        self.buffer: Any = ctypes.create_string_buffer(ROOM)
 
 
 def path() -> str:
@@ -100,7 +101,7 @@ def encoded(text: str) -> bytes:
         return text.encode("utf-8", "surrogatepass")
 
 
-def _ask(call: Any, texts: "tuple[bytes, ...]", limit: Optional[int] = None, size: int = ROOM) -> "tuple[Reply, bytes]":
+def _ask(call: Any, texts: Tuple[bytes, ...], limit: Optional[int] = None, size: int = ROOM) -> Tuple[Reply, bytes]:
     """The reply of a call and its whole text; asked again with more room where `size` was too little."""
     words: List[Any] = []
     for text in texts:
@@ -134,7 +135,8 @@ def _size_for(*texts: bytes) -> int:
 
 def version_key(text: bytes) -> Optional[bytes]:
     """A version's key, or nothing where the text is none. `Version` has the same in its own lines, without this call."""
-    buffer, size = room.buffer, ROOM
+    buffer: Any = room.buffer
+    size = ROOM
     length = version_key_call(text, len(text), buffer, size)
     if length > size:
         buffer, size = ctypes.create_string_buffer(length), length

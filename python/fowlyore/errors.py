@@ -1,7 +1,7 @@
 """What is raised where a text is refused."""
 
 import unicodedata
-from typing import Optional, Type, TypeVar
+from typing import Optional, Tuple, Type, TypeVar
 
 from . import _native
 
@@ -53,7 +53,7 @@ def columns(text: str) -> int:
     return len(text) + wide - sum(map(bool, map(unicodedata.combining, text)))
 
 
-def characters(line: bytes, start: int, length: int) -> "tuple[int, int]":
+def characters(line: bytes, start: int, length: int) -> Tuple[int, int]:
     """A part of a line, given in bytes, in characters."""
     front = len(line[:start].decode("utf-8", "replace"))
     return front, front + len(line[start : start + length].decode("utf-8", "replace"))

@@ -4,7 +4,7 @@ import json
 import os
 import platform
 import sys
-from typing import Any, Dict, Mapping, Optional
+from typing import Any, Dict, List, Mapping, Optional
 
 from . import _native
 from .errors import Refused, on_one_line, refusal
@@ -134,7 +134,7 @@ class Marker:
         return holds([self], values, [extra] if extra else [])[0]
 
 
-def holds(markers: "list[Marker]", environment: Mapping[str, Any], extras: "list[str]") -> "list[bool]":
+def holds(markers: List[Marker], environment: Mapping[str, Any], extras: List[str]) -> List[bool]:
     """Whether each marker holds in an environment with extras, by one call."""
     lines = _native.encoded("".join(f"{it._given}\n" for it in markers))
     try:

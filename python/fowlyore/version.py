@@ -89,7 +89,7 @@ class Version:
             self._normal = _native.version(_native.encoded(self._given))
             return self._normal
 
-    def __reduce__(self) -> "tuple[type, tuple[str]]":
+    def __reduce__(self) -> "Tuple[type, Tuple[str]]":
         return self.__class__, (self._given,)
 
     def __hash__(self) -> int:

@@ -30,7 +30,8 @@ class Requirements(unittest.TestCase):
         self.assertIn("@ https://example.org/pip.whl;a ; python", str(it))
 
     def test_equal(self):
-        one, other = Requirement("Foo.Bar[B,a]<2,>=1 ; os_name=='nt'"), Requirement("foo_bar[A,b] (>=1.0, <2.0) ; 'nt' == os_name")
+        one = Requirement("Foo.Bar[B,a]<2,>=1 ; os_name=='nt'")
+        other = Requirement("foo_bar[A,b] (>=1.0, <2.0) ; 'nt' == os_name")
         self.assertEqual(one, other)
         self.assertEqual(hash(one), hash(other))
         for text in ("foo", "foo_bar[b]>=1,<2; os_name=='nt'", "foo_bar[a,b]>=1,<2", "foo_bar[a,b]>=1; os_name=='nt'"):
@@ -106,7 +107,8 @@ class Markers(unittest.TestCase):
         self.assertFalse(never.evaluate(WINDOWS))
 
     def test_refused(self):
-        for text in ("", "os_name", "os_name == 'nt", "no_such_key == 'a'", "os_name == 'a' os_name == 'b'", "os_name ==\n'a'"):
+        no_markers = ["", "os_name", "os_name == 'nt", "no_such_key == 'a'", "os_name == 'a' os_name == 'b'", "os_name ==\n'a'"]
+        for text in no_markers:
             with self.assertRaises(InvalidMarker, msg=text):
                 Marker(text)
         with self.assertRaises(TypeError):

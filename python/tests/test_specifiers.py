@@ -99,7 +99,8 @@ class Values(unittest.TestCase):
         self.assertEqual(str(SpecifierSet("<2, >= 1.0,")), "<2,>=1.0")
 
     def test_equal(self):
-        groups = [["==1", "==1.0", "== v1.0.0"], ["~=1.0"], ["~=1.0.0", "~= 1.0.0"], ["==1.*"], ["==1.0.*"], ["!=1"], ["===1"], ["===1.0"]]
+        alone = ["~=1.0", "==1.*", "==1.0.*", "!=1", "===1", "===1.0"]
+        groups = [["==1", "==1.0", "== v1.0.0"], ["~=1.0.0", "~= 1.0.0"], *([it] for it in alone)]
         for left, right in itertools.product(groups, repeat=2):
             for one, other in itertools.product(left, right):
                 self.assertEqual(Specifier(one) == Specifier(other), left is right, (one, other))
