@@ -11,6 +11,7 @@ are a test that fails and isn't listed, and one that is listed and doesn't fail.
 import argparse
 import collections
 import glob
+import json
 import os
 import re
 import subprocess
@@ -57,15 +58,14 @@ def outcomes(folder, library):
     paths = [os.path.join(TOP, "python"), os.path.join(source, "src"), f"{folder}/pytest/usr/lib/python3/dist-packages", HERE]
     paths += filter(None, [os.environ.get("PYTHONPATH")])
     environment = {**os.environ, "FOWLYORE_LIBRARY": library, "PYTHONPATH": os.pathsep.join(paths)}
-    environment["PYTHONDONTWRITEBYTECODE"] = "1"
-    report = os.path.join(folder, "report.txt")
-    words = ["-q", "-p", "no:cacheprovider", "-p", "in_place", "--tb=short", "-rA", "-o", "addopts=", "--rootdir", source]
-    with open(report, "w", encoding="utf-8") as file:
-        tests = [os.path.join(source, "tests", it) for it in TESTS]
+    ended = os.path.join(folder, "outcomes.json")
+    environment.update({"PYTHONDONTWRITEBYTECODE": "1", "OUTCOMES": ended})
+    words = ["-q", "-p", "no:cacheprovider", "-p", "in_place", "--tb=short", "-o", "addopts=", "--rootdir", source]
+    tests = [os.path.join(source, "tests", it) for it in TESTS]
+    with open(os.path.join(folder, "report.txt"), "w", encoding="utf-8") as file:
         subprocess.run([sys.executable, "-m", "pytest", *words, *tests], cwd=folder, env=environment, stdout=file, stderr=file)
-    with open(report, encoding="utf-8", errors="surrogateescape") as file:
-        lines = re.findall(r"^(PASSED|FAILED|ERROR) \S*?(test_\w+\.py(?:::.*?)?)(?: - .*)?$", file.read(), re.M)
-    return {name: outcome == "PASSED" for outcome, name in lines}
+    with open(ended, encoding="utf-8") as file:
+        return {name.split("tests/", 1)[1]: passed for name, passed in json.load(file).items()}
 
 
 def differences():
