@@ -1,18 +1,18 @@
 """The C library `libreqs`, by ctypes: bytes go in, and bytes or a `Fault` come out. It keeps nothing between calls.
 
-Short calls hold the interpreter's lock, since letting go of it costs as much as they do; calls on lists let go of it.
+Calls on one version or specifier hold the interpreter's lock, since letting go of it costs as much as they do; all others let
+go of it.
 """
 
 import ctypes
 import os
-import threading
 from typing import Any, List, NamedTuple, Optional, Tuple
 
 ABI = 1
 ANSWERED, DIFFERENT, REFUSED, MEMORY = 0, 1, 2, 3
 # What `reqs_version_key` gives in place of a length.
 KEY_REFUSED = -2
-# The bytes of a thread's buffer, which nearly every answer about one text fits.
+# The bytes of a buffer, which nearly every answer about one text fits.
 ROOM = 4096
 
 
@@ -41,12 +41,15 @@ class Fault(Exception):
         self.length: int = reply.len
 
 
-class Room(threading.local):
-    """A buffer for each thread, so that no thread reads another one's answer."""
+# Buffers of ROOM bytes that no call uses. Each call takes one and gives it back once its answer is read, so that no other
+# thread, and nothing that runs in this one meanwhile, as a signal's handler, writes over that.
+_free: List[Any] = []
+take_buffer, give_buffer = _free.pop, _free.append
 
-    def __init__(self) -> None:
-        # (whose slices are bytes, which its type doesn't say)
-        self.buffer: Any = ctypes.create_string_buffer(ROOM)
+
+def new_buffer() -> Any:
+    """Another buffer, where none is free. Its slices are bytes."""
+    return ctypes.create_string_buffer(ROOM)
 
 
 def path() -> str:
@@ -77,14 +80,13 @@ def _declare(library: Any, name: str, result: Any, texts: int, limit: bool = Fal
 if _declare(_short, "reqs_abi", ctypes.c_uint32, 0, out=False)() != ABI:
     raise ImportError(f"{path()} has another interface than fowlyore wants", name="fowlyore", path=path())
 
-room = Room()
 version_key_call = _declare(_short, "reqs_version_key", ctypes.c_int64, 1)
 _version = _declare(_short, "reqs_version", Reply, 1)
 _specifiers = _declare(_short, "reqs_specifiers", Reply, 1)
 _take_one = _declare(_short, "reqs_specifiers_take", Reply, 2)
 _take = _declare(_long, "reqs_specifiers_take", Reply, 2)
-_requirement = _declare(_short, "reqs_requirement", Reply, 1)
-_marker = _declare(_short, "reqs_marker", Reply, 1)
+_requirement = _declare(_long, "reqs_requirement", Reply, 1)
+_marker = _declare(_long, "reqs_marker", Reply, 1)
 _markers_hold = _declare(_long, "reqs_markers_hold", Reply, 3)
 _check = _declare(_long, "reqs_check", Reply, 4)
 _matrix = _declare(_long, "reqs_matrix", Reply, 4, limit=True)
@@ -108,21 +110,27 @@ def _ask(call: Any, texts: Tuple[bytes, ...], limit: Optional[int] = None, size:
         words += (text, len(text))
     if limit is not None:
         words.append(limit)
-    buffer: Any = room.buffer if size <= ROOM else ctypes.create_string_buffer(size)
-    size = max(size, ROOM)
-    reply = call(*words, buffer, size)
-    if reply.length > size:
+    if size <= ROOM:
+        try:
+            buffer = take_buffer()
+        except IndexError:
+            buffer = new_buffer()
+        reply = call(*words, buffer, ROOM)
+        answer = buffer[: reply.length]
+        give_buffer(buffer)
+        if reply.length <= ROOM:
+            return reply, answer
         size = reply.length
-        buffer = ctypes.create_string_buffer(size)
-        reply = call(*words, buffer, size)
-    if reply.status == MEMORY:
-        raise MemoryError("libreqs")
-    return reply, buffer[: reply.length]
+    buffer = ctypes.create_string_buffer(size)
+    reply = call(*words, buffer, size)
+    return (reply, buffer[: reply.length]) if reply.length <= size else _ask(call, texts, limit, reply.length)
 
 
 def _answer(call: Any, *texts: bytes, limit: Optional[int] = None, size: int = ROOM) -> bytes:
     """What a call answers."""
     reply, text = _ask(call, texts, limit, size)
+    if reply.status == MEMORY:
+        raise MemoryError("libreqs")
     if reply.status == REFUSED:
         raise Fault(text.decode("utf-8", "replace"), reply)
     return text
@@ -133,19 +141,17 @@ def _size_for(*texts: bytes) -> int:
     return ROOM + 2 * sum(map(len, texts))
 
 
-def version_key(text: bytes) -> Optional[bytes]:
-    """A version's key, or nothing where the text is none. `Version` has the same in its own lines, without this call."""
-    buffer: Any = room.buffer
-    size = ROOM
-    length = version_key_call(text, len(text), buffer, size)
-    if length > size:
-        buffer, size = ctypes.create_string_buffer(length), length
-        length = version_key_call(text, len(text), buffer, size)
-    if length >= 0:
-        return bytes(buffer[:length])
+def long_version_key(text: bytes) -> Optional[bytes]:
+    """A version's key that a buffer may be too short for, or nothing where the text is none. `Version` reads others itself."""
+    length = version_key_call(text, len(text), None, 0)
     if length == KEY_REFUSED:
         return None
-    raise MemoryError("libreqs")
+    if length < 0:
+        raise MemoryError("libreqs")
+    buffer: Any = ctypes.create_string_buffer(length)
+    if version_key_call(text, len(text), buffer, length) != length:
+        raise MemoryError("libreqs")
+    return bytes(buffer[:length])
 
 
 def version(text: bytes) -> str:

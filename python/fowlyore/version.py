@@ -8,7 +8,8 @@ from .errors import Refused, refusal
 
 __all__ = ["InvalidVersion", "Version", "parse"]
 
-_key_of, _room, _SIZE = _native.version_key_call, _native.room, _native.ROOM
+_key_of, _SIZE = _native.version_key_call, _native.ROOM
+_take_buffer, _give_buffer = _native.take_buffer, _native.give_buffer
 # The parts of a version's normal text.
 _PARTS = re.compile(
     r"(?:(\d+)!)?(\d+(?:\.\d+)*)(?:(a|b|rc)(\d+))?(?:\.post(\d+))?(?:\.dev(\d+))?(?:\+(.+))?", re.ASCII
@@ -69,11 +70,15 @@ class Version:
             text = version.encode()
         except (AttributeError, UnicodeEncodeError):
             text = _bytes_of(version)
-        # (as _native.version_key, whose call would cost as much as the library's)
-        buffer = _room.buffer
+        # (in these lines, since another call would cost as much as the library's)
+        try:
+            buffer = _take_buffer()
+        except IndexError:
+            buffer = _native.new_buffer()
         length = _key_of(text, len(text), buffer, _SIZE)
         if 0 <= length <= _SIZE:
             self._key = buffer[:length]
+            _give_buffer(buffer)
         else:
             self._key = _long_key(version, text)
         self._given = version
@@ -220,8 +225,8 @@ def _bytes_of(version: object) -> bytes:
 
 
 def _long_key(version: str, text: bytes) -> bytes:
-    """The key of a version for which the thread's buffer is too short, or the refusal of what is none."""
-    key = _native.version_key(text)
+    """The key of a version for which a buffer is too short, or the refusal of what is none."""
+    key = _native.long_version_key(text)
     if key is not None:
         return key
     try:

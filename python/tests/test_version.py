@@ -3,6 +3,7 @@
 import copy
 import itertools
 import pickle
+import sys
 import threading
 import unittest
 
@@ -113,7 +114,24 @@ class Values(unittest.TestCase):
         self.assertEqual(Version(text).release, tuple(numbers))
         self.assertLess(Version(text), Version(text + ".1"))
 
-    def test_threads_have_buffers_of_their_own(self):
+    def test_versions_made_while_one_is_made(self):
+        """As by a signal's handler, between any two lines."""
+
+        def trace(frame, event, argument):
+            Version("9.9.9.dev9+other.9")
+            return trace
+
+        before = sys.gettrace()
+        sys.settrace(trace)
+        try:
+            versions = [Version(it) for it in RISING]
+            texts = [str(it) for it in versions]
+        finally:
+            sys.settrace(before)
+        self.assertEqual([it._key for it in versions], [Version(it)._key for it in RISING])
+        self.assertEqual(texts, [str(Version(it)) for it in RISING])
+
+    def test_threads(self):
         wrong = []
 
         def compare(number):
