@@ -143,13 +143,14 @@ def _size_for(*texts: bytes) -> int:
 
 def long_version_key(text: bytes) -> Optional[bytes]:
     """A version's key that a buffer may be too short for, or nothing where the text is none. `Version` reads others itself."""
-    length = version_key_call(text, len(text), None, 0)
+    buffer = new_buffer()
+    length = version_key_call(text, len(text), buffer, ROOM)
+    if length > ROOM:
+        buffer = ctypes.create_string_buffer(length)
+        length = version_key_call(text, len(text), buffer, length)
     if length == KEY_REFUSED:
         return None
     if length < 0:
-        raise MemoryError("libreqs")
-    buffer: Any = ctypes.create_string_buffer(length)
-    if version_key_call(text, len(text), buffer, length) != length:
         raise MemoryError("libreqs")
     return bytes(buffer[:length])
 
