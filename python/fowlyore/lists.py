@@ -35,6 +35,8 @@ Candidates = Union[
 Extras = Union[str, Iterable[str]]
 Answer = TypeVar("Answer")
 
+# A text that is meant as a path, most likely, though a package could have such a name.
+_PATH = re.compile(r"\S+\.(txt|in|json|toml)")
 _ROW = re.compile(r"([^ \[]+)(?:\[([^\]]*)\])? (.*)")
 
 
@@ -132,6 +134,8 @@ def as_bytes(name: str, given: Any, otherwise: Callable[[Any], str]) -> Input:
 
 
 def requirements_input(given: Requirements, name: str = "requirements") -> Input:
+    if isinstance(given, str) and _PATH.fullmatch(given):
+        raise InvalidInput(f"{name}: {given!r} is read as a list's text: give a pathlib.Path for a file", input=name)
     return as_bytes(name, given, lambda lines: "".join(f"{str(it).rstrip()}\n" for it in lines))
 
 

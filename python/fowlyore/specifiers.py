@@ -44,12 +44,20 @@ def _takes(specifiers: bytes, version: UnparsedVersion) -> bool:
 
 def _taken(specifiers: bytes, versions: List[UnparsedVersionVar]) -> List[UnparsedVersionVar]:
     """The versions that are taken, in their order, by one call."""
-    texts = map(text_of, versions)
-    answers = _native.take(specifiers, _native.encoded("".join(f"{it}\n" for it in texts)))
+    answers = _native.take(specifiers, _native.encoded(_lines(versions)))
     at = answers.find(b"?")
     if at >= 0:
         raise _invalid(versions[at])
     return [it for it, answer in zip(versions, answers) if answer == ord("1")]
+
+
+def _lines(versions: List[UnparsedVersionVar]) -> str:
+    """The versions' texts, one a line. Where all are texts, and none has a line feed, they are that as they are."""
+    if all(type(it) is str for it in versions):
+        lines = "\n".join([*versions, ""])  # type: ignore[list-item]
+        if lines.count("\n") == len(versions):
+            return lines
+    return "".join(f"{text_of(it)}\n" for it in versions)
 
 
 def _invalid(version: UnparsedVersion) -> InvalidVersion:

@@ -119,6 +119,10 @@ class Refusals(unittest.TestCase):
     def test_no_text(self):
         self.assertEqual(self.refused(fowlyore.normal, b"a\n\xff\n").input, "requirements")
 
+    def test_a_path_that_is_no_path(self):
+        self.assertIn("pathlib.Path", str(self.refused(fowlyore.check, "requirements.txt", candidates="")))
+        self.assertEqual(printed(fowlyore.check(b"requirements.txt", candidates="")), "requirements-txt none\n")
+
     def test_no_file(self):
         with self.assertRaises(FileNotFoundError):
             fowlyore.normal(pathlib.Path("/no/such/file"))
