@@ -1,0 +1,86 @@
+#!/usr/bin/env python3
+"""Times the Python package fowlyore beside packaging: the installed one, or else the copy inside pip.
+
+    python_package.py [LIBRARY]
+
+LIBRARY is libreqs.so, which `./build reqs_c` makes. Each time is the least of several runs, in microseconds for one operation, and
+the last column tells how many times as long packaging takes.
+"""
+
+import os
+import random
+import sys
+import timeit
+
+TOP = os.path.dirname(os.path.dirname(os.path.abspath(__file__)))
+os.environ["FOWLYORE_LIBRARY"] = (sys.argv[1:] or [os.path.join(TOP, "crates", "reqs_c", "out", "libreqs.so")])[0]
+sys.path.insert(0, os.path.join(TOP, "python"))
+
+import fowlyore  # noqa: E402
+
+try:
+    import packaging
+    from packaging.requirements import Requirement
+    from packaging.specifiers import SpecifierSet
+    from packaging.version import Version
+except ImportError:
+    import pip._vendor.packaging as packaging
+    from pip._vendor.packaging.requirements import Requirement
+    from pip._vendor.packaging.specifiers import SpecifierSet
+    from pip._vendor.packaging.version import Version
+
+TEXTS = ["1.0", "2.31.0", "2024.1.0.dev3", "1.0a1", "1!2.3.post4+ubuntu.1"]
+LINE = "requests[socks]>=2.8.1,<3 ; python_version < '3.13' and extra == 'test'"
+MANY = 100_000
+RUNS = 7
+
+
+def random_texts(count):
+    """Versions as an index has them: one in ten is a pre-release or a post-release."""
+    chosen = random.Random(1)
+    tails = ["rc1", "a2", ".post1", ".dev3", "b1"]
+    for _ in range(count):
+        numbers = ".".join(str(chosen.randrange(30)) for _ in range(chosen.randrange(2, 5)))
+        yield numbers + (chosen.choice(tails) if chosen.random() < 0.1 else "")
+
+
+def least(call, times, of_each=1):
+    """Microseconds for one of the operations of which a call has `of_each`."""
+    return min(timeit.repeat(call, number=times, repeat=RUNS)) / times / of_each * 1e6
+
+
+def row(name, ours, theirs):
+    print(f"{name:44} {ours:10.3f} {theirs:10.3f} {theirs / ours:7.1f}")
+
+
+def small():
+    for text in TEXTS:
+        row(f"Version({text!r})", *(least(lambda: make(text), 20_000) for make in (fowlyore.Version, Version)))
+    nothing = least(lambda: None, 200_000)
+    pairs = [(make("2.31.0"), make("2.32.0")) for make in (fowlyore.Version, Version)]
+    row("one < other", *(least(lambda: one < other, 200_000) - nothing for one, other in pairs))
+    row("str(Version(..))", *(least(lambda: str(make("2.31.0")), 20_000) for make in (fowlyore.Version, Version)))
+    row("SpecifierSet('>=1.0,<3')", *(least(lambda: make(">=1.0,<3"), 5_000) for make in (fowlyore.SpecifierSet, SpecifierSet)))
+    sets = [make(">=1.0,<3") for make in (fowlyore.SpecifierSet, SpecifierSet)]
+    row("contains('2.31.0')", *(least(lambda: it.contains("2.31.0"), 5_000) for it in sets))
+    row("Requirement(..)", *(least(lambda: make(LINE), 1_000) for make in (fowlyore.Requirement, Requirement)))
+    markers = [make(LINE).marker for make in (fowlyore.Requirement, Requirement)]
+    row("marker.evaluate()", *(least(it.evaluate, 1_000) for it in markers))
+
+
+def large():
+    texts = list(random_texts(MANY))
+    sets = [make(">=1.0,!=4.2,<20") for make in (fowlyore.SpecifierSet, SpecifierSet)]
+    if [list(it.filter(texts)) for it in sets][0] != list(sets[1].filter(texts)):
+        sys.exit("python_package.py: the two filter differently")
+    row(f"filter of {MANY} texts, for one", *(least(lambda: list(it.filter(texts)), 1, MANY) for it in sets))
+    versions = [[make(text) for text in texts] for make in (fowlyore.Version, Version)]
+    of_versions = (least(lambda: list(it.filter(those)), 1, MANY) for it, those in zip(sets, versions))
+    row(f"filter of {MANY} versions, for one", *of_versions)
+    row(f"sorted, {MANY} versions, for one", *(least(lambda: sorted(those), 1, MANY) for those in versions))
+
+
+if __name__ == "__main__":
+    print(f"{'':44} {'fowlyore':>10} {'packaging':>10} {'times':>7}   packaging {packaging.__version__}, Python {sys.version.split()[0]}")
+    small()
+    large()

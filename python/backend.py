@@ -1,0 +1,116 @@
+"""Makes the wheel of the package fowlyore (PEP 517), of the files of this tree and Python's own library alone.
+
+The library is the one that `./build reqs_c` has proved and made, or the file that REQS_LIBRARY names.
+"""
+
+import base64
+import hashlib
+import os
+import re
+import subprocess
+import zipfile
+
+HERE = os.path.dirname(os.path.abspath(__file__))
+TOP = os.path.dirname(HERE)
+NAME = "fowlyore"
+# It is called by ctypes, so any Python 3 will do; manylinux_2_17 has the C library of 2012.
+GLIBC = (2, 17)
+TAG = "py3-none-manylinux_2_17_x86_64"
+SUMMARY = "Judges lists of Python requirements, and compares them (PEP 440, PEP 508), by a library whose answers are proved"
+METADATA = """Metadata-Version: 2.1
+Name: {name}
+Version: {version}
+Summary: {summary}
+License: Apache-2.0 OR BSD-2-Clause
+License-File: LICENSE-APACHE
+License-File: LICENSE-BSD
+Requires-Python: >=3.8
+Operating System: POSIX :: Linux
+Description-Content-Type: text/markdown
+
+{description}"""
+
+
+class UnsupportedOperation(Exception):
+    """What PEP 517 names so."""
+
+
+def read(*path):
+    with open(os.path.join(TOP, *path), "rb") as file:
+        return file.read()
+
+
+def version():
+    return re.search(r'^__version__ = "(.*)"$', read("python", NAME, "__init__.py").decode(), re.M)[1]
+
+
+def library():
+    """The bytes of the shared library, which has to run with the C library that the tag promises."""
+    path = os.environ.get("REQS_LIBRARY")
+    if not path:
+        subprocess.run([os.path.join(TOP, "build"), "reqs_c"], check=True, cwd=TOP, stdin=subprocess.DEVNULL)
+        path = os.path.join(TOP, "crates", "reqs_c", "out", "libreqs.so")
+    data = read(path)
+    wanted = [tuple(map(int, it)) for it in re.findall(rb"\0GLIBC_(\d+)\.(\d+)", data)]
+    if any(it > GLIBC for it in wanted):
+        raise RuntimeError(f"{path} wants glibc {max(wanted)}, and the tag {TAG} promises {GLIBC}")
+    return data
+
+
+def information():
+    """The files of the folder dist-info but RECORD."""
+    said = {"name": NAME, "version": version(), "summary": SUMMARY, "description": read("docs", "PYTHON.md").decode()}
+    return {
+        "METADATA": METADATA.format(**said).encode(),
+        "WHEEL": f"Wheel-Version: 1.0\nGenerator: {NAME}\nRoot-Is-Purelib: false\nTag: {TAG}\n".encode(),
+        "entry_points.txt": f"[console_scripts]\n{NAME} = {NAME}.__main__:main\n".encode(),
+        "LICENSE-APACHE": read("LICENSE-APACHE"),
+        "LICENSE-BSD": read("LICENSE-BSD"),
+    }
+
+
+def files():
+    """Each file of the wheel but RECORD, by its path."""
+    folder = os.path.join(HERE, NAME)
+    names = sorted(it for it in os.listdir(folder) if it.endswith(".py") or it == "py.typed")
+    yield from ((f"{NAME}/{it}", read("python", NAME, it)) for it in names)
+    yield f"{NAME}/libreqs.so", library()
+    yield from ((f"{NAME}-{version()}.dist-info/{name}", data) for name, data in information().items())
+
+
+def build_wheel(wheel_directory, config_settings=None, metadata_directory=None):
+    name = f"{NAME}-{version()}-{TAG}.whl"
+    records = []
+    with zipfile.ZipFile(os.path.join(wheel_directory, name), "w") as wheel:
+
+        def write(path, data):
+            # (always the same date, so that the same files make the same wheel)
+            info = zipfile.ZipInfo(path, (1980, 1, 1, 0, 0, 0))
+            info.external_attr = (0o100755 if path.endswith(".so") else 0o100644) << 16
+            info.compress_type = zipfile.ZIP_DEFLATED
+            wheel.writestr(info, data)
+
+        for path, data in files():
+            write(path, data)
+            digest = base64.urlsafe_b64encode(hashlib.sha256(data).digest()).rstrip(b"=").decode()
+            records.append(f"{path},sha256={digest},{len(data)}\n")
+        record = f"{NAME}-{version()}.dist-info/RECORD"
+        write(record, "".join([*records, f"{record},,\n"]).encode())
+    return name
+
+
+def prepare_metadata_for_build_wheel(metadata_directory, config_settings=None):
+    folder = f"{NAME}-{version()}.dist-info"
+    os.makedirs(os.path.join(metadata_directory, folder))
+    for name, data in information().items():
+        with open(os.path.join(metadata_directory, folder, name), "wb") as file:
+            file.write(data)
+    return folder
+
+
+def get_requires_for_build_wheel(config_settings=None):
+    return []
+
+
+def build_sdist(sdist_directory, config_settings=None):
+    raise UnsupportedOperation("the library is proved where the toolchain is: take the wheel, or a clone of the repository")

@@ -1,0 +1,44 @@
+"""Judges lists of Python requirements, and compares them (PEP 440, PEP 508), by a library whose answers are proved.
+
+>>> import fowlyore
+>>> fowlyore.check(["numpy>=1.26", "numpy<2"], candidates={"numpy": ["1.26.4", "2.0"]})
+[Row(name='numpy', extras=(), outcome='1.26.4')]
+>>> max(map(fowlyore.Version, ["1.0", "1.0.post1", "1.0rc1"]))
+<Version('1.0.post1')>
+"""
+
+from .errors import Refused
+from .distributions import installed
+from .lists import Comparison, Conflict, InvalidInput, Row, check, conflicts, matrix, normal, same
+from .markers import InvalidMarker, Marker, UndefinedComparison, UndefinedEnvironmentName, default_environment
+from .requirements import InvalidRequirement, Requirement
+from .specifiers import InvalidSpecifier, Specifier, SpecifierSet
+from .version import InvalidVersion, Version, parse
+
+__version__ = "0.1.0"
+__all__ = [
+    "Comparison",
+    "Conflict",
+    "InvalidInput",
+    "InvalidMarker",
+    "InvalidRequirement",
+    "InvalidSpecifier",
+    "InvalidVersion",
+    "Marker",
+    "Refused",
+    "Requirement",
+    "Row",
+    "Specifier",
+    "SpecifierSet",
+    "UndefinedComparison",
+    "UndefinedEnvironmentName",
+    "Version",
+    "check",
+    "conflicts",
+    "default_environment",
+    "installed",
+    "matrix",
+    "normal",
+    "parse",
+    "same",
+]

@@ -1,0 +1,171 @@
+"""The command line: `python -m fowlyore`, or `fowlyore` where the package is installed."""
+
+import argparse
+import os
+import sys
+from pathlib import Path
+from typing import Any, Dict, List, Optional, Union
+
+from . import __version__
+from .distributions import installed
+from .explanations import explain
+from .lists import LIMIT, InvalidInput, check, conflicts, matrix, normal, same
+from .markers import completed
+
+ANSWERED, DIFFERENT, REFUSED, NOT_READ, STRICT = range(5)
+Source = Union[Path, bytes]
+
+STATUSES = """exit status: 0 after an answer, 1 where `same` said no, 2 where an input or the command line is refused, 3 where
+memory ran out or a file can't be read or written, and 4 where a row is none with --strict. FILE may be `-` once, for standard
+input. A list has a requirement (PEP 508) a line; options of pip, as -r or --hash, are refused."""
+
+
+def source(word: str) -> Source:
+    """An input: the bytes of standard input, or a path."""
+    return sys.stdin.buffer.read() if word == "-" else Path(word)
+
+
+def parser() -> argparse.ArgumentParser:
+    about = "Judges lists of Python requirements, and compares them. The answers are those of a proved library."
+    words = argparse.ArgumentParser(prog="fowlyore", description=about, epilog=STATUSES)
+    words.add_argument("--version", action="version", version=f"fowlyore {__version__}")
+    commands = words.add_subparsers(dest="command", metavar="COMMAND", required=True)
+    add_check(commands)
+    add_matrix(commands)
+    it = add(commands, "same", "print whether two lists require the same everywhere, or where they first differ", limit=True)
+    it.add_argument("left", metavar="OLD", help="a list")
+    it.add_argument("right", metavar="NEW", help="another list")
+    it = add(commands, "conflicts", "print the lines of a list that contradict each other in some environment", limit=True)
+    it.add_argument("requirements", metavar="FILE", help="the list")
+    it = add(commands, "normal", "print a list in its one normal form")
+    it.add_argument("requirements", metavar="FILE", help="the list")
+    return words
+
+
+def add(commands: Any, name: str, about: str, limit: bool = False) -> argparse.ArgumentParser:
+    it: argparse.ArgumentParser = commands.add_parser(name, help=about, description=f"{about[0].upper()}{about[1:]}.")
+    if limit:
+        of_limit = "how many cases a package may have, which are sets of its lines that apply together (%(default)s)"
+        it.add_argument("--limit", type=int, default=LIMIT, metavar="N", help=of_limit)
+    return it
+
+
+def add_check(commands: Any) -> None:
+    about = "print the greatest candidate of each package that a list asks for, or none, or direct for a URL"
+    it = add(commands, "check", about)
+    it.add_argument("requirements", metavar="FILE", help="the list")
+    environment = it.add_mutually_exclusive_group()
+    of_values = "a file of all values for markers (else this interpreter's)"
+    environment.add_argument("--environment", metavar="JSON", help=of_values)
+    environment.add_argument("--python-version", metavar="VERSION", help="this interpreter's values, but of another version")
+    add_candidates(it)
+    it.add_argument("--explain", action="store_true", help="say below each none which line refuses the greatest candidates")
+    it.add_argument("--strict", action="store_true", help="status 4 where a row is none")
+
+
+def add_matrix(commands: Any) -> None:
+    it = add(commands, "matrix", "print for each of some environments what check prints for it", limit=True)
+    it.add_argument("requirements", metavar="FILE", help="the list")
+    it.add_argument("environments", metavar="JSON", help="a file of a list of environments")
+    add_candidates(it)
+    it.add_argument("--strict", action="store_true", help="status 4 where a row is none")
+
+
+def add_candidates(it: argparse.ArgumentParser) -> None:
+    of_file = "a file with a name and a version a line (else what is installed for this interpreter)"
+    it.add_argument("--candidates", metavar="FILE", help=of_file)
+    it.add_argument("--extra", action="append", default=[], metavar="NAME", help="an extra that is asked for; may be repeated")
+
+
+def candidates_of(words: argparse.Namespace) -> Any:
+    """The candidates that are named, or those that are installed; what of these is no candidate is told."""
+    if words.candidates is not None:
+        return source(words.candidates)
+    left_out: List[str] = []
+    found = installed(left_out)
+    for it in left_out:
+        print(f"fowlyore: {it} is installed and left out: a name or version that can't be read", file=sys.stderr)
+    return found
+
+
+def environment_of(words: argparse.Namespace) -> Any:
+    if words.environment is not None:
+        return source(words.environment)
+    given: Dict[str, str] = {}
+    if words.python_version is not None:
+        given["python_version"] = words.python_version
+    return completed(given)
+
+
+def run_check(words: argparse.Namespace) -> int:
+    requirements = source(words.requirements)
+    inputs = (requirements, environment_of(words), candidates_of(words), words.extra)
+    rows = check(*inputs)
+    why = {it.name: it for it in explain(*inputs)} if words.explain else {}
+    for row in rows:
+        print(row)
+        if row.name in why:
+            print(f"    {why[row.name]}")
+    return STRICT if words.strict and any(it.is_none for it in rows) else ANSWERED
+
+
+def run_matrix(words: argparse.Namespace) -> int:
+    inputs = (source(words.requirements), source(words.environments), candidates_of(words), words.extra)
+    answers = matrix(*inputs, limit=words.limit)
+    for number, rows in enumerate(answers, 1):
+        print(f"env {number}", *rows, sep="\n")
+    return STRICT if words.strict and any(it.is_none for rows in answers for it in rows) else ANSWERED
+
+
+def run_same(words: argparse.Namespace) -> int:
+    answer = same(source(words.left), source(words.right), words.limit)
+    print(answer)
+    return ANSWERED if answer else DIFFERENT
+
+
+def run_conflicts(words: argparse.Namespace) -> int:
+    for it in conflicts(source(words.requirements), words.limit):
+        print(it)
+    return ANSWERED
+
+
+def run_normal(words: argparse.Namespace) -> int:
+    for it in normal(source(words.requirements)):
+        print(it)
+    return ANSWERED
+
+
+RUNS = {"check": run_check, "matrix": run_matrix, "same": run_same, "conflicts": run_conflicts, "normal": run_normal}
+
+
+def told(error: InvalidInput) -> str:
+    """What is wrong with an input, by the name of its file."""
+    message = str(error)
+    front = f"{error.input}: "
+    return f"{error.path}: {message[len(front):]}" if error.path and message.startswith(front) else message
+
+
+def main(words: Optional[List[str]] = None) -> int:
+    """Runs a command, and gives its exit status."""
+    asked = parser().parse_args(words)
+    try:
+        status = RUNS[asked.command](asked)
+        sys.stdout.flush()
+        return status
+    except InvalidInput as error:
+        print(f"fowlyore: {told(error)}", file=sys.stderr)
+        return REFUSED
+    except BrokenPipeError:
+        # (so that nothing is written to it when the interpreter ends)
+        os.dup2(os.open(os.devnull, os.O_WRONLY), sys.stdout.fileno())
+        return NOT_READ
+    except OSError as error:
+        print(f"fowlyore: {error.filename}: {error.strerror}" if error.filename else f"fowlyore: {error}", file=sys.stderr)
+        return NOT_READ
+    except MemoryError:
+        print("fowlyore: memory ran out", file=sys.stderr)
+        return NOT_READ
+
+
+if __name__ == "__main__":
+    sys.exit(main())

@@ -1,0 +1,227 @@
+"""The C library `libreqs`, by ctypes: bytes go in, and bytes or a `Fault` come out. It keeps nothing between calls.
+
+Calls on one version or specifier hold the interpreter's lock, since letting go of it costs as much as they do; all others let
+go of it.
+"""
+
+import ctypes
+import os
+from typing import Any, List, NamedTuple, Optional, Tuple
+
+ABI = 1
+ANSWERED, DIFFERENT, REFUSED, MEMORY = 0, 1, 2, 3
+# What `reqs_version_key` gives in place of a length.
+KEY_REFUSED = -2
+# The bytes of a buffer, which nearly every answer about one text fits.
+ROOM = 4096
+
+
+class Reply(ctypes.Structure):
+    """`reqs_reply` of reqs.h."""
+
+    _fields_ = [
+        ("status", ctypes.c_uint32),
+        ("input", ctypes.c_uint32),
+        ("length", ctypes.c_size_t),
+        ("line", ctypes.c_size_t),
+        ("start", ctypes.c_size_t),
+        ("len", ctypes.c_size_t),
+    ]
+
+
+class Fault(Exception):
+    """A call that was refused: why, which input by its number, and where, in bytes of the line."""
+
+    def __init__(self, message: str, reply: Reply) -> None:
+        super().__init__(message)
+        self.message = message
+        self.input: int = reply.input
+        self.line: int = reply.line
+        self.start: int = reply.start
+        self.length: int = reply.len
+
+
+# Buffers of ROOM bytes that no call uses. Each call takes one and gives it back once its answer is read, so that no other
+# thread, and nothing that runs in this one meanwhile, as a signal's handler, writes over that.
+_free: List[Any] = []
+take_buffer, give_buffer = _free.pop, _free.append
+
+
+def new_buffer() -> Any:
+    """Another buffer, where none is free. Its slices are bytes."""
+    return ctypes.create_string_buffer(ROOM)
+
+
+def path() -> str:
+    """Where the library lies: beside this module, unless FOWLYORE_LIBRARY names another one."""
+    beside = os.path.join(os.path.dirname(os.path.abspath(__file__)), "libreqs.so")
+    return os.environ.get("FOWLYORE_LIBRARY") or beside
+
+
+def _load(kind: Any) -> Any:
+    try:
+        return kind(path())
+    except OSError as error:
+        raise ImportError(f"fowlyore can't load its library: {error}", name="fowlyore", path=path()) from error
+
+
+_short, _long = _load(ctypes.PyDLL), _load(ctypes.CDLL)
+
+
+def _declare(library: Any, name: str, result: Any, texts: int, limit: bool = False, out: bool = True) -> Any:
+    """A function of the library with its types. Bytes are handed over as they are, without a copy."""
+    call = library[name]
+    call.restype = result
+    call.argtypes = [ctypes.c_char_p, ctypes.c_size_t] * texts
+    call.argtypes += [ctypes.c_uint64] * limit + [ctypes.c_void_p, ctypes.c_size_t] * out
+    return call
+
+
+if _declare(_short, "reqs_abi", ctypes.c_uint32, 0, out=False)() != ABI:
+    raise ImportError(f"{path()} has another interface than fowlyore wants", name="fowlyore", path=path())
+
+version_key_call = _declare(_short, "reqs_version_key", ctypes.c_int64, 1)
+_version = _declare(_short, "reqs_version", Reply, 1)
+_specifiers = _declare(_short, "reqs_specifiers", Reply, 1)
+_take_one = _declare(_short, "reqs_specifiers_take", Reply, 2)
+_take = _declare(_long, "reqs_specifiers_take", Reply, 2)
+_requirement = _declare(_long, "reqs_requirement", Reply, 1)
+_marker = _declare(_long, "reqs_marker", Reply, 1)
+_markers_hold = _declare(_long, "reqs_markers_hold", Reply, 3)
+_check = _declare(_long, "reqs_check", Reply, 4)
+_matrix = _declare(_long, "reqs_matrix", Reply, 4, limit=True)
+_same = _declare(_long, "reqs_same", Reply, 2, limit=True)
+_conflicts = _declare(_long, "reqs_conflicts", Reply, 1, limit=True)
+_normal = _declare(_long, "reqs_normal", Reply, 1)
+
+
+def encoded(text: str) -> bytes:
+    """UTF-8, but that a lone surrogate is written too: the library then says that this is no text."""
+    try:
+        return text.encode()
+    except UnicodeEncodeError:
+        return text.encode("utf-8", "surrogatepass")
+
+
+def _ask(call: Any, texts: Tuple[bytes, ...], limit: Optional[int] = None, size: int = ROOM) -> Tuple[Reply, bytes]:
+    """The reply of a call and its whole text; asked again with more room where `size` was too little."""
+    words: List[Any] = []
+    for text in texts:
+        words += (text, len(text))
+    if limit is not None:
+        words.append(limit)
+    if size <= ROOM:
+        try:
+            buffer = take_buffer()
+        except IndexError:
+            buffer = new_buffer()
+        reply = call(*words, buffer, ROOM)
+        answer = buffer[: reply.length]
+        give_buffer(buffer)
+        if reply.length <= ROOM:
+            return reply, answer
+        size = reply.length
+    buffer = ctypes.create_string_buffer(size)
+    reply = call(*words, buffer, size)
+    return (reply, buffer[: reply.length]) if reply.length <= size else _ask(call, texts, limit, reply.length)
+
+
+def _answer(call: Any, *texts: bytes, limit: Optional[int] = None, size: int = ROOM) -> bytes:
+    """What a call answers."""
+    reply, text = _ask(call, texts, limit, size)
+    if reply.status == MEMORY:
+        raise MemoryError("libreqs")
+    if reply.status == REFUSED:
+        raise Fault(text.decode("utf-8", "replace"), reply)
+    return text
+
+
+def _size_for(*texts: bytes) -> int:
+    """Room that is enough for most answers about lists."""
+    return ROOM + 2 * sum(map(len, texts))
+
+
+def long_version_key(text: bytes) -> Optional[bytes]:
+    """A version's key that a buffer may be too short for, or nothing where the text is none. `Version` reads others itself."""
+    buffer = new_buffer()
+    length = version_key_call(text, len(text), buffer, ROOM)
+    if length > ROOM:
+        buffer = ctypes.create_string_buffer(length)
+        length = version_key_call(text, len(text), buffer, length)
+    if length == KEY_REFUSED:
+        return None
+    if length < 0:
+        raise MemoryError("libreqs")
+    return bytes(buffer[:length])
+
+
+def version(text: bytes) -> str:
+    """A version's normal text."""
+    return _answer(_version, text).decode()
+
+
+def specifiers(text: bytes) -> List[str]:
+    """The texts of a list's members."""
+    return _answer(_specifiers, text).decode().splitlines()
+
+
+def take_one(specifiers: bytes, version: bytes) -> bytes:
+    """`1` where the list takes the version, `0` where it doesn't, `?` where that is no version."""
+    return _answer(_take_one, specifiers, version + b"\n")
+
+
+def take(specifiers: bytes, versions: bytes) -> bytes:
+    """The same for each line of `versions`."""
+    return _answer(_take, specifiers, versions, size=len(versions))
+
+
+class RequirementParts(NamedTuple):
+    """A requirement's parts: normal names, extras and specifiers with commas between them; empty where there are none."""
+
+    name: str
+    extras: str
+    specifiers: str
+    url: str
+    marker: str
+
+
+def requirement(text: bytes) -> RequirementParts:
+    """A requirement's parts."""
+    return RequirementParts(*_answer(_requirement, text).decode().split("\n", 4))
+
+
+def marker(text: bytes) -> str:
+    """A marker's normal text, which is empty where it always holds."""
+    return _answer(_marker, text).decode()
+
+
+def markers_hold(markers: bytes, environment: bytes, extras: bytes) -> bytes:
+    """For each line of `markers` `1` where it holds, `0` where it doesn't, `?` where it is no marker."""
+    return _answer(_markers_hold, markers, environment, extras, size=len(markers))
+
+
+def check(requirements: bytes, environment: bytes, candidates: bytes, extras: bytes) -> str:
+    """What `reqs check` prints."""
+    size = _size_for(requirements)
+    return _answer(_check, requirements, environment, candidates, extras, size=size).decode()
+
+
+def matrix(requirements: bytes, environments: bytes, candidates: bytes, extras: bytes, limit: int) -> str:
+    """What `reqs matrix` prints."""
+    size = _size_for(requirements, environments)
+    return _answer(_matrix, requirements, environments, candidates, extras, limit=limit, size=size).decode()
+
+
+def same(left: bytes, right: bytes, limit: int) -> str:
+    """What `reqs same` prints."""
+    return _answer(_same, left, right, limit=limit).decode()
+
+
+def conflicts(requirements: bytes, limit: int) -> str:
+    """What `reqs conflicts` prints."""
+    return _answer(_conflicts, requirements, limit=limit, size=_size_for(requirements)).decode()
+
+
+def normal(requirements: bytes) -> str:
+    """What `reqs normal` prints."""
+    return _answer(_normal, requirements, size=_size_for(requirements)).decode()

@@ -1,0 +1,54 @@
+"""What the running interpreter has installed."""
+
+import importlib.metadata
+from typing import Dict, List, Optional, Tuple
+
+from .requirements import InvalidRequirement, Requirement
+from .version import InvalidVersion, Version
+
+__all__ = ["installed"]
+
+
+def installed(left_out: Optional[List[str]] = None) -> List[Tuple[str, str]]:
+    """Name and version of each installed distribution, by name; of two of one name that which the interpreter finds first.
+
+    What PEP 508 and PEP 440 can't read is left out, and told in `left_out`.
+
+    >>> all(Version(version) for name, version in installed())
+    True
+    """
+    found: Dict[str, Tuple[str, str]] = {}
+    for distribution in importlib.metadata.distributions():
+        name, version = _name_and_version(distribution)
+        key = _normal_name(name)
+        if key in found:
+            continue
+        if key and _is_version(version):
+            found[key] = (name, version)
+        elif left_out is not None:
+            left_out.append(f"{name} {version}")
+    return [found[key] for key in sorted(found)]
+
+
+def _name_and_version(distribution: importlib.metadata.Distribution) -> Tuple[str, str]:
+    try:
+        return str(distribution.metadata["Name"]), str(distribution.version)
+    except (AttributeError, KeyError, TypeError):  # its metadata can't be read
+        return "None", "None"
+
+
+def _normal_name(name: str) -> str:
+    """A name's normal form, and nothing where it is none."""
+    try:
+        requirement = Requirement(name)
+    except InvalidRequirement:
+        return ""
+    return requirement._normal_front()[0] if str(requirement) == name else ""
+
+
+def _is_version(text: str) -> bool:
+    try:
+        Version(text)
+    except InvalidVersion:
+        return False
+    return True

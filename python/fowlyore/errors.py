@@ -1,0 +1,73 @@
+"""What is raised where a text is refused."""
+
+import unicodedata
+from typing import Optional, Tuple, Type, TypeVar
+
+from . import _native
+
+__all__ = ["Refused"]
+
+Kind = TypeVar("Kind", bound="Refused")
+
+
+class Refused(ValueError):
+    """A text was refused.
+
+    `message` says why. Where it is told, `text` is the line at fault and `line` its number, from 1, and the part at fault
+    is `text[start:end]`; else they are None. As a text the error has a caret below that part.
+
+    >>> error = Refused("no such operator", text="foo=1", line=1, start=3, end=4)
+    >>> print(error)
+    no such operator
+        foo=1
+           ^
+    """
+
+    def __init__(
+        self,
+        message: str = "",
+        *,
+        text: Optional[str] = None,
+        line: Optional[int] = None,
+        start: Optional[int] = None,
+        end: Optional[int] = None,
+    ) -> None:
+        super().__init__(message)
+        self.message = message
+        self.text = text
+        self.line = line
+        self.start = start
+        self.end = end
+
+    def __str__(self) -> str:
+        if self.text is None or self.start is None or self.end is None or not self.text.isprintable():
+            return self.message
+        blanks = " " * columns(self.text[: self.start])
+        carets = "^" * max(1, columns(self.text[self.start : self.end]))
+        return f"{self.message}\n    {self.text}\n    {blanks}{carets}"
+
+
+def columns(text: str) -> int:
+    """How many columns a terminal takes for it."""
+    wide = sum(unicodedata.east_asian_width(it) in "WF" for it in text)
+    return len(text) + wide - sum(map(bool, map(unicodedata.combining, text)))
+
+
+def characters(line: bytes, start: int, length: int) -> Tuple[int, int]:
+    """A part of a line, given in bytes, in characters."""
+    front = len(line[:start].decode("utf-8", "replace"))
+    return front, front + len(line[start : start + length].decode("utf-8", "replace"))
+
+
+def on_one_line(kind: Type[Kind], text: str) -> None:
+    """Refuses a text that goes over more than one line: PEP 508 has no line feed, and the library's batches have lines."""
+    if "\n" in text.strip():
+        raise kind(f"{text!r} goes over more than one line", text=text)
+
+
+def refusal(kind: Type[Kind], fault: _native.Fault, text: str, message: str) -> Kind:
+    """The error for one text that is none. An empty part at the front of some text is a place that isn't told."""
+    if text and fault.start == 0 and fault.length == 0:
+        return kind(message, text=text, line=1)
+    start, end = characters(_native.encoded(text), fault.start, fault.length)
+    return kind(message, text=text, line=1, start=start, end=end)

@@ -1,0 +1,280 @@
+"""Lists of requirements: `check`, `matrix`, `same`, `conflicts` and `normal`, as the program `reqs` has them.
+
+A list is given in one of three ways: a str or bytes is its text, a path (`pathlib.Path`) names a file of it, and any other
+iterable has its lines: texts, or `Requirement`s.
+"""
+
+import os
+import re
+from dataclasses import dataclass
+from typing import Any, Callable, Iterable, List, Mapping, Optional, Sequence, Tuple, TypeVar, Union
+
+from . import _native
+from .errors import Refused, characters
+from .distributions import installed
+from .markers import completed, environment_json
+from .requirements import Requirement
+from .version import Version
+
+__all__ = [
+    "Comparison", "Conflict", "InvalidInput", "Row", "check", "conflicts", "matrix", "normal", "same",
+]  # fmt: skip
+
+LIMIT = 4096
+Requirements = Union[str, bytes, "os.PathLike[str]", Iterable[Union[str, Requirement]]]
+Environment = Union[None, str, bytes, "os.PathLike[str]", Mapping[str, str]]
+Environments = Union[str, bytes, "os.PathLike[str]", Iterable[Mapping[str, str]]]
+Candidates = Union[
+    None,
+    str,
+    bytes,
+    "os.PathLike[str]",
+    Mapping[str, Iterable[Union[str, Version]]],
+    Iterable[Tuple[str, Union[str, Version]]],
+]
+Extras = Union[str, Iterable[str]]
+Answer = TypeVar("Answer")
+
+# A text that is meant as a path, most likely, though a package could have such a name.
+_PATH = re.compile(r"\S+\.(txt|in|json|toml)")
+_ROW = re.compile(r"([^ \[]+)(?:\[([^\]]*)\])? (.*)")
+
+
+class InvalidInput(Refused):
+    """An input was refused. `input` is its name, as `requirements` or `candidates`, and `path` the file that it came from.
+
+    >>> check("foo=1", candidates="")
+    Traceback (most recent call last):
+    fowlyore.lists.InvalidInput: requirements: line 1...
+    """
+
+    def __init__(self, message: str = "", *, input: Optional[str] = None, path: Optional[str] = None, **place: Any) -> None:
+        super().__init__(message, **place)
+        self.input = input
+        self.path = path
+
+    def __str__(self) -> str:
+        # (the library's message has the line with a caret in it)
+        return self.message
+
+
+@dataclass(frozen=True)
+class Row:
+    """What becomes of a package: the extras that are asked for, and `outcome`, which is the text of the version that is
+    taken, `none` or `direct`."""
+
+    name: str
+    extras: Tuple[str, ...]
+    outcome: str
+
+    @property
+    def is_none(self) -> bool:
+        """Whether no candidate is taken."""
+        return self.outcome == "none"
+
+    @property
+    def is_direct(self) -> bool:
+        """Whether the package is had from a URL."""
+        return self.outcome == "direct"
+
+    @property
+    def version(self) -> Optional[Version]:
+        """The version that is taken, if one is."""
+        return None if self.is_none or self.is_direct else Version(self.outcome)
+
+    def __str__(self) -> str:
+        return f"{self.name}{'[' + ','.join(self.extras) + ']' if self.extras else ''} {self.outcome}"
+
+
+@dataclass(frozen=True)
+class Comparison:
+    """Whether two lists require the same everywhere; else the first package that differs, and where: a marker's text, or
+    `all environments`. It is true where they do."""
+
+    package: Optional[str] = None
+    place: Optional[str] = None
+
+    def __bool__(self) -> bool:
+        return self.package is None
+
+    def __str__(self) -> str:
+        return "yes" if self else f"no\n{self.package}\n{self.place}"
+
+
+@dataclass(frozen=True)
+class Conflict:
+    """A package, the numbers of its lines that have no version in common, and whether one of them names a pre-release."""
+
+    name: str
+    lines: Tuple[int, ...]
+    names_prerelease: bool
+
+    def __str__(self) -> str:
+        return f"{self.name} {','.join(map(str, self.lines))}{' pre' if self.names_prerelease else ''}"
+
+
+@dataclass(frozen=True)
+class Input:
+    """An input of a call: its name, its bytes, and the file that it was read from."""
+
+    name: str
+    text: bytes
+    path: Optional[str] = None
+
+
+def as_bytes(name: str, given: Any, otherwise: Callable[[Any], str]) -> Input:
+    """An input that is a text, a path, or something of which `otherwise` makes a text."""
+    if isinstance(given, (bytes, bytearray)):
+        return Input(name, bytes(given))
+    if isinstance(given, os.PathLike):
+        path = os.fspath(given)
+        with open(path, "rb") as file:
+            return Input(name, file.read(), os.fsdecode(path))
+    return Input(name, _native.encoded(given if isinstance(given, str) else otherwise(given)))
+
+
+def requirements_input(given: Requirements, name: str = "requirements") -> Input:
+    if isinstance(given, str) and _PATH.fullmatch(given):
+        raise InvalidInput(f"{name}: {given!r} is read as a list's text: give a pathlib.Path for a file", input=name)
+    return as_bytes(name, given, lambda lines: "".join(f"{str(it).rstrip()}\n" for it in lines))
+
+
+def environment_input(given: Environment) -> Input:
+    return as_bytes("environment", given, lambda it: environment_json(completed(it)).decode())
+
+
+def environments_input(given: Environments) -> Input:
+    return as_bytes("environments", given, lambda those: f"[{','.join(environment_json(it).decode() for it in those)}]")
+
+
+def candidates_input(given: Candidates) -> Input:
+    return as_bytes("candidates", installed() if given is None else given, _candidate_lines)
+
+
+def _candidate_lines(given: Any) -> str:
+    if isinstance(given, Mapping):
+        given = ((name, version) for name, versions in given.items() for version in versions)
+    return "".join(f"{name} {version}\n" for name, version in given)
+
+
+def extras_input(given: Extras) -> Input:
+    extras = [given] if isinstance(given, str) else list(given)
+    if any("\n" in it or not it for it in extras):
+        raise InvalidInput(f"extras: {extras!r}: an extra is a name", input="extras")
+    return Input("extras", _native.encoded("\n".join(extras)))
+
+
+def answered(call: Callable[..., Answer], *inputs: Input, limit: Optional[int] = None) -> Answer:
+    """What a call answers, or the error that tells which input is refused and where."""
+    more = () if limit is None else (limit,)
+    try:
+        return call(*(it.text for it in inputs), *more)
+    except _native.Fault as fault:
+        raise _refusal(fault, inputs) from None
+
+
+def _refusal(fault: _native.Fault, inputs: Sequence[Input]) -> InvalidInput:
+    if not 1 <= fault.input <= len(inputs):
+        return InvalidInput(fault.message)
+    given = inputs[fault.input - 1]
+    if not fault.line:
+        return InvalidInput(fault.message, input=given.name, path=given.path)
+    line = given.text.split(b"\n")[fault.line - 1]
+    start, end = characters(line, fault.start, fault.length) if fault.start or fault.length else (None, None)
+    text = line.decode("utf-8", "replace")
+    return InvalidInput(
+        fault.message, input=given.name, path=given.path, text=text, line=fault.line, start=start, end=end
+    )
+
+
+def rows_of(text: str) -> List[Row]:
+    """The rows of an answer."""
+    rows = []
+    for line in text.splitlines():
+        found = _ROW.fullmatch(line)
+        if found is None:
+            raise AssertionError(f"{line!r} is no row")
+        rows.append(Row(found[1], tuple(found[2].split(",")) if found[2] else (), found[3]))
+    return rows
+
+
+def check(
+    requirements: Requirements, environment: Environment = None, candidates: Candidates = None, extras: Extras = ()
+) -> List[Row]:
+    """For each package that a line which applies asks for, by name, the greatest candidate that all these lines take.
+
+    `environment` has values in place of the running interpreter's, `candidates` are names with versions, by default what is
+    installed, and `extras` are those that are asked for. A pre-release is taken only where a line names one.
+
+    >>> candidates = {"requests": ["2.31.0", "2.33.0rc1"], "numpy": ["1.26.3"]}
+    >>> for row in check(["requests[socks]>=2.8.1", "NumPy==1.26.4"], candidates=candidates):
+    ...     print(row)
+    numpy none
+    requests[socks] 2.31.0
+    """
+    inputs = (
+        requirements_input(requirements), environment_input(environment), candidates_input(candidates),
+        extras_input(extras),
+    )  # fmt: skip
+    return rows_of(answered(_native.check, *inputs))
+
+
+def matrix(
+    requirements: Requirements,
+    environments: Environments,
+    candidates: Candidates = None,
+    extras: Extras = (),
+    limit: int = LIMIT,
+) -> List[List[Row]]:
+    """What `check` answers for each of some environments, which are whole ones: of each no value is the running one's.
+
+    A package may have `limit` cases, which are sets of its lines that apply together.
+
+    >>> from fowlyore import default_environment
+    >>> linux = {**default_environment(), "sys_platform": "linux"}
+    >>> windows = {**default_environment(), "sys_platform": "win32"}
+    >>> matrix("colorama ; sys_platform == 'win32'", [linux, windows], {"colorama": ["0.4.6"]})
+    [[], [Row(name='colorama', extras=(), outcome='0.4.6')]]
+    """
+    inputs = (
+        requirements_input(requirements), environments_input(environments), candidates_input(candidates),
+        extras_input(extras),
+    )  # fmt: skip
+    answer = answered(_native.matrix, *inputs, limit=limit)
+    return [rows_of(it) for it in re.split(r"^env [0-9]+\n", answer, flags=re.M)[1:]]
+
+
+def same(left: Requirements, right: Requirements, limit: int = LIMIT) -> Comparison:
+    """Whether two lists require the same of every package in every environment, and else where they first differ.
+
+    >>> bool(same("foo>=1,<2", ["foo<2.0", "foo>=1"]))
+    True
+    >>> same("foo>=1", "foo>=1\\nfoo<2 ; os_name == 'nt'")
+    Comparison(package='foo', place="os_name == 'nt'")
+    """
+    answer = answered(_native.same, requirements_input(left, "left"), requirements_input(right, "right"), limit=limit)
+    lines = answer.splitlines()
+    return Comparison() if lines == ["yes"] else Comparison(lines[1], lines[2])
+
+
+def conflicts(requirements: Requirements, limit: int = LIMIT) -> List[Conflict]:
+    """The lines of a list that contradict each other in some environment.
+
+    >>> conflicts(["numpy>=1.26", "numpy<1.26 ; sys_platform == 'win32'"])
+    [Conflict(name='numpy', lines=(1, 2), names_prerelease=False)]
+    """
+    answer = answered(_native.conflicts, requirements_input(requirements), limit=limit)
+    found = []
+    for line in answer.splitlines():
+        name, numbers, *pre = line.split(" ")
+        found.append(Conflict(name, tuple(map(int, numbers.split(","))), bool(pre)))
+    return found
+
+
+def normal(requirements: Requirements) -> List[str]:
+    """The lines of a list in one normal form, without those that never apply.
+
+    >>> normal("Foo_Bar [b , a] < 2.0 , >= 1.16 ; python_version >= '3.8'")
+    ["foo-bar[b,a]>=1.16,<2.0 ; python_full_version >= '3.8'"]
+    """
+    return answered(_native.normal, requirements_input(requirements)).splitlines()

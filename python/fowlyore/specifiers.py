@@ -1,0 +1,311 @@
+"""Specifiers and sets of them (PEP 440, Version specifiers).
+
+What a specifier takes is the library's answer. Which pre-releases are let in is decided here, as packaging 25 does it.
+"""
+
+from typing import FrozenSet, Iterable, Iterator, List, Optional, Tuple, TypeVar, Union
+
+from . import _native
+from .errors import Refused, refusal
+from .version import InvalidVersion, Version, is_prerelease, text_of
+
+__all__ = ["InvalidSpecifier", "Specifier", "SpecifierSet"]
+
+UnparsedVersion = Union[Version, str]
+UnparsedVersionVar = TypeVar("UnparsedVersionVar", bound=UnparsedVersion)
+
+
+class InvalidSpecifier(Refused):
+    """A text is no specifier, or no list of them.
+
+    >>> Specifier("=1.0")
+    Traceback (most recent call last):
+    fowlyore.specifiers.InvalidSpecifier: Invalid specifier: '=1.0'...
+    """
+
+
+def _members(text: str) -> List[str]:
+    """The normal texts of a list's members."""
+    if not isinstance(text, str):
+        raise TypeError(f"a specifier is read from a str, not from {type(text).__name__}")
+    try:
+        return _native.specifiers(_native.encoded(text))
+    except _native.Fault as fault:
+        message = f"Invalid specifier: {text!r}: {fault.message}"
+        raise refusal(InvalidSpecifier, fault, text, message) from None
+
+
+def _takes(specifiers: bytes, version: UnparsedVersion) -> bool:
+    answer = _native.take_one(specifiers, _native.encoded(text_of(version)))
+    if answer == b"?":
+        raise _invalid(version)
+    return answer == b"1"
+
+
+def _taken(specifiers: bytes, versions: List[UnparsedVersionVar]) -> List[UnparsedVersionVar]:
+    """The versions that are taken, in their order, by one call."""
+    answers = _native.take(specifiers, _native.encoded(_lines(versions)))
+    at = answers.find(b"?")
+    if at >= 0:
+        raise _invalid(versions[at])
+    return [it for it, answer in zip(versions, answers) if answer == ord("1")]
+
+
+def _lines(versions: List[UnparsedVersionVar]) -> str:
+    """The versions' texts, one a line. Where all are texts, and none has a line feed, they are that as they are."""
+    if all(type(it) is str for it in versions):
+        lines = "\n".join([*versions, ""])  # type: ignore[list-item]
+        if lines.count("\n") == len(versions):
+            return lines
+    return "".join(f"{text_of(it)}\n" for it in versions)
+
+
+def _invalid(version: UnparsedVersion) -> InvalidVersion:
+    """The error for what the library says is no version."""
+    try:
+        Version(str(version))
+    except InvalidVersion as error:
+        return error
+    raise AssertionError(f"{version!r} is a version and none")
+
+
+def _is_prerelease(version: UnparsedVersion) -> bool:
+    return is_prerelease(text_of(version))
+
+
+class Specifier:
+    """One specifier: an operator and a version.
+
+    >>> specifier = Specifier("~= 1.4.2")
+    >>> specifier.operator, specifier.version, str(specifier)
+    ('~=', '1.4.2', '~=1.4.2')
+    >>> "1.4.9" in specifier, "1.5" in specifier
+    (True, False)
+    """
+
+    __slots__ = ("_operator", "_version", "_normal", "_bytes", "_prereleases", "_names_one")
+
+    _names_one: bool
+
+    def __init__(self, spec: str = "", prereleases: Optional[bool] = None) -> None:
+        members = _members(spec)
+        if len(members) != 1:
+            raise InvalidSpecifier(f"Invalid specifier: {spec!r}: {len(members)} specifiers, not one", text=spec, line=1)
+        normal = members[0]
+        self._operator = normal[: len(normal) - len(normal.lstrip("=<>!~"))]
+        self._version = spec.strip()[len(self._operator) :].strip()
+        self._normal = normal[len(self._operator) :].strip()
+        self._bytes = _native.encoded(str(self))
+        self._prereleases = prereleases
+
+    @property
+    def operator(self) -> str:
+        """The operator, as `>=`."""
+        return self._operator
+
+    @property
+    def version(self) -> str:
+        """The version as it was written, with its star."""
+        return self._version
+
+    @property
+    def prereleases(self) -> bool:
+        """Whether pre-releases are let in: as it was set, or else whether the version is one and the operator isn't `!=`."""
+        if self._prereleases is not None:
+            return self._prereleases
+        try:
+            return self._names_one
+        except AttributeError:
+            self._names_one = self._operator != "!=" and is_prerelease(self._without_star())
+            return self._names_one
+
+    @prereleases.setter
+    def prereleases(self, value: Optional[bool]) -> None:
+        self._prereleases = value
+
+    def _without_star(self) -> str:
+        return self._normal[:-2] if self._normal.endswith(".*") else self._normal
+
+    @property
+    def _canonical(self) -> "Tuple[str, Union[str, bytes]]":
+        """The same for specifiers of one operator that take the same versions. The release's end counts beside `~=`, `===`
+        and a star."""
+        if self._operator in ("~=", "===") or self._normal.endswith(".*"):
+            return self._operator, self._normal
+        return self._operator, Version(self._normal)._key
+
+    def __str__(self) -> str:
+        return self._operator + self._version
+
+    def __repr__(self) -> str:
+        return f"<Specifier({str(self)!r}{_shown(self._prereleases)})>"
+
+    def __hash__(self) -> int:
+        return hash(self._canonical)
+
+    def __eq__(self, other: object) -> bool:
+        if isinstance(other, str):
+            try:
+                other = Specifier(other)
+            except InvalidSpecifier:
+                return NotImplemented
+        elif not isinstance(other, Specifier):
+            return NotImplemented
+        return self._canonical == other._canonical
+
+    def __contains__(self, item: UnparsedVersion) -> bool:
+        return self.contains(item)
+
+    def contains(self, item: UnparsedVersion, prereleases: Optional[bool] = None) -> bool:
+        """Whether it takes a version; a pre-release only where `prereleases`, or else `self.prereleases`, says so.
+
+        >>> Specifier(">=1").contains("2.0rc1"), Specifier(">=1").contains("2.0rc1", prereleases=True)
+        (False, True)
+        """
+        if prereleases is None:
+            prereleases = self.prereleases
+        return _takes(self._bytes, item) and (prereleases or not _is_prerelease(item))
+
+    def filter(
+        self, iterable: Iterable[UnparsedVersionVar], prereleases: Optional[bool] = None
+    ) -> Iterator[UnparsedVersionVar]:
+        """The versions that it takes, in their order, by one call of the library. Where nothing but pre-releases is taken and
+        `prereleases` isn't False these are given.
+
+        >>> list(Specifier(">=1.2.3").filter(["1.2", "1.3", "1.5a1"]))
+        ['1.3']
+        >>> list(Specifier(">=1.2.3").filter(["1.2", "1.5a1"]))
+        ['1.5a1']
+        """
+        taken = _taken(self._bytes, list(iterable))
+        if prereleases or (prereleases is None and self.prereleases):
+            return iter(taken)
+        finals = [it for it in taken if not _is_prerelease(it)]
+        return iter(finals or (taken if prereleases is None else []))
+
+
+def _shown(prereleases: Optional[bool]) -> str:
+    return "" if prereleases is None else f", prereleases={prereleases!r}"
+
+
+class SpecifierSet:
+    """A list of specifiers, of which all have to take a version.
+
+    >>> specifiers = SpecifierSet(">=1.0,!=1.3, <2")
+    >>> str(specifiers), len(specifiers), "1.2" in specifiers, "1.3" in specifiers
+    ('!=1.3,<2,>=1.0', 3, True, False)
+    >>> list(specifiers.filter(["0.9", "1.2", "1.3", "2.0"]))
+    ['1.2']
+    """
+
+    __slots__ = ("_bytes", "_given", "_made", "_prereleases", "_names_one")
+
+    _made: FrozenSet[Specifier]
+    _names_one: bool
+
+    def __init__(
+        self, specifiers: Union[str, Iterable[Specifier]] = "", prereleases: Optional[bool] = None
+    ) -> None:
+        if isinstance(specifiers, str):
+            # Empty members are passed over, as packaging does.
+            self._given = ",".join(it for it in specifiers.split(",") if it.strip())
+            _members(self._given)
+        else:
+            self._made = frozenset(specifiers)
+            self._given = ",".join(map(str, self._made))
+        self._bytes = _native.encoded(self._given)
+        self._prereleases = prereleases
+
+    @property
+    def _specs(self) -> FrozenSet[Specifier]:
+        try:
+            return self._made
+        except AttributeError:
+            self._made = frozenset(map(Specifier, filter(None, self._given.split(","))))
+            return self._made
+
+    @property
+    def prereleases(self) -> Optional[bool]:
+        """Whether pre-releases are let in: as it was set, or else whether some member lets them in; None without members."""
+        if self._prereleases is not None:
+            return self._prereleases
+        if not self._given:
+            return None
+        try:
+            return self._names_one
+        except AttributeError:
+            self._names_one = any(it.prereleases for it in self._specs)
+            return self._names_one
+
+    @prereleases.setter
+    def prereleases(self, value: Optional[bool]) -> None:
+        self._prereleases = value
+
+    def __str__(self) -> str:
+        return ",".join(sorted(map(str, self._specs)))
+
+    def __repr__(self) -> str:
+        return f"<SpecifierSet({str(self)!r}{_shown(self._prereleases)})>"
+
+    def __hash__(self) -> int:
+        return hash(self._specs)
+
+    def __and__(self, other: "Union[SpecifierSet, str]") -> "SpecifierSet":
+        if isinstance(other, str):
+            other = SpecifierSet(other)
+        elif not isinstance(other, SpecifierSet):
+            return NotImplemented
+        said = {self._prereleases, other._prereleases} - {None}
+        if len(said) > 1:
+            raise ValueError("Cannot combine SpecifierSets with True and False prerelease overrides.")
+        return SpecifierSet(self._specs | other._specs, said.pop() if said else None)
+
+    def __eq__(self, other: object) -> bool:
+        if isinstance(other, (str, Specifier)):
+            other = SpecifierSet(str(other))
+        elif not isinstance(other, SpecifierSet):
+            return NotImplemented
+        return self._specs == other._specs
+
+    def __len__(self) -> int:
+        return len(self._specs)
+
+    def __iter__(self) -> Iterator[Specifier]:
+        return iter(self._specs)
+
+    def __contains__(self, item: UnparsedVersion) -> bool:
+        return self.contains(item)
+
+    def contains(
+        self, item: UnparsedVersion, prereleases: Optional[bool] = None, installed: Optional[bool] = None
+    ) -> bool:
+        """Whether all members take a version; a pre-release only where `prereleases`, or else `self.prereleases`, says so.
+        Of an installed pre-release the base version is asked for.
+
+        >>> SpecifierSet(">=1,<3").contains("2.0rc1"), SpecifierSet(">=1,<3").contains("2.0rc1", prereleases=True)
+        (False, True)
+        """
+        if prereleases is None:
+            prereleases = self.prereleases
+        if installed and _is_prerelease(item):
+            return bool(prereleases) and _takes(self._bytes, Version(text_of(item)).base_version)
+        return _takes(self._bytes, item) and (bool(prereleases) or not _is_prerelease(item))
+
+    def filter(
+        self, iterable: Iterable[UnparsedVersionVar], prereleases: Optional[bool] = None
+    ) -> Iterator[UnparsedVersionVar]:
+        """The versions that all members take, in their order, by one call of the library; pre-releases where `prereleases`,
+        or else `self.prereleases`, says so. Without members pre-releases are given where there is nothing else, unless
+        `prereleases` is False.
+
+        >>> list(SpecifierSet(">=1.2.3").filter(["1.2", "1.3", "1.5a1"]))
+        ['1.3']
+        """
+        if prereleases is None:
+            prereleases = self.prereleases
+        taken = _taken(self._bytes, list(iterable))
+        if prereleases:
+            return iter(taken)
+        finals = [it for it in taken if not _is_prerelease(it)]
+        # (None where there are no members)
+        return iter(finals or (taken if prereleases is None else []))

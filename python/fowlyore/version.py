@@ -1,0 +1,267 @@
+"""Versions (PEP 440)."""
+
+import re
+from typing import NamedTuple, Optional, Tuple
+
+from . import _native
+from .errors import Refused, refusal
+
+__all__ = ["InvalidVersion", "Version", "parse"]
+
+_key_of, _SIZE = _native.version_key_call, _native.ROOM
+_take_buffer, _give_buffer = _native.take_buffer, _native.give_buffer
+# The parts of a version's normal text.
+_PARTS = re.compile(
+    r"(?:(\d+)!)?(\d+(?:\.\d+)*)(?:(a|b|rc)(\d+))?(?:\.post(\d+))?(?:\.dev(\d+))?(?:\+(.+))?", re.ASCII
+)
+
+
+class InvalidVersion(Refused):
+    """A text is no version.
+
+    >>> Version("1.0 final")
+    Traceback (most recent call last):
+    fowlyore.version.InvalidVersion: Invalid version: '1.0 final'...
+    """
+
+
+class Parts(NamedTuple):
+    """A version's parts."""
+
+    epoch: int
+    release: Tuple[int, ...]
+    pre: Optional[Tuple[str, int]]
+    post: Optional[int]
+    dev: Optional[int]
+    local: Optional[str]
+
+
+def parse(version: str) -> "Version":
+    """The version of a text.
+
+    >>> parse("1.0.dev1")
+    <Version('1.0.dev1')>
+    """
+    return Version(version)
+
+
+class Version:
+    """A version, which is compared by PEP 440, Summary of permitted suffixes and relative ordering.
+
+    Its numbers are below 2^64. Making one is one call of the library, for the bytes by which it is compared and hashed;
+    comparing is none. Its text and its parts are asked for when they are wanted.
+
+    >>> Version("1.0a5") < Version("1.0") == Version("1.0.0")
+    True
+    >>> version = Version("1!2.3-rc.4")
+    >>> str(version), version.epoch, version.release, version.pre, version.is_prerelease
+    ('1!2.3rc4', 1, (2, 3), ('rc', 4), True)
+    """
+
+    __slots__ = ("_key", "_given", "_normal", "_read", "__weakref__")
+
+    _key: bytes
+    _given: str
+    _normal: str
+    _read: Parts
+
+    def __init__(self, version: str) -> None:
+        try:
+            text = version.encode()
+        except (AttributeError, UnicodeEncodeError):
+            text = _bytes_of(version)
+        # (in these lines, since another call would cost as much as the library's)
+        try:
+            buffer = _take_buffer()
+        except IndexError:
+            buffer = _native.new_buffer()
+        length = _key_of(text, len(text), buffer, _SIZE)
+        if 0 <= length <= _SIZE:
+            self._key = buffer[:length]
+            _give_buffer(buffer)
+        else:
+            self._key = _long_key(version, text)
+        self._given = version
+
+    def __repr__(self) -> str:
+        return f"<Version('{self}')>"
+
+    def __str__(self) -> str:
+        """The normal text, from which the version can be read again."""
+        try:
+            return self._normal
+        except AttributeError:
+            self._normal = _native.version(_native.encoded(self._given))
+            return self._normal
+
+    def __reduce__(self) -> "Tuple[type, Tuple[str]]":
+        return self.__class__, (self._given,)
+
+    def __hash__(self) -> int:
+        return hash(self._key)
+
+    def __lt__(self, other: "Version") -> bool:
+        if not isinstance(other, Version):
+            return NotImplemented
+        return self._key < other._key
+
+    def __le__(self, other: "Version") -> bool:
+        if not isinstance(other, Version):
+            return NotImplemented
+        return self._key <= other._key
+
+    def __eq__(self, other: object) -> bool:
+        if not isinstance(other, Version):
+            return NotImplemented
+        return self._key == other._key
+
+    def __ne__(self, other: object) -> bool:
+        if not isinstance(other, Version):
+            return NotImplemented
+        return self._key != other._key
+
+    def __ge__(self, other: "Version") -> bool:
+        if not isinstance(other, Version):
+            return NotImplemented
+        return self._key >= other._key
+
+    def __gt__(self, other: "Version") -> bool:
+        if not isinstance(other, Version):
+            return NotImplemented
+        return self._key > other._key
+
+    @property
+    def _parts(self) -> Parts:
+        try:
+            return self._read
+        except AttributeError:
+            self._read = _parts_of(str(self))
+            return self._read
+
+    @property
+    def epoch(self) -> int:
+        """The number before `!`, and 0 where there is none."""
+        return self._parts.epoch
+
+    @property
+    def release(self) -> Tuple[int, ...]:
+        """The numbers with dots between them, zeros at the end too."""
+        return self._parts.release
+
+    @property
+    def pre(self) -> Optional[Tuple[str, int]]:
+        """The pre-release, as `('rc', 1)`."""
+        return self._parts.pre
+
+    @property
+    def post(self) -> Optional[int]:
+        """The number of the post-release."""
+        return self._parts.post
+
+    @property
+    def dev(self) -> Optional[int]:
+        """The number of the developmental release."""
+        return self._parts.dev
+
+    @property
+    def local(self) -> Optional[str]:
+        """What stands behind `+`."""
+        return self._parts.local
+
+    @property
+    def public(self) -> str:
+        """The text without the local part.
+
+        >>> Version("1!1.2.3dev1+abc").public
+        '1!1.2.3.dev1'
+        """
+        return str(self).split("+", 1)[0]
+
+    @property
+    def base_version(self) -> str:
+        """The text of epoch and release.
+
+        >>> Version("1!1.2.3dev1+abc").base_version
+        '1!1.2.3'
+        """
+        epoch = f"{self.epoch}!" if self.epoch else ""
+        return epoch + ".".join(map(str, self.release))
+
+    @property
+    def is_prerelease(self) -> bool:
+        """Whether it is a pre-release or a developmental release."""
+        return self._parts.dev is not None or self._parts.pre is not None
+
+    @property
+    def is_postrelease(self) -> bool:
+        """Whether it is a post-release."""
+        return self._parts.post is not None
+
+    @property
+    def is_devrelease(self) -> bool:
+        """Whether it is a developmental release."""
+        return self._parts.dev is not None
+
+    @property
+    def major(self) -> int:
+        """The first number of the release."""
+        return self.release[0]
+
+    @property
+    def minor(self) -> int:
+        """The second number of the release, or 0."""
+        return self.release[1] if len(self.release) >= 2 else 0
+
+    @property
+    def micro(self) -> int:
+        """The third number of the release, or 0."""
+        return self.release[2] if len(self.release) >= 3 else 0
+
+
+def _bytes_of(version: object) -> bytes:
+    if not isinstance(version, str):
+        raise TypeError(f"a version is read from a str, not from {type(version).__name__}")
+    return _native.encoded(version)
+
+
+def _long_key(version: str, text: bytes) -> bytes:
+    """The key of a version for which a buffer is too short, or the refusal of what is none."""
+    key = _native.long_version_key(text)
+    if key is not None:
+        return key
+    try:
+        _native.version(text)
+    except _native.Fault as fault:
+        message = f"Invalid version: {version!r}: {fault.message}"
+        raise refusal(InvalidVersion, fault, version, message) from None
+    raise AssertionError(f"{version!r} has a normal text and no key")
+
+
+def _parts_of(normal: str) -> Parts:
+    found = _PARTS.fullmatch(normal)
+    if found is None:
+        raise AssertionError(f"{normal!r} is no normal text of a version")
+    epoch, release, kind, number, post, dev, local = found.groups()
+    return Parts(
+        int(epoch or 0),
+        tuple(map(int, release.split("."))),
+        (kind, int(number)) if kind else None,
+        int(post) if post else None,
+        int(dev) if dev else None,
+        local,
+    )
+
+
+def is_prerelease(text: str) -> bool:
+    """Whether the version of this text is a pre-release or a developmental release. Without letters it is none."""
+    return not text.replace(".", "").isdecimal() and Version(text).is_prerelease
+
+
+def text_of(version: object) -> str:
+    """The text of a version or of what is to be one, without blanks around; it has no line feed."""
+    if isinstance(version, Version):
+        return version._given.strip(" \t\n\r\f")
+    if isinstance(version, str):
+        text = version.strip(" \t\n\r\f")
+        return str(Version(version)) if "\n" in text else text
+    raise TypeError(f"a version is read from a str, not from {type(version).__name__}")

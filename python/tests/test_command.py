@@ -1,0 +1,102 @@
+"""The command line."""
+
+import io
+import os
+import pathlib
+import subprocess
+import sys
+import tempfile
+import unittest
+from contextlib import redirect_stderr, redirect_stdout
+
+from fowlyore import __version__
+from fowlyore.__main__ import main
+
+EXAMPLES = pathlib.Path(__file__).resolve().parents[2] / "examples"
+FIRST = EXAMPLES / "first"
+OF_FIRST = ["--environment", str(FIRST / "environment.json"), "--candidates", str(FIRST / "candidates.txt")]
+
+
+def run(*words):
+    """Status and outputs of a command."""
+    out, err = io.StringIO(), io.StringIO()
+    with redirect_stdout(out), redirect_stderr(err):
+        try:
+            status = main([str(it) for it in words])
+        except SystemExit as ended:
+            status = ended.code
+    return status, out.getvalue(), err.getvalue()
+
+
+class Commands(unittest.TestCase):
+    def test_check(self):
+        expected = (FIRST / "expected.txt").read_text()
+        words = ["check", FIRST / "requirements.txt", *OF_FIRST]
+        self.assertEqual(run(*words), (0, expected, ""))
+        self.assertEqual(run(*words, "--strict"), (4, expected, ""))
+        status, out, err = run(*words, "--explain")
+        why = "    line 5 takes no candidate, and the greatest is 1.26.3: numpy==1.26.4\n"
+        self.assertEqual((status, out, err), (0, expected.replace("numpy none\n", "numpy none\n" + why), ""))
+
+    def test_check_of_what_is_installed(self):
+        with tempfile.TemporaryDirectory() as folder:
+            path = pathlib.Path(folder, "requirements.txt")
+            path.write_text("no-such-package ; python_version < '3.9' and extra == 'x'\n")
+            self.assertEqual(run("check", path, "--strict")[0:2], (0, ""))
+            words = ["check", path, "--strict", "--python-version", "3.8", "--extra", "X"]
+            self.assertEqual(run(*words)[0:2], (4, "no-such-package none\n"))
+
+    def test_the_others(self):
+        lock = EXAMPLES / "lock"
+        self.assertEqual(run("same", lock / "before.txt", lock / "rewritten.txt"), (0, "yes\n", ""))
+        expected = (lock / "expected_same.txt").read_text()
+        self.assertEqual(run("same", lock / "before.txt", lock / "after.txt"), (1, expected, ""))
+        expected = (EXAMPLES / "apart" / "expected_conflicts.txt").read_text()
+        self.assertEqual(run("conflicts", EXAMPLES / "apart" / "requirements.txt"), (0, expected, ""))
+        status, out, err = run("normal", FIRST.parent / "spelling" / "requirements.txt")
+        self.assertEqual((status, out, err), (0, "foo-bar>=1.16\nfoo-bar==1.19\n", ""))
+        words = ["matrix", FIRST / "requirements.txt", FIRST / "environments.json", *OF_FIRST[2:]]
+        self.assertEqual(run(*words), (0, (FIRST / "expected_matrix.txt").read_text(), ""))
+        self.assertEqual(run(*words, "--strict")[0], 4)
+
+    def test_refused(self):
+        with tempfile.TemporaryDirectory() as folder:
+            path = pathlib.Path(folder, "requirements.txt")
+            path.write_text("foo\n-r base.txt\n")
+            status, out, err = run("check", path)
+            self.assertEqual((status, out), (2, ""))
+            self.assertTrue(err.startswith(f"fowlyore: {path}: line 2"), err)
+            self.assertIn("^", err)
+
+    def test_words(self):
+        self.assertEqual(run("--version"), (0, f"fowlyore {__version__}\n", ""))
+        for words in ((), ("chekc",), ("same", "a"), ("check", "a", "--limit", "3"), ("conflicts", "a", "--limit", "x")):
+            status, out, err = run(*words)
+            self.assertEqual((status, out), (2, ""), words)
+            self.assertIn("usage: fowlyore", err)
+        for words in ((), ("check",), ("matrix",), ("same",), ("conflicts",), ("normal",)):
+            status, out, err = run(*words, "--help")
+            self.assertEqual((status, err), (0, ""), words)
+
+    def test_no_file(self):
+        status, out, err = run("normal", "/no/such/file")
+        self.assertEqual((status, out, err), (3, "", "fowlyore: /no/such/file: No such file or directory\n"))
+
+
+class Process(unittest.TestCase):
+    """By the interpreter's -m, with what only a process has."""
+
+    def run_module(self, *words, **named):
+        named.setdefault("stdout", subprocess.PIPE)
+        return subprocess.run([sys.executable, "-m", "fowlyore", *words], stderr=subprocess.PIPE, **named)
+
+    def test_standard_input(self):
+        ran = self.run_module("normal", "-", input=b"Foo_Bar >= 1\n")
+        self.assertEqual((ran.returncode, ran.stdout, ran.stderr), (0, b"foo-bar>=1\n", b""))
+
+    @unittest.skipUnless(os.path.exists("/dev/full"), "there is no /dev/full")
+    def test_a_full_disk(self):
+        with open("/dev/full", "wb") as full:
+            ran = self.run_module("normal", "-", input=b"foo\n", stdout=full)
+        self.assertEqual(ran.returncode, 3)
+        self.assertIn(b"No space left", ran.stderr)

@@ -1,0 +1,59 @@
+"""What the package says of the library, held against its header."""
+
+import ctypes
+import os
+import pathlib
+import re
+import subprocess
+import sys
+import unittest
+
+from fowlyore import _native
+
+HEADER = pathlib.Path(__file__).resolve().parents[2] / "include" / "reqs.h"
+TYPES = {"uint32_t": ctypes.c_uint32, "int64_t": ctypes.c_int64, "int32_t": ctypes.c_int32, "reqs_reply": _native.Reply}
+TEXT, ROOM = [ctypes.c_char_p, ctypes.c_size_t], [ctypes.c_void_p, ctypes.c_size_t]
+# What the package doesn't call.
+UNUSED = {"reqs_version_order"}
+
+
+def prototypes():
+    """Of each function of the header its result and its arguments' types."""
+    text = re.sub(r"/\*.*?\*/", "", HEADER.read_text(), flags=re.S)
+    for result, name, arguments in re.findall(r"^(\w+) (reqs_\w+)\(([^)]*)\);", text, flags=re.M):
+        types = []
+        for it in re.split(r"\s*,\s*", " ".join(arguments.split())):
+            if it.startswith("const uint8_t *"):
+                types += TEXT
+            elif it.startswith("uint8_t *"):
+                types += ROOM
+            elif it.startswith("uint64_t"):
+                types.append(ctypes.c_uint64)
+        yield name, TYPES[result], types
+
+
+@unittest.skipUnless(HEADER.exists(), "there is no include/reqs.h")
+class Header(unittest.TestCase):
+    def test_each_function(self):
+        called = {it.__name__: it for it in vars(_native).values() if hasattr(it, "argtypes") and hasattr(it, "__name__")}
+        found = dict((name, (result, types)) for name, result, types in prototypes())
+        self.assertEqual(set(found) - set(called), UNUSED | {"reqs_abi"})
+        for name, call in called.items():
+            self.assertEqual((call.restype, list(call.argtypes or [])), found[name], name)
+
+    def test_the_reply(self):
+        members = re.search(r"typedef struct reqs_reply \{(.*?)\}", HEADER.read_text(), re.S)[1]
+        members = re.sub(r"/\*.*?\*/", "", members, flags=re.S)
+        self.assertEqual(re.findall(r"(\w+);", members), [name for name, _ in _native.Reply._fields_])
+
+    def test_the_interface(self):
+        self.assertEqual(int(re.search(r"#define REQS_ABI (\d+)", HEADER.read_text())[1]), _native.ABI)
+
+
+class Loading(unittest.TestCase):
+    def test_another_library(self):
+        for path, said in (("/no/such/library.so", "can't load"), (__file__, "can't load")):
+            environment = {**os.environ, "FOWLYORE_LIBRARY": path}
+            ran = subprocess.run([sys.executable, "-c", "import fowlyore"], env=environment, stderr=subprocess.PIPE)
+            self.assertNotEqual(ran.returncode, 0)
+            self.assertIn(f"ImportError: fowlyore {said}".encode(), ran.stderr)

@@ -1,0 +1,148 @@
+"""Versions, by PEP 440."""
+
+import copy
+import itertools
+import pickle
+import sys
+import threading
+import unittest
+
+from fowlyore import InvalidVersion, Version, _native, parse
+from fowlyore.version import is_prerelease
+
+# In rising order (PEP 440, Summary of permitted suffixes and relative ordering).
+RISING = (
+    "0.dev0 0 1.dev0 1.0.dev456 1.0a1.dev1 1.0a1 1.0a2.dev456 1.0a12.dev456 1.0a12 1.0b1.dev456 1.0b2 1.0b2.post345.dev456 "
+    "1.0b2.post345 1.0rc1.dev456 1.0rc1 1.0 1.0+abc.5 1.0+abc.7 1.0+5 1.0+5.0 1.0.post456.dev34 1.0.post456 1.0.1 1.1.dev1 "
+    "1.10 2013.10 18446744073709551615 1!0.dev0 1!1.0"
+).split()
+# Texts of one version (PEP 440, Normalization).
+SPELLINGS = [
+    ["1.0", "v1.0", " 1.0\n", "1", "1.0.0", "01.00", "0!1"],
+    ["1.1rc1", "1.1RC1", "1.1-rc-1", "1.1.c1", "1.1_preview_1", "1.1pre1", "1.1.0rc01"],
+    ["1.2a0", "1.2alpha", "1.2.A"],
+    ["1.2.post2", "1.2-2", "1.2.r2", "1.2-REV2", "1.2_post-2"],
+    ["1.2.dev0", "1.2dev", "1.2-DEV"],
+    ["1.0+ubuntu.1", "1.0+Ubuntu-1", "1.0+ubuntu_01"],
+]
+NO_VERSIONS = ["", "a", "1.0x", "1..0", "1.0+", "1.0+a+b", "1.0-", "1!", "french toast", "1.0.*", "1 .0", str(2**64)]
+
+
+class Order(unittest.TestCase):
+    def test_each_pair(self):
+        versions = [Version(it) for it in RISING]
+        for (left, one), (right, other) in itertools.product(enumerate(versions), repeat=2):
+            self.assertEqual((one < other, one <= other, one == other), (left < right, left <= right, left == right))
+            self.assertEqual((one > other, one >= other, one != other), (left > right, left >= right, left != right))
+
+    def test_spellings_are_equal(self):
+        for texts in SPELLINGS:
+            self.assertEqual(len({Version(it) for it in texts}), 1, texts)
+
+    def test_other_types(self):
+        version = Version("1.0")
+        self.assertNotEqual(version, "1.0")
+        self.assertNotEqual(version, None)
+        for compare in ("__lt__", "__le__", "__gt__", "__ge__"):
+            self.assertIs(getattr(version, compare)("1.0"), NotImplemented)
+
+
+class Parts(unittest.TestCase):
+    def test_all(self):
+        version = Version("1!2.3.4rc5.post6.dev7+Ubuntu-8")
+        self.assertEqual(str(version), "1!2.3.4rc5.post6.dev7+ubuntu.8")
+        self.assertEqual(repr(version), "<Version('1!2.3.4rc5.post6.dev7+ubuntu.8')>")
+        self.assertEqual((version.epoch, version.release, version.pre), (1, (2, 3, 4), ("rc", 5)))
+        self.assertEqual((version.post, version.dev, version.local), (6, 7, "ubuntu.8"))
+        self.assertEqual(version.public, "1!2.3.4rc5.post6.dev7")
+        self.assertEqual(version.base_version, "1!2.3.4")
+        self.assertEqual((version.major, version.minor, version.micro), (2, 3, 4))
+
+    def test_none(self):
+        version = parse("7")
+        self.assertEqual((version.epoch, version.release, version.pre), (0, (7,), None))
+        self.assertEqual((version.post, version.dev, version.local), (None, None, None))
+        self.assertEqual((version.major, version.minor, version.micro), (7, 0, 0))
+        self.assertEqual((version.is_prerelease, version.is_postrelease, version.is_devrelease), (False, False, False))
+
+    def test_zeros_are_there(self):
+        version = Version("1.0.post0")
+        self.assertEqual((version.post, version.is_postrelease), (0, True))
+        self.assertEqual(Version("1.0.dev").dev, 0)
+
+    def test_prereleases(self):
+        early = {"1.0a1", "1.0rc1.post2", "1.0.dev3", "1.0.post1.dev2", "1.0-preview"}
+        final = {"1.0", "1.0.post1", "1.0-1", "1.0+a.dev1", "2!1"}
+        for text in early | final:
+            self.assertEqual(Version(text).is_prerelease, text in early, text)
+            self.assertEqual(is_prerelease(text), text in early, text)
+
+    def test_the_text_reads_back(self):
+        for text in [*RISING, *itertools.chain(*SPELLINGS)]:
+            self.assertEqual(Version(str(Version(text))), Version(text))
+
+
+class Refusals(unittest.TestCase):
+    def test_no_versions(self):
+        for text in NO_VERSIONS:
+            with self.assertRaises(InvalidVersion, msg=text) as found:
+                Version(text)
+            self.assertIn(f"Invalid version: {text!r}", str(found.exception))
+
+    def test_other_types(self):
+        for value in (None, 1, 1.0, b"1.0", Version("1.0"), ["1.0"]):
+            with self.assertRaises(TypeError):
+                Version(value)
+
+    def test_no_text(self):
+        for text in ("1.0\x00", "1.0\x002", "\ud800", "１.0", "1.0\u00a0"):
+            with self.assertRaises(InvalidVersion, msg=repr(text)):
+                Version(text)
+
+
+class Values(unittest.TestCase):
+    def test_copies(self):
+        for text in RISING:
+            version = Version(text)
+            self.assertEqual(pickle.loads(pickle.dumps(version)), version)
+            self.assertEqual(str(copy.deepcopy(version)), str(version))
+
+    def test_longer_than_the_buffer(self):
+        numbers = list(range(2 * _native.ROOM))
+        text = ".".join(map(str, numbers))
+        self.assertEqual(str(Version(text)), text)
+        self.assertEqual(Version(text).release, tuple(numbers))
+        self.assertLess(Version(text), Version(text + ".1"))
+
+    def test_versions_made_while_one_is_made(self):
+        """As by a signal's handler, between any two lines."""
+
+        def trace(frame, event, argument):
+            Version("9.9.9.dev9+other.9")
+            return trace
+
+        before = sys.gettrace()
+        sys.settrace(trace)
+        try:
+            versions = [Version(it) for it in RISING]
+            texts = [str(it) for it in versions]
+        finally:
+            sys.settrace(before)
+        self.assertEqual([it._key for it in versions], [Version(it)._key for it in RISING])
+        self.assertEqual(texts, [str(Version(it)) for it in RISING])
+
+    def test_threads(self):
+        wrong = []
+
+        def compare(number):
+            for it in range(500):
+                version = Version(f"{number}.{it}")
+                if str(version) != f"{number}.{it}" or version != Version(f"{number}.{it}.0"):
+                    wrong.append(version)
+
+        threads = [threading.Thread(target=compare, args=(it,)) for it in range(8)]
+        for it in threads:
+            it.start()
+        for it in threads:
+            it.join()
+        self.assertEqual(wrong, [])

@@ -1,0 +1,108 @@
+#!/usr/bin/env bash
+# Tests of the Debian package that `./pack deb` makes: dpkg installs it into a root of its own, and what lies there runs. The last
+# line is `deb: N passed, M failed`.
+set -u
+export LC_ALL=C.UTF-8
+
+top=$(cd -- "$(dirname -- "$(readlink -f -- "${BASH_SOURCE[0]}")")/.." && pwd) || exit 1
+passed=0
+failed=0
+work=$(mktemp -d) || exit 1
+trap 'rm -rf "$work"' EXIT
+root=$work/root
+files=(
+    usr/bin/reqs
+    usr/include/reqs.h
+    usr/lib/x86_64-linux-gnu/libreqs.a
+    usr/lib/x86_64-linux-gnu/libreqs.so
+    usr/lib/x86_64-linux-gnu/pkgconfig/reqs.pc
+    usr/libexec/reqs/reqs
+    usr/share/bash-completion/completions/reqs
+    usr/share/doc/reqs/copyright
+    usr/share/fish/vendor_completions.d/reqs.fish
+    usr/share/man/man1/reqs.1.gz
+    usr/share/zsh/vendor-completions/_reqs
+)
+
+# holds NAME WORDS..: a test is passed where the command ends with status 0.
+holds() {
+    if "${@:2}"; then
+        passed=$((passed + 1))
+    else
+        failed=$((failed + 1))
+        echo "FAILED: $1"
+    fi
+}
+
+finish() {
+    echo "deb: $passed passed, $failed failed"
+    [ "$failed" -eq 0 ]
+    exit
+}
+
+makes() {
+    deb=$("$top/pack" deb "$work") && [ -f "$deb" ]
+}
+
+makes_the_same() {
+    cp -- "$deb" "$work/first.deb" && makes && cmp "$work/first.deb" "$deb"
+}
+
+installs() {
+    mkdir -p "$root/var/lib/dpkg/"{info,updates,triggers} && : >"$root/var/lib/dpkg/status" || return
+    # (there is no C library in that root, and no other package)
+    dpkg --root="$root" --force-not-root --force-depends --force-bad-path --log="$work/log" -i "$deb" >"$work/said" 2>&1 ||
+        { cat "$work/said"; return 1; }
+}
+
+has_files() {
+    (cd "$root" && find usr -type f | sort) | cmp - <(printf '%s\n' "${files[@]}")
+}
+
+# (md5sums stand in the package's information)
+is_whole() {
+    (cd "$root" && md5sum --quiet -c var/lib/dpkg/info/reqs.md5sums)
+}
+
+answers() {
+    local first=$top/examples/first
+    cd "$work" && "$root/usr/bin/reqs" check "$first/requirements.txt" "$first/environment.json" "$first/candidates.txt" >out &&
+        cmp out "$first/expected.txt"
+}
+
+answers_through_a_link() {
+    ln -s "$root/usr/bin/reqs" "$work/linked" && "$work/linked" --version | grep -q '^reqs '
+}
+
+links() {
+    local libraries=$root/usr/lib/x86_64-linux-gnu
+    printf '#include <reqs.h>\nint main(void) { return reqs_abi() != REQS_ABI; }\n' >"$work/main.c"
+    cc -I"$root/usr/include" -L"$libraries" -o "$work/shared" "$work/main.c" -lreqs && LD_LIBRARY_PATH=$libraries "$work/shared" &&
+        cc -I"$root/usr/include" -o "$work/static" "$work/main.c" "$libraries/libreqs.a" && "$work/static"
+}
+
+says_so() {
+    ! "$top/pack" deb "$work" 2>"$work/said" && grep -q dpkg-deb "$work/said"
+}
+
+removes() {
+    dpkg --root="$root" --force-not-root --force-bad-path --log="$work/log" -r reqs >"$work/said" 2>&1 &&
+        [ -z "$(find "$root/usr" -type f)" ]
+}
+
+if ! command -v dpkg-deb >/dev/null || ! command -v dpkg >/dev/null; then
+    echo "not tried: a Debian package, since there is no dpkg"
+    holds "./pack deb says that there is no dpkg-deb" says_so
+    finish
+fi
+holds "./pack deb makes a package" makes
+[ "$failed" -eq 0 ] || finish
+holds "the same sources make the same package" makes_the_same
+holds "dpkg installs it" installs
+holds "its files" has_files
+holds "their sums" is_whole
+holds "the first answer of README.md" answers
+holds "a link to the program" answers_through_a_link
+holds "a C program with the library" links
+holds "dpkg removes it" removes
+finish

@@ -1,0 +1,80 @@
+#!/usr/bin/env bash
+# Tests of the Python package, by each interpreter from 3.8 on that there is, over the library that `./build reqs_c` makes; and of
+# its wheel, installed into an environment of its own.
+#
+#     python.sh [LIBRARY]
+#
+# LIBRARY is taken in place of the built one. What isn't tried is told. The last line is `python: N passed, M failed`.
+set -u
+export LC_ALL=C.UTF-8 PYTHONDONTWRITEBYTECODE=1
+
+top=$(cd -- "$(dirname -- "$(readlink -f -- "${BASH_SOURCE[0]}")")/.." && pwd) || exit 1
+library=${1-$top/crates/reqs_c/out/libreqs.so}
+passed=0
+failed=0
+work=$(mktemp -d) || exit 1
+trap 'rm -rf "$work"' EXIT
+
+finish() {
+    echo "python: $passed passed, $failed failed"
+    [ "$failed" -eq 0 ]
+    exit
+}
+
+fail() {
+    failed=$((failed + 1))
+    echo "FAILED: $1"
+}
+
+if [ $# -eq 0 ] && ! "$top/build" reqs_c >"$work/said" 2>&1 </dev/null; then
+    cat "$work/said"
+    fail "the library was not built"
+    finish
+fi
+library=$(realpath -- "$library")
+
+# Interpreters by the version that they tell, each once.
+declare -A interpreters
+for name in python3 python3.{8..20}; do
+    version=$("$name" -c 'import sys; print("%d.%d" % sys.version_info[:2])' 2>/dev/null) || continue
+    [ "${version#*.}" -lt 8 ] || interpreters[$version]=${interpreters[$version]-$name}
+done
+
+run_tests() {
+    local said=$work/said-$1 count
+    cd "$top/python" || return
+    FOWLYORE_LIBRARY=$library "$2" -W error -m unittest discover -q -t . -s tests >"$said" 2>&1
+    count=$(sed -n 's/^Ran \([0-9]*\) tests\? .*/\1/p' "$said")
+    if tail -n 1 "$said" | grep -q '^OK' && [ "${count:-0}" -gt 0 ]; then
+        passed=$((passed + count))
+    else
+        tail -n 60 "$said"
+        fail "the tests by Python $1"
+    fi
+}
+
+for version in "${!interpreters[@]}"; do
+    run_tests "$version" "${interpreters[$version]}"
+done
+
+# The wheel, in an environment with nothing else, from another folder: README's first answer.
+try_wheel() {
+    local wheel first=$top/examples/first
+    cd "$work" || return
+    wheel=$(REQS_LIBRARY=$library "$top/pack" wheel "$work") && [ -f "$wheel" ] || return
+    python3 -m venv --without-pip clean && python3 -m pip -q --python clean/bin/python install --no-index "$wheel" || return
+    clean/bin/fowlyore check "$first/requirements.txt" --environment "$first/environment.json" \
+        --candidates "$first/candidates.txt" >out && cmp out "$first/expected.txt" || return
+    clean/bin/python -c 'import fowlyore; print(*fowlyore.installed())' >out && grep -q "^('fowlyore', '" out || return
+    cp -- "$wheel" first.whl && REQS_LIBRARY=$library "$top/pack" wheel "$work" >/dev/null && cmp first.whl "$wheel"
+}
+
+if ! python3 -m pip --version 2>/dev/null | grep -qE '^pip (2[3-9]|[3-9][0-9])'; then
+    echo "not tried: the wheel, which wants pip 23 or later"
+elif try_wheel; then
+    passed=$((passed + 1))
+else
+    fail "the wheel, installed into an environment of its own"
+fi
+echo "not tried: packaging's own tests, which tests/packaging_suite/run.py fetches"
+finish
