@@ -12,3 +12,4 @@ pub mod Answers
 pub mod Choosing
 pub mod Runs
 pub mod Owns
+pub use Rattle.reqtable_groups.specs.Given
