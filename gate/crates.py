@@ -23,6 +23,10 @@ class Crate:
     def is_program(self):
         return os.path.isfile(os.path.join(self.folder, "src", "main.rt"))
 
+    def is_static(self):
+        """Whether it is a library for C."""
+        return "staticlib" in self.said
+
     def library(self):
         return os.path.join(self.folder, "out", "rlib", f"{self.name}.rlib")
 

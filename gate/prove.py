@@ -2,7 +2,8 @@
 """Proves what the store doesn't hold, and takes the rest from there.
 
     prove.py [--from-nothing]        all crates and tests, and runs them: what `rt ci` does
-    prove.py --program NAME          a program and the crates below it: crates/NAME/out/NAME is there then
+    prove.py --program NAME          a program and the crates below it: crates/NAME/out/NAME is there then; of a library for C
+                                     what tools/pack.sh makes of its archive
     prove.py --libraries CRATE..     the libraries of these crates and of those below, as `rt check` takes them
 
 What is proved is judged by `rt`'s own code, and kept in the store under the sum of all that it rests on. With
@@ -16,16 +17,16 @@ import sys
 import threading
 
 import toolchain
-from crates import TOP, Crates
+from crates import TOP, Crates, kit_folder
 from lanes import Lanes, Task
 from store import Store
 
-LIBRARY, PROGRAM, TESTS = "library", "program", "tests"
+LIBRARY, PROGRAM, STATIC, TESTS = "library", "program", "static", "tests"
 # A file in out/, or in out/rlib/, that says by its sum what lies there.
 MARK = "sum"
 # What a proof takes by one job, as measured: a crate is loaded, and then so much for a line. Functions of programs and of
 # tests own more values.
-SECONDS, SECONDS_A_LINE = 7, {LIBRARY: 0.13, PROGRAM: 0.6, TESTS: 0.6}
+SECONDS, SECONDS_A_LINE = 7, {LIBRARY: 0.13, PROGRAM: 0.6, STATIC: 0.6, TESTS: 0.6}
 # Some checks take a fifth more memory than is reckoned.
 MEMORY = 0.85
 
@@ -42,7 +43,8 @@ class Prover:
         self.turns = {it: threading.Lock() for it in self.crates}
 
     def kind(self, name, tests=False):
-        return TESTS if tests else PROGRAM if self.crates[name].is_program() else LIBRARY
+        crate = self.crates[name]
+        return TESTS if tests else PROGRAM if crate.is_program() else STATIC if crate.is_static() else LIBRARY
 
     def entry(self, name, tests=False):
         return f"{self.crates.sum(name)}.{self.kind(name, tests)}"
@@ -59,11 +61,18 @@ class Prover:
         if lost:
             print(f"gate: {crate.name}: the library {lost[0]} can't be taken from the store", file=crate.out)
             return 1
-        status = self.proves(crate, flags, tests)
+        status = self.prove(crate, flags, tests)
         if status == 0:
             self.proved.append(entry)
             self.keep(crate, entry, tests)
         return status
+
+    def prove(self, crate, flags, tests):
+        """Proves a crate from nothing, and gives a status. `rt ci` makes no archive of a library for C, so that is built here."""
+        if self.kind(crate.name, tests) != STATIC:
+            return self.proves(crate, flags, tests)
+        words = [*crate.words(flags, keeps=False), "--toolchain", os.path.join(kit_folder(), "toolchain")]
+        return crate.prove(["build", *words, "--backend", "llvm", "-o", f"out/{archive_of(crate.name)}"])
 
     def keep(self, crate, entry, tests):
         """Keeps what was proved, unless a text changed meanwhile."""
@@ -71,7 +80,8 @@ class Prover:
             return
         out, kind = os.path.join(crate.folder, "out"), self.kind(crate.name, tests)
         programs = [crate.name, f"{crate.name}.by-rattle"]
-        made = {TESTS: [f"{crate.name}_tests"], PROGRAM: programs, LIBRARY: ["rlib"]}[kind]
+        archives = [archive_of(crate.name)]
+        made = {TESTS: [f"{crate.name}_tests"], PROGRAM: programs, STATIC: archives, LIBRARY: ["rlib"]}[kind]
         if os.path.isdir(os.path.join(out, "rlib")) and kind == LIBRARY:
             # (by its stamp `rt check` knows a library for its own)
             write(os.path.join(out, "rlib", "stamp"), crate.stamp())
@@ -104,6 +114,10 @@ class Prover:
 
     def told(self):
         return f"{len(self.proved)} proved, {len(self.taken)} taken from the store"
+
+
+def archive_of(name):
+    return f"lib{name}.a"
 
 
 def read(path):
@@ -181,14 +195,17 @@ class Chain:
 
 
 def program(prover, name):
-    """Has a program built where it isn't there, and returns a status."""
+    """Has a program built, or a library for C, where it isn't there, and returns a status."""
     crate = prover.crates[name]
     out, mark = os.path.join(crate.folder, "out"), prover.crates.sum(name)
-    built = os.path.join(out, name)
-    if os.access(built, os.X_OK) and read(os.path.join(out, MARK)) == mark:
+    built = os.path.join(out, archive_of(name) if crate.is_static() else name)
+    if os.path.isfile(built) and read(os.path.join(out, MARK)) == mark:
         return 0
-    if not Chain(prover, [name]).run() or not os.access(built, os.X_OK):
+    if not Chain(prover, [name]).run() or not os.path.isfile(built):
         print(f"gate: {name} was not built", file=sys.stderr)
+        return 1
+    if crate.is_static() and subprocess.run(["bash", "tools/pack.sh"], cwd=TOP).returncode:
+        print(f"gate: of the archive of {name} no library was made", file=sys.stderr)
         return 1
     write(os.path.join(out, MARK), mark)
     return 0
