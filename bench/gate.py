@@ -22,10 +22,11 @@ TICKS = os.sysconf("SC_CLK_TCK")
 PAUSE = 0.2
 KINDS = ["proofs", "proofs of tests", "wrong edits one by one", "wrong edits together", "builds",
          "runs of tests and programs", "command line", "answers compared", "a first answer", "installing",
-         "refused memory", "faults", "the rest"]
+         "refused memory", "library for C", "Python package", "Debian package", "Rust crate", "faults", "the rest"]
 # A script whose processes are all of one kind.
 SCRIPTS = {"cli.sh": ("command line", ""), "alike.py": ("answers compared", ""), "try.sh": ("a first answer", ""),
-           "install.sh": ("installing", ""), "refused.sh": ("refused memory", ""), "faults.py": ("faults", "")}
+           "c.sh": ("library for C", ""), "python.sh": ("Python package", ""), "deb.sh": ("Debian package", ""),
+           "rust.sh": ("Rust crate", ""), "install.sh": ("installing", ""), "refused.sh": ("refused memory", ""), "faults.py": ("faults", "")}
 
 
 class Unit:

@@ -29,6 +29,8 @@ QUESTIONS = ("pep440_vectors", "pep508_vectors", "pep508_marker_vectors")
 OF_REQS = ("alike.py", "cli.sh", "help.txt", "install.sh", "lists", "pages", "pairs.py", "refuse.c", "refused.py", "refused.sh",
            "runs.json", "runs.py", "try.sh")
 
+OF_C = ("c.sh", "c.py", "c", "refuse.c")
+
 
 class Part:
     """A part of the gate: its name, its words, the programs and files that its verdict rests on, if it is kept, and how
@@ -50,6 +52,9 @@ def parts(more):
     """The parts that are run one after another, and those that are then run side by side."""
     python = [sys.executable]
     of_reqs = ("examples", "reqs", "build", "install", "share", "try", *(f"tests/{it}" for it in OF_REQS))
+    of_c = ["include", "tools", "build"]
+    of_python = [*of_c, "python", "pack", "pyproject.toml", "docs/PYTHON.md", "examples/first", "tests/python.sh"]
+    of_deb = [*of_c, "pack", "install", "share", "examples/first", "tests/deb.sh"]
     asked = [f"crates/{it}/{of}" for it in QUESTIONS for of in ("data", "stdout")]
     return [
         Part("layout", [*python, "gate/layout.py"]),
@@ -65,6 +70,10 @@ def parts(more):
         Part("a first answer", ["bash", "tests/try.sh"], ["reqs_cli"], of_reqs),
         Part("installing", ["bash", "tests/install.sh"], ["reqs_cli"], of_reqs),
         Part("refused memory", ["bash", "tests/refused.sh"], ["reqs_cli", *QUESTIONS], [*of_reqs, *asked]),
+        Part("library for C", ["bash", "tests/c.sh"], ["reqs_c"], [*of_c, "examples", *(f"tests/{it}" for it in OF_C)]),
+        Part("Python package", ["bash", "tests/python.sh"], ["reqs_c"], of_python),
+        Part("Debian package", ["bash", "tests/deb.sh"], ["reqs_c", "reqs_cli"], of_deb),
+        Part("Rust crate", ["bash", "tests/rust.sh"], ["reqs_c"], [*of_c, "rust", "tests/rust.sh", "tests/rust"]),
         Part("faults", [*python, "gate/faults.py"], ["underline"], ["gate"]),
     ]
 
@@ -123,11 +132,11 @@ def gate(more):
     store, crates = Store(reads=not more), Crates()
     alone, together = parts(more)
     counts = [judged(it, crates, store, lambda text: print(text, end="", flush=True)) for it in alone]
-    if are_built(["reqs_cli", *QUESTIONS]):
+    if are_built(["reqs_cli", "reqs_c", *QUESTIONS]):
         with ThreadPoolExecutor() as pool:
             counts += pool.map(lambda part: judged_apart(part, crates, store), together)
     else:
-        print("test: the programs were not built, so nothing that runs them was tried")
+        print("test: the programs and the library for C were not built, so nothing that runs them was tried")
         counts.append((0, len(together)))
     passed, failed = (sum(it[at] for it in counts) for at in (0, 1))
     print(f"{passed} passed, {failed} failed")
