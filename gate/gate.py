@@ -29,7 +29,7 @@ QUESTIONS = ("pep440_vectors", "pep508_vectors", "pep508_marker_vectors")
 OF_REQS = ("alike.py", "cli.sh", "help.txt", "install.sh", "lists", "pages", "pairs.py", "refuse.c", "refused.py", "refused.sh",
            "runs.json", "runs.py", "try.sh")
 
-OF_C = ("c.sh", "c.py", "c", "refuse.c")
+OF_C = ("c", "c.py", "c.sh", "refuse.c", "runs.json")
 
 
 class Part:
