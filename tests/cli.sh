@@ -152,12 +152,22 @@ run check meaningless E final
 wants "comparisons that mean nothing" 0 "bar none${n}baz none${n}foo 1.0$n" ""
 run check R E C dev Other_Extra
 wants "two extras" 0 "foo-bar 1.19$n" ""
-# (where the system gives a program 64 MiB of stack, as nearly all do that are asked)
-if [ "$(ulimit -H -s)" = unlimited ] || [ "$(ulimit -H -s)" -ge 65536 ]; then
-    awk 'BEGIN { printf "foo ; extra == \"x0\""; for (i = 1; i < 50000; i++) printf " and extra == \"x%d\"", i * 7919 % 50000 }' >deep
-    run check deep E C x0
-    wants "a path of 50,000 extras" 0 "" ""
-fi
+# A path as long as its line has extras, in no order, with the stack that systems mostly give.
+extras=100000
+awk -v n=$extras 'BEGIN { printf "foo ; extra == \"x0\""; for (i = 1; i < n; i++) printf " and extra == \"x%d\"", i * 7919 % n }' >deep
+awk -v n=$extras 'BEGIN { for (i = 0; i < n; i++) print "extra == '"'"'x" i "'"'"'" }' | sort |
+    awk '{ printf "%s%s", NR == 1 ? "foo ; " : " and ", $0 } END { print "" }' >in_order
+run_small() {
+    (ulimit -S -s 8192 && exec "$program" "$@") >out 2>err </dev/null
+    status=$?
+}
+run_small check deep E C x0
+wants "a path of $extras extras" 0 "" ""
+run_small normal deep
+cmp -s in_order out && echo alike >out
+wants "the normal form of such a path" 0 "alike$n" ""
+run_small same deep in_order
+wants "such a path beside the same one in order" 0 "yes$n" ""
 
 # Answers for many environments.
 { printf '['; environment | tr '\n' ','; environment os_name | sed 's/}/, "os_name": "nt"}]/'; } >M

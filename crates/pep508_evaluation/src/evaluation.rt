@@ -72,8 +72,8 @@ pub trait MarkerTreeEvaluation {
     /// each path to a node of it, and then of each bound that a text is compared with on the way to the
     /// answer. The only refusal is want of memory, for a warning's text or the reporter's own.
     ///
-    /// Goes over each path from the root, of which there can be many more than nodes, and recurses as deep as
-    /// a path is long. For a reporter that wants no warning it is `evaluate` alone.
+    /// Goes over each path from the root, of which there can be many more than nodes. No recursion, however
+    /// deep the tree is. For a reporter that wants no warning it is `evaluate` alone.
     fn evaluate_reporter<R: Reporter>(
         self,
         alloc: Global,
