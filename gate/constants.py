@@ -32,7 +32,8 @@ class Kept(NamedTuple):
 
 TESTS = 'wants "requirements of 16777216 bytes, one comment" 0 ', 'wants "requirements that are too long" 2 '
 INPUT_LIMIT = Kept("INPUT_LIMIT", "a limit of the program's own", "tests/cli.sh", TESTS)
-KEPT = {it: INPUT_LIMIT for it in ("reqs_ends.Ends.EndsAs", "reqs_ends.Inputs.IsWithin", "reqs_ends.Inputs.ReadsInput")}
+LIMITED = ("reqs_ends.Ends.EndsAs", "reqs_ends.Inputs.IsWithin", "reqs_ends.Inputs.ReadsInput", "reqs_slices.Commands.RefusesInputs")
+KEPT = {it: INPUT_LIMIT for it in LIMITED}
 
 
 def cited(path):

@@ -12,6 +12,7 @@ pub use Rattle.pep440_version.specs.PatternOrder
 pub use Rattle.pep440_version.specs.OrderLaws
 pub use Rattle.pep440_version.specs.VersionReading
 pub use Rattle.pep440_version.specs.ErrorPrints
+pub use Rattle.pep440_key.specs.Key
 pub use Rattle.pep440_operator.specs.Operators
 pub use Rattle.pep440_operator.specs.OperatorPrint
 pub use Rattle.pep440_operator.specs.OperatorReading

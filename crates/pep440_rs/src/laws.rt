@@ -1,5 +1,6 @@
 //! The laws of the crates below.
 
+pub use pep440_key::laws::keys_compare_as_versions;
 pub use pep440_operator::laws::operator_text_is_read;
 pub use pep440_range::laws::{
     interval_specifiers_hold_the_interval, list_of_a_set_holds_the_set,

@@ -1,0 +1,3 @@
+pub mod NumberOrder
+pub mod KeyOrder
+pub mod Written

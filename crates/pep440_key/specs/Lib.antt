@@ -1,0 +1,3 @@
+pub use Rattle.pep440_text.specs.Record
+pub use Rattle.pep440_version.specs.Order
+pub mod Key

@@ -1,0 +1,20 @@
+//! Laws over the definitions that the contracts cite. The functions do nothing: each one's contract is its
+//! law.
+
+ghost use Rattle.std.specs.Prelude.{◌≡◌, ◌↔◌, ◌++◌, List, ℕ, IsTrue};
+ghost use Rattle.std.specs.Ordering.{ordering_then};
+ghost use Rattle.pep440_text.specs.Record.{VersionRecord};
+ghost use Rattle.pep440_version.specs.Order.{version_cmp, version_eq};
+ghost use Rattle.pep440_key.specs.Key.{bytes_cmp, version_bytes};
+
+/// Keys compare as their versions do, and are the same exactly where these are equal; where bytes follow the
+/// keys, those decide between equal versions alone.
+pub fn keys_compare_as_versions()
+    ensures order { (a b : VersionRecord)
+        → bytes_cmp (version_bytes a) (version_bytes b) ≡ version_cmp a b }
+    ensures equality { (a b : VersionRecord)
+        → (version_bytes a ≡ version_bytes b) ↔ IsTrue (version_eq a b) }
+    ensures before_others { (a b : VersionRecord) (x y : List ℕ)
+        → bytes_cmp (version_bytes a ++ x) (version_bytes b ++ y)
+        ≡ ordering_then (version_cmp a b) (bytes_cmp x y) }
+{}

@@ -1,0 +1,10 @@
+//! Keys of versions: bytes in whose order versions stand, for a sort of bytes, a column of a table or a
+//! search tree that knows nothing of versions.
+#![tactic(auto)]
+
+mod components;
+mod key;
+pub mod laws;
+mod number;
+
+pub use key::version_key;

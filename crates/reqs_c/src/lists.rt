@@ -1,0 +1,83 @@
+//! Lists of requirements: the commands of `reqs`.
+
+ghost use Rattle.reqs_reply.specs.Endings.{RepliesAs};
+ghost use Rattle.reqs_slices.specs.Commands.{CheckEnds, MatrixEnds, SameEnds, ConflictsEnd, NormalEnds};
+
+use reqs_reply::Reply;
+use std::alloc::Global;
+
+/// What `reqs check` answers.
+#[unsafe(no_mangle)]
+pub extern "C" fn reqs_check(
+    alloc: Global,
+    requirements: &[u8],
+    environment: &[u8],
+    candidates: &[u8],
+    extras: &[u8],
+    out: &mut [u8],
+) -> Reply
+    ensures { RepliesAs (CheckEnds requirements.now environment.now candidates.now extras.now)
+        out.old out.new result }
+{
+    reqs_slices::check(alloc, requirements, environment, candidates, extras, out)
+}
+
+/// What `reqs matrix` answers.
+#[unsafe(no_mangle)]
+pub extern "C" fn reqs_matrix(
+    alloc: Global,
+    requirements: &[u8],
+    environments: &[u8],
+    candidates: &[u8],
+    extras: &[u8],
+    limit: u64,
+    out: &mut [u8],
+) -> Reply
+    ensures { RepliesAs (MatrixEnds limit requirements.now environments.now candidates.now extras.now)
+        out.old out.new result }
+{
+    reqs_slices::matrix(
+        alloc,
+        requirements,
+        environments,
+        candidates,
+        extras,
+        limit,
+        out,
+    )
+}
+
+/// What `reqs same` answers.
+#[unsafe(no_mangle)]
+pub extern "C" fn reqs_same(
+    alloc: Global,
+    left: &[u8],
+    right: &[u8],
+    limit: u64,
+    out: &mut [u8],
+) -> Reply
+    ensures { RepliesAs (SameEnds limit left.now right.now) out.old out.new result }
+{
+    reqs_slices::same(alloc, left, right, limit, out)
+}
+
+/// What `reqs conflicts` answers.
+#[unsafe(no_mangle)]
+pub extern "C" fn reqs_conflicts(
+    alloc: Global,
+    requirements: &[u8],
+    limit: u64,
+    out: &mut [u8],
+) -> Reply
+    ensures { RepliesAs (ConflictsEnd limit requirements.now) out.old out.new result }
+{
+    reqs_slices::conflicts(alloc, requirements, limit, out)
+}
+
+/// What `reqs normal` answers.
+#[unsafe(no_mangle)]
+pub extern "C" fn reqs_normal(alloc: Global, requirements: &[u8], out: &mut [u8]) -> Reply
+    ensures { RepliesAs (NormalEnds requirements.now) out.old out.new result }
+{
+    reqs_slices::normal(alloc, requirements, out)
+}

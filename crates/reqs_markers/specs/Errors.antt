@@ -1,0 +1,23 @@
+-- What is said of a text that is no requirement or no marker.
+use Rattle.std.specs.Prelude.{◌≡◌, ℕ, List, Option, Some, IfSome}
+use Rattle.pep508_url.specs.UrlFaults.{url_error_text}
+use Rattle.pep508_url.specs.UrlTexts.{Verbatim}
+use Rattle.pep508_url.specs.declared.error.VerbatimUrlError.{VerbatimUrlError}
+use Rattle.pep508_error.specs.declared.error.Pep508Error.{Pep508Error}
+use Rattle.pep508_error.specs.Errors.{Fault, told_error, source_text}
+use Rattle.pep508_error.specs.Spans.{IsSpan}
+use Rattle.reqs_reply.specs.declared.place.Place.{Place}
+use Rattle.reqs_reply.specs.Endings.{span}
+
+-- why a text is none
+abbrev pub TextError : Type 0
+TextError = Pep508Error Verbatim VerbatimUrlError
+
+-- the error tells a fault, which the message says and whose part of the first argument is the place; where the
+-- message is that of the crate `url`, nothing is claimed of it
+pub record IsToldBy (error : TextError) (place : Place) (message : List ℕ) : Type 0 where
+  pub fault : Fault Verbatim VerbatimUrlError
+  pub tells : told_error error ≡ Some fault
+  pub stands : place ≡ span 1 fault.start fault.len
+  pub within : IsSpan fault.input fault.start fault.len
+  pub says : IfSome (source_text url_error_text fault.source) (λ wanted. message ≡ wanted)

@@ -1,0 +1,22 @@
+//! How a call ends whose text is refused.
+
+ghost use Rattle.reqs_reply.specs.Endings.{EndsIn, NoAnswer, ending_of};
+ghost use Rattle.reqs_markers.specs.Errors.{IsToldBy};
+
+use pep508_error::{Pep508Error, Pep508ErrorSource};
+use pep508_url::VerbatimUrl;
+use reqs_reply::{Ended, Place};
+use std::alloc::Global;
+
+/// How a call ends whose first argument is refused with an error, or for which memory ran out.
+pub(crate) fn refused(alloc: Global, error: &Pep508Error<VerbatimUrl>) -> Ended
+    ensures { EndsIn NoAnswer (IsToldBy error.now) (ending_of result) }
+{
+    match error.message() {
+        Pep508ErrorSource::Memory => Ended::OutOfMemory,
+        message => {
+            let start = error.start();
+            Ended::refused(Place::span(1, start, error.len()), message.to_string(alloc))
+        }
+    }
+}

@@ -1,0 +1,16 @@
+use Rattle.std.proofs.Common.{◌∙◌, ◌∷◌, [], Bor, ℕ, List, ap, map}
+use Rattle.reqs.specs.Matrix.{MatrixAnswersAs, MatrixRefuses}
+use Rattle.reqs_reply.specs.Lines.{filled_lines}
+use Rattle.reqs_slices.specs.Commands.{CommandEnds, matrix_names}
+use Rattle.reqs_slices.specs.Refusals.{IsToldAt}
+use Rattle.reqs_slices.proofs.AtHand.{with_extras}
+use Rattle.reqs_slices.proofs.checking.tabled.Goals as goal
+
+pub returns : goal.returns
+returns c =
+    let inputs = c.args.requirements.now ∷ c.args.environments.now ∷ c.args.candidates.now ∷ [] in
+    let text = c.in-Ok.ensures in
+    with_extras 4 (λ vars extras. CommandEnds (MatrixAnswersAs c.args.limit vars extras) (MatrixRefuses c.args.limit vars extras) (IsToldAt matrix_names 4) inputs)
+    c.args.extras.now c.in-Ok-no_variables.vars _ _ text.is_text c.in-Ok-no_variables.ensures
+    (ap (map (λ (e : Bor (List ℕ)). e.now)) c.deref.ensures.value ∙ c.in-Ok-filled_lines.ensures ∙ ap filled_lines text.text)
+    c.tabled_with.ensures

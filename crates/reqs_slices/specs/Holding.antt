@@ -1,0 +1,51 @@
+-- What is answered on many markers in one environment (PEP 508, "Environment Markers").
+use Rattle.std.specs.Prelude.{◌≡◌, ℕ, List, [], ◌∷◌, map, codes, Result, Ok}
+use Rattle.pep508_environment.specs.Environment.{EnvironmentRecord}
+use Rattle.pep508_evaluation.specs.Valuations.{valuation_of}
+use Rattle.reqs_ends.specs.declared.fault.Input.TheVariants.{Second}
+use Rattle.reqs_ends.specs.declared.fault.RunFault.{RunFault}
+use Rattle.reqs_ends.specs.Faults.{Cause, IsPlain, Refuses}
+use Rattle.reqs_ends.specs.Inputs.{◌>>=◌, extras_of, environment_from}
+use Rattle.reqs_reply.specs.declared.place.Place.{Place}
+use Rattle.reqs_reply.specs.Endings.{Ending, EndsIn}
+use Rattle.reqs_reply.specs.Lines.{batch_lines}
+use Rattle.reqs_markers.specs.Markers.{mark_in}
+use Rattle.reqs_slices.specs.Commands.{WithExtras}
+use Rattle.reqs_slices.specs.Refusals.{IsToldAt}
+
+-- extras and an environment
+pub record Surroundings : Type 0 where
+  pub extras : List (List ℕ)
+  pub environment : EnvironmentRecord
+
+abbrev pub together : List (List ℕ) → EnvironmentRecord → Surroundings
+together extras environment = record { extras = extras; environment = environment }
+
+-- what the texts of extras and of an environment are, or the first thing at fault: that of the extras first
+abbrev pub surroundings_of : List (List ℕ) → List ℕ → Result Surroundings Cause
+surroundings_of extras environment = do
+  names ← extras_of extras
+  read ← environment_from Second 1 environment
+  Ok (together names read)
+
+-- the text has a mark for each line, by whether the marker that the line is holds in these surroundings
+pub record AreHeld (texts : Result Surroundings Cause) (markers text : List ℕ) : Type 0 where
+  pub read : Surroundings
+  pub is_read : texts ≡ Ok read
+  pub is_text :
+      text ≡ map (mark_in (valuation_of read.environment read.extras)) (batch_lines markers)
+
+-- the texts are refused for what a fault says, which the place and the message tell
+pub record RefusesSurroundings (texts : Result Surroundings Cause) (place : Place) (message : List ℕ)
+    : Type 0 where
+  pub fault : RunFault
+  pub refuses : Refuses IsPlain fault texts
+  pub told : IsToldAt ([] ∷ codes "environment" ∷ []) 3 fault place message
+
+abbrev pub HoldsIn : Result Surroundings Cause → List ℕ → Ending → Type 0
+HoldsIn texts markers = EndsIn (AreHeld texts markers) (RefusesSurroundings texts)
+
+-- how a call ends that is to say which markers hold
+abbrev pub HoldEnds : List ℕ → List ℕ → List ℕ → Ending → Type 0
+HoldEnds markers environment =
+    WithExtras 3 (λ extras. HoldsIn (surroundings_of extras environment) markers)

@@ -1,0 +1,99 @@
+//! Which markers hold.
+
+ghost use Rattle.std.specs.Prelude.{◌≡◌, map, IfOk};
+ghost use Rattle.pep508_evaluation.specs.Valuations.{valuation_of};
+ghost use Rattle.reqs_ends.specs.Faults.{AnswersRun};
+ghost use Rattle.reqs_reply.specs.Endings.{RepliesAs, ending_of};
+ghost use Rattle.reqs_reply.specs.Lines.{batch_lines};
+ghost use Rattle.reqs_markers.specs.Markers.{mark_in};
+ghost use Rattle.reqs_slices.specs.Holding.{together, surroundings_of, HoldsIn, HoldEnds};
+
+use crate::refusing::refused;
+use pep508_environment::MarkerEnvironment;
+use pep508_name::ExtraName;
+use reqs_ends::{Input, RunFault, read_environment, read_extras};
+use reqs_markers::mark_of_line;
+use reqs_reply::{Ended, Reply, batch_lines, filled_lines, text_of};
+use std::alloc::{AllocError, Global};
+
+/// How messages name the inputs.
+const NAMES: [&str; 2] = ["", "environment"];
+
+/// The number of the argument that has the extras.
+const EXTRAS: u32 = 3;
+
+/// Answers with a byte for each line of a text: `1` where the marker that the line is holds in the environment,
+/// which is JSON as of `check`, with the extras, one a line; `0` where it doesn't; `?` where the line is no
+/// marker (PEP 508, "Environment Markers"). Each marker is read for itself.
+pub fn markers_hold(
+    alloc: Global,
+    markers: &[u8],
+    environment: &[u8],
+    extras: &[u8],
+    out: &mut [u8],
+) -> Reply
+    ensures { RepliesAs (HoldEnds markers.now environment.now extras.now) out.old out.new result }
+{
+    held(alloc, markers, environment, extras).reply(out)
+}
+
+/// How the call ends.
+fn held(alloc: Global, markers: &[u8], environment: &[u8], extras: &[u8]) -> Ended
+    ensures { HoldEnds markers.now environment.now extras.now (ending_of result) }
+{
+    let extras = match text_of(alloc, EXTRAS, extras) {
+        Ok(text) => text,
+        Err(ended) => return ended,
+    };
+    let Ok(extras) = filled_lines(alloc, extras) else {
+        return Ended::OutOfMemory;
+    };
+    held_with(alloc, markers, environment, &extras)
+}
+
+/// How the call ends with these extras.
+fn held_with(alloc: Global, markers: &[u8], environment: &[u8], extras: &[&str]) -> Ended
+    ensures { HoldsIn (surroundings_of (map (λ e. e.now) extras.now) environment.now) markers.now
+        (ending_of result) }
+{
+    match surroundings(alloc, environment, extras) {
+        Ok((names, environment)) => match marks(alloc, markers, &environment, &names) {
+            Ok(marks) => Ended::Answered(marks),
+            Err(_) => Ended::OutOfMemory,
+        },
+        Err(fault) => refused(alloc, &fault, &NAMES, EXTRAS),
+    }
+}
+
+/// The extras and the environment.
+fn surroundings(
+    alloc: Global,
+    environment: &[u8],
+    extras: &[&str],
+) -> Result<(Vec<ExtraName>, MarkerEnvironment), RunFault>
+    ensures { AnswersRun (λ read. together read.0.items read.1) result
+        (surroundings_of (map (λ e. e.now) extras.now) environment.now) }
+{
+    let names = read_extras(alloc, extras)?;
+    let mut bytes = Vec::from_slice(alloc, environment)?;
+    let environment = read_environment(alloc, Input::Second, 1, &mut bytes)?;
+    Ok((names, environment))
+}
+
+/// A mark for each line.
+fn marks(
+    alloc: Global,
+    markers: &[u8],
+    environment: &MarkerEnvironment,
+    extras: &[ExtraName],
+) -> Result<Vec<u8>, AllocError>
+    ensures { IfOk result (λ marks. marks.items
+        ≡ map (mark_in (valuation_of environment.now extras.now)) (batch_lines markers.now)) }
+{
+    let lines = batch_lines(alloc, markers)?;
+    let mut marks = Vec::with_capacity(alloc, lines.len())?;
+    for line in &lines {
+        marks.push(mark_of_line(alloc, line, environment, extras)?)?;
+    }
+    Ok(marks)
+}

@@ -1,0 +1,12 @@
+//! What the library for C answers on lists: the commands of `reqs` over bytes; and which markers hold.
+#![tactic(auto)]
+
+mod checking;
+mod ending;
+mod holding;
+mod lists;
+mod refusing;
+
+pub use checking::{check, matrix};
+pub use holding::markers_hold;
+pub use lists::{conflicts, normal, same};

@@ -1,0 +1,2 @@
+pub mod VersionTexts
+pub mod ListTexts

@@ -1,0 +1,8 @@
+//! What the library for C answers on versions and specifiers (PEP 440), over bytes.
+#![tactic(auto)]
+
+mod lists;
+mod versions;
+
+pub use lists::{specifiers, specifiers_take};
+pub use versions::{version, version_key, version_order};
