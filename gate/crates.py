@@ -23,6 +23,14 @@ class Crate:
     def is_program(self):
         return os.path.isfile(os.path.join(self.folder, "src", "main.rt"))
 
+    def is_archive(self):
+        """Whether it is a library for C: it is built, and no crate stands on it."""
+        return "staticlib" in self.said
+
+    def built(self):
+        """What a program or a library for C is built as."""
+        return os.path.join(self.folder, "out", f"lib{self.name}.a" if self.is_archive() else self.name)
+
     def library(self):
         return os.path.join(self.folder, "out", "rlib", f"{self.name}.rlib")
 

@@ -30,6 +30,9 @@ OF_REQS = ("alike.py", "cli.sh", "help.txt", "install.sh", "lists", "pages", "pa
            "runs.json", "runs.py", "try.sh")
 
 
+OF_C = ("c", "c.py", "c.sh", "refuse.c", "runs.json")
+
+
 class Part:
     """A part of the gate: its name, its words, the programs and files that its verdict rests on, if it is kept, and how
     many lines it closes with."""
@@ -64,6 +67,7 @@ def parts(more):
         Part("lists compared", [*python, "tests/pairs.py", "500"], ["reqs_cli"], of_reqs),
         Part("a first answer", ["bash", "tests/try.sh"], ["reqs_cli"], of_reqs),
         Part("installing", ["bash", "tests/install.sh"], ["reqs_cli"], of_reqs),
+        Part("library for C", ["bash", "tests/c.sh"], ["reqs_c"], ("examples", "build", "tools", "include", *(f"tests/{it}" for it in OF_C))),
         Part("refused memory", ["bash", "tests/refused.sh"], ["reqs_cli", *QUESTIONS], [*of_reqs, *asked]),
         Part("faults", [*python, "gate/faults.py"], ["underline"], ["gate"]),
     ]
@@ -123,7 +127,7 @@ def gate(more):
     store, crates = Store(reads=not more), Crates()
     alone, together = parts(more)
     counts = [judged(it, crates, store, lambda text: print(text, end="", flush=True)) for it in alone]
-    if are_built(["reqs_cli", *QUESTIONS]):
+    if are_built(["reqs_cli", "reqs_c", *QUESTIONS]):
         with ThreadPoolExecutor() as pool:
             counts += pool.map(lambda part: judged_apart(part, crates, store), together)
     else:

@@ -2,7 +2,8 @@
 """Proves what the store doesn't hold, and takes the rest from there.
 
     prove.py [--from-nothing]        all crates and tests, and runs them: what `rt ci` does
-    prove.py --program NAME          a program and the crates below it: crates/NAME/out/NAME is there then
+    prove.py --program NAME          a program and the crates below it: crates/NAME/out/NAME is there then; of a library
+                                     for C, crates/NAME/out/libNAME.a
     prove.py --libraries CRATE..     the libraries of these crates and of those below, as `rt check` takes them
 
 What is proved is judged by `rt`'s own code, and kept in the store under the sum of all that it rests on. With
@@ -13,19 +14,20 @@ import os
 import shutil
 import subprocess
 import sys
+import tempfile
 import threading
 
 import toolchain
-from crates import TOP, Crates
+from crates import TOP, Crates, kit_folder
 from lanes import Lanes, Task
 from store import Store
 
-LIBRARY, PROGRAM, TESTS = "library", "program", "tests"
+LIBRARY, PROGRAM, TESTS, ARCHIVE = "library", "program", "tests", "archive"
 # A file in out/, or in out/rlib/, that says by its sum what lies there.
 MARK = "sum"
 # What a proof takes by one job, as measured: a crate is loaded, and then so much for a line. Functions of programs and of
 # tests own more values.
-SECONDS, SECONDS_A_LINE = 7, {LIBRARY: 0.13, PROGRAM: 0.6, TESTS: 0.6}
+SECONDS, SECONDS_A_LINE = 7, {LIBRARY: 0.13, PROGRAM: 0.6, TESTS: 0.6, ARCHIVE: 0.6}
 # Some checks take a fifth more memory than is reckoned.
 MEMORY = 0.85
 
@@ -42,7 +44,8 @@ class Prover:
         self.turns = {it: threading.Lock() for it in self.crates}
 
     def kind(self, name, tests=False):
-        return TESTS if tests else PROGRAM if self.crates[name].is_program() else LIBRARY
+        crate = self.crates[name]
+        return TESTS if tests else PROGRAM if crate.is_program() else ARCHIVE if crate.is_archive() else LIBRARY
 
     def entry(self, name, tests=False):
         return f"{self.crates.sum(name)}.{self.kind(name, tests)}"
@@ -59,7 +62,8 @@ class Prover:
         if lost:
             print(f"gate: {crate.name}: the library {lost[0]} can't be taken from the store", file=crate.out)
             return 1
-        status = self.proves(crate, flags, tests)
+        proves = archived if self.kind(crate.name, tests) == ARCHIVE else lambda *words: self.proves(*words, tests)
+        status = proves(crate, flags)
         if status == 0:
             self.proved.append(entry)
             self.keep(crate, entry, tests)
@@ -71,7 +75,7 @@ class Prover:
             return
         out, kind = os.path.join(crate.folder, "out"), self.kind(crate.name, tests)
         programs = [crate.name, f"{crate.name}.by-rattle"]
-        made = {TESTS: [f"{crate.name}_tests"], PROGRAM: programs, LIBRARY: ["rlib"]}[kind]
+        made = {TESTS: [f"{crate.name}_tests"], PROGRAM: programs, ARCHIVE: [f"lib{crate.name}.a"], LIBRARY: ["rlib"]}[kind]
         if os.path.isdir(os.path.join(out, "rlib")) and kind == LIBRARY:
             # (by its stamp `rt check` knows a library for its own)
             write(os.path.join(out, "rlib", "stamp"), crate.stamp())
@@ -104,6 +108,19 @@ class Prover:
 
     def told(self):
         return f"{len(self.proved)} proved, {len(self.taken)} taken from the store"
+
+
+def archived(crate, flags):
+    """Proves a library for C from nothing, as `rt ci` does, which builds none, and builds it of what was proved."""
+    kit, words, keeps = kit_folder(), crate.words(flags, keeps=False), ("--logic-built", "--jobs")
+    with tempfile.TemporaryDirectory(prefix="gate-proved-") as room:
+        status = crate.prove(["check", *words, "-o", f"{room}/checked"])
+        for flag in keeps:
+            at = words.index(flag)
+            words = [*words[:at], *words[at + 2 :]]
+        words += ["--crate-checked", f"{room}/checked", "--toolchain", f"{kit}/toolchain", "--backend", "llvm"]
+        built = [f"{kit}/bin/rattle", "build", *words, "-o", f"out/lib{crate.name}.a"]
+        return status or subprocess.run(built, cwd=crate.folder, stdin=subprocess.DEVNULL, stdout=crate.out, stderr=crate.out).returncode
 
 
 def read(path):
@@ -181,13 +198,13 @@ class Chain:
 
 
 def program(prover, name):
-    """Has a program built where it isn't there, and returns a status."""
+    """Has a program or a library for C built where it isn't there, and returns a status."""
     crate = prover.crates[name]
-    out, mark = os.path.join(crate.folder, "out"), prover.crates.sum(name)
-    built = os.path.join(out, name)
-    if os.access(built, os.X_OK) and read(os.path.join(out, MARK)) == mark:
+    out, mark, built = os.path.join(crate.folder, "out"), prover.crates.sum(name), crate.built()
+    mode = os.R_OK if crate.is_archive() else os.X_OK
+    if os.access(built, mode) and read(os.path.join(out, MARK)) == mark:
         return 0
-    if not Chain(prover, [name]).run() or not os.access(built, os.X_OK):
+    if not Chain(prover, [name]).run() or not os.access(built, mode):
         print(f"gate: {name} was not built", file=sys.stderr)
         return 1
     write(os.path.join(out, MARK), mark)

@@ -1,0 +1,362 @@
+#!/usr/bin/env python3
+"""Makes the calls of the library for C, by programs in C that link it.
+
+    c.py SHARED STATIC DEEP REFUSE
+
+SHARED and STATIC are tests/c/serve.c linked with libreqs.so and with libreqs.a, DEEP is tests/c/deep.c, REFUSE is
+tests/refuse.c as a shared library. What calls have to answer is of elsewhere: the examples and the stored runs of the
+command, whose answers are the calls', and rows of PEP 440 and PEP 508. Each call is made with ample room; one of each
+kind with room of each smaller size, and with each of its requests for memory refused in turn. The last line is
+`c: N passed, M failed`.
+"""
+
+import json
+import os
+import re
+import struct
+import subprocess
+import sys
+from concurrent.futures import ThreadPoolExecutor
+
+TOP = os.path.dirname(os.path.dirname(os.path.abspath(__file__)))
+CALLS = ("check", "matrix", "same", "conflicts", "normal", "version", "key", "order", "specifiers", "take", "requirement",
+         "marker", "hold", "abi")
+ROOM = 1 << 20
+LIMIT = 4096
+ANSWERED, DIFFERENT, REFUSED, MEMORY = range(4)
+# What a buffer holds before a call.
+WAS = 0xA5
+# Every request after the first that is refused; and more than any call here makes.
+ALL, MOST_REQUESTS = 2 ** 62, 5000
+# What is given back counts as given back at once.
+AT_ONCE = {"GLIBC_TUNABLES": "glibc.malloc.tcache_count=0"}
+# How many extras the deepest trees have: one that is asked, and one that is printed; and the threads' stack in KiB.
+DEEP = ("100000", "1000", "1536")
+
+passed, failed = 0, []
+
+
+def wants(what, is_so, told=""):
+    global passed
+    if is_so:
+        passed += 1
+    else:
+        failed.append(what)
+        print(f"FAILED: {what}{': ' if told != '' else ''}{told if told != '' else ''}")
+
+
+class Reply:
+    """How a call ended: what it returned, and what its room holds."""
+
+    def __init__(self, told, room):
+        self.status, self.input, self.length, self.line, self.start, self.len, self.grown, behind = told
+        self.number = struct.unpack("<q", struct.pack("<Q", self.length))[0]
+        self.behind, self.room = bool(behind), room
+
+    def text(self):
+        return self.room[: self.length]
+
+    def place(self):
+        return self.input, self.line, self.start, self.len
+
+    def __repr__(self):
+        return f"status {self.status}, length {self.number}, place {self.place()}, {self.room[:200]!r}"
+
+
+def made(program, calls):
+    """What a program replies to calls, each a name, its texts, and where they aren't the usual ones a limit and a room."""
+    asked = []
+    for name, texts, *more in calls:
+        limit, room = more or (LIMIT, ROOM)
+        asked.append(struct.pack("<4Q", CALLS.index(name), limit, room, len(texts)))
+        asked.append(struct.pack(f"<{len(texts)}Q", *map(len, texts)) + b"".join(texts))
+    ran = subprocess.run([program], input=b"".join(asked), capture_output=True, env=AT_ONCE)
+    if ran.returncode:
+        raise SystemExit(f"FAILED: {os.path.basename(program)} ended with status {ran.returncode}\nc: {passed} passed, 1 failed")
+    replies, at = [], 0
+    for _, _, *more in calls:
+        room = (more or (LIMIT, ROOM))[1]
+        replies.append(Reply(struct.unpack_from("<8Q", ran.stdout, at), ran.stdout[at + 64 : at + 64 + room]))
+        at += 64 + room
+    return replies
+
+
+def read(*path):
+    with open(os.path.join(TOP, *path), "rb") as file:
+        return file.read()
+
+
+def in_lots(calls, many=40):
+    return [calls[at : at + many] for at in range(0, len(calls), many)]
+
+
+# ---- what calls have to answer: a name, a call, a status, its text, and a place
+
+ENVIRONMENT = read("examples", "first", "environment.json")
+
+
+def of_examples():
+    folder = os.path.join(TOP, "examples")
+    for name in sorted(os.listdir(folder)):
+        files = os.listdir(os.path.join(folder, name)) if os.path.isdir(os.path.join(folder, name)) else []
+        texts = {it: read("examples", name, it) for it in files}
+        lists = [texts.get(it) for it in ("requirements.txt", "environment.json", "candidates.txt")]
+        if "expected.txt" in texts and None not in lists:
+            yield f"examples/{name}", ("check", [*lists, b""]), ANSWERED, texts["expected.txt"]
+        if "environments.json" in texts:
+            lists[1] = texts["environments.json"]
+            wanted = texts.get("expected_matrix.txt", texts.get("expected.txt"))
+            yield f"examples/{name}, environments", ("matrix", [*lists, b""]), ANSWERED, wanted
+        if name == "lock":
+            before, after, rewritten = texts["before.txt"], texts["after.txt"], texts["rewritten.txt"]
+            yield "examples/lock, same", ("same", [before, after]), DIFFERENT, texts["expected_same.txt"]
+            yield "examples/lock, rewritten", ("same", [before, rewritten]), ANSWERED, b"yes\n"
+        if name == "apart":
+            yield "examples/apart", ("conflicts", lists[:1]), ANSWERED, texts["expected_conflicts.txt"]
+
+
+NAMES = {"check": ("requirements", "environment", "candidates"), "matrix": ("requirements", "environments", "candidates"),
+         "same": ("left", "right"), "conflicts": ("requirements",), "normal": ("requirements",)}
+PATHS = {"R": 0, "E": 1, "C": 2, "LEFT": 0, "RIGHT": 1, "REQS": 0}
+
+
+def of_runs():
+    """The stored runs of the command."""
+    told = json.loads(read("tests", "runs.json"))
+    usual = json.loads(told["environment"])
+    as_bytes = lambda text: text.encode("utf-8", "surrogateescape")
+    for run in told["runs"]:
+        call, texts = call_of(run, usual, told["environment"])
+        yield run, (call, [as_bytes(it) for it in texts], run.get("limit", LIMIT), ROOM)
+
+
+def call_of(run, usual, environment):
+    """A run's call and its texts."""
+    if "left" in run:
+        return "same", [run["left"], run["right"]]
+    extras = "".join(f"{it}\n" for it in run.get("extras", []))
+    command = run.get("command", "check")
+    if command in ("conflicts", "normal"):
+        return command, [run["requirements"]]
+    if command == "matrix" or "environments" in run:
+        where = run.get("environment")
+        if where is None:
+            where = json.dumps([None if it is None else {**usual, **it} for it in run["environments"]])
+        return "matrix", [run["requirements"], where, run["candidates"], extras]
+    return command, [run["requirements"], run.get("environment", environment), run["candidates"], extras]
+
+
+# Normal texts (PEP 440, "Normalization"; PEP 508), and texts that are none.
+TEXTS = [
+    ("version", "1.1RC1", "1.1rc1"), ("version", "1.0-alpha_1", "1.0a1"), ("version", "v1.0.post-2", "1.0.post2"),
+    ("version", "1.0-r4", "1.0.post4"), ("version", "1!2012.04", "1!2012.4"), ("version", "1.0+ubuntu-1", "1.0+ubuntu.1"),
+    ("version", " 1.2.dev ", "1.2.dev0"), ("version", "00", "0"),
+    ("specifiers", "<2, >= 1.0,!=1.5.*", ">=1.0\n!=1.5.*\n<2\n"), ("specifiers", "", ""), ("specifiers", "~= 2.2", "~=2.2\n"),
+    ("requirement", "requests [security,tests] >= 2.8.1, == 2.8.* ; python_version < \"2.7\"",
+     "requests\nsecurity,tests\n==2.8.*,>=2.8.1\n\npython_full_version < '2.7'"),
+    ("requirement", "pip @ https://github.com/pypa/pip/archive/1.3.1.zip#sha1=da9234ee9982d4bbb3c72346a6de940a148ea686",
+     "pip\n\n\nhttps://github.com/pypa/pip/archive/1.3.1.zip#sha1=da9234ee9982d4bbb3c72346a6de940a148ea686\n"),
+    ("requirement", "A.B-C_D", "a-b-c-d\n\n\n\n"),
+    ("requirement", "name>=3,<2", "name\n\n<2,>=3\n\n"),
+    ("marker", "os_name=='a' or os_name=='b' or os_name == 'a'", "os_name == 'a' or os_name == 'b'"),
+    ("marker", "os_name == 'a' or os_name != 'a'", ""),
+    ("marker", "'linux' == sys_platform and (extra=='X_y')", "sys_platform == 'linux' and extra == 'x-y'"),
+]
+# Refused texts, with the place that is told: its first byte and how many.
+REFUSALS = [
+    ("version", "", (0, 0)), ("version", "1.0.*", (0, 5)), ("version", "1.0 2", (0, 5)), ("version", "a", (0, 1)),
+    ("version", "99999999999999999999", (0, 20)), ("version", "1+", (0, 2)),
+    ("specifiers", ">=1,=2,<3", (4, 2)), ("specifiers", "1.0", (0, 3)), ("specifiers", ">=1,", (4, 0)),
+    ("requirement", "", None), ("requirement", "name[", None), ("requirement", "name @ ", None), ("requirement", "n <", None),
+    ("requirement", "name; python_version", None), ("requirement", "-a", (0, 1)),
+    ("marker", "os_name", None), ("marker", "(os_name == 'a'", None), ("marker", "os_name == 'a' nor", None), ("marker", "", None),
+]
+# How versions stand to each other, from PEP 440's "Summary of permitted suffixes and relative ordering".
+RISING = ["1.dev0", "1.0.dev456", "1.0a1", "1.0a2.dev456", "1.0a12.dev456", "1.0a12", "1.0b1.dev456", "1.0b2", "1.0b2.post345.dev456",
+          "1.0b2.post345", "1.0rc1.dev456", "1.0rc1", "1.0", "1.0+abc.5", "1.0+abc.7", "1.0+5", "1.0.post456.dev34", "1.0.post456",
+          "1.0.15", "1.1.dev1", "1!0.1"]
+SAME = [("1.0", "1"), ("1.0rc1", "1c1"), ("1.0-1", "1.post1"), ("1.0+A-b", "1+a.b")]
+# What lists of specifiers take: PEP 440, "Version specifiers".
+TAKEN = [
+    ("~=2.2", ["2.2", "2.3", "3.0", "2.1", "2.2.post3"], "11001"), ("~=1.4.5.0", ["1.4.5", "1.4.6", "1.5"], "100"),
+    ("==1.1", ["1.1", "1.1.0", "1.1.post1", "1.1.dev1", "1.1a1", "1.1+x"], "110001"),
+    ("==1.1.*", ["1.1.post1", "1.1a1", "1.2", "2"], "1100"), ("!=1.1.post1", ["1.1", "1.1.post1"], "10"),
+    (">1.7", ["1.7.1", "1.7.0.post1", "1.7", "1.8"], "1001"), (">1.7.post2", ["1.7.1", "1.7.0.post3", "1.7.0"], "110"),
+    ("<3.1", ["3.1.dev0", "3.1rc1", "3.0.15"], "001"), ("===1.0", ["1.0", "1.0+downstream1", "1"], "100"),
+    ("", ["1", "", "no", "1.0a1"], "1??1"), (">=1,<2", ["1.5", "2", "1.5 # c", "1.9.dev1"], "10?1"),
+]
+HELD = [
+    ("os_name == 'posix'\nos_name != 'posix'\nextra == 'X.y'\nextra == 'z'\n\npython_version >= '3.8'\nnone == 1", "x-y\n\n"),
+]
+
+
+def environment():
+    return json.dumps({
+        "implementation_name": "cpython", "implementation_version": "3.11.4", "os_name": "posix", "platform_machine": "x86_64",
+        "platform_python_implementation": "CPython", "platform_release": "5.4", "platform_system": "Linux", "platform_version": "#1",
+        "python_full_version": "3.11.4", "python_version": "3.11", "sys_platform": "linux"}).encode()
+
+
+# ---- the tests
+
+def answers(program):
+    """Calls with ample room, by a program."""
+    for name, (call, texts), status, text in of_examples():
+        reply = made(program, [(call, texts)])[0]
+        wants(name, (reply.status, reply.text(), reply.place()) == (status, text, (0, 0, 0, 0)), reply)
+    for call, text, wanted in TEXTS:
+        reply = made(program, [(call, [text.encode()])])[0]
+        wants(f"{call} of {text!r}", (reply.status, reply.text().decode()) == (ANSWERED, wanted), reply)
+    for call, text, place in REFUSALS:
+        reply = made(program, [(call, [text.encode()])])[0]
+        is_place = reply.place() == (1, 0, *place) if place else reply.input == 1 and reply.start + reply.len <= len(text) + 1
+        wants(f"{call} of {text!r} is refused", reply.status == REFUSED and is_place and reply.length > 0, reply)
+    for call in ("version", "specifiers", "requirement", "marker"):
+        reply = made(program, [(call, [b"ab\xffc"])])[0]
+        wants(f"{call} of bytes that are no text", (reply.status, reply.place(), reply.text())
+              == (REFUSED, (1, 0, 2, 0), b"not UTF-8 at byte 2"), reply)
+    wants("the interface's number", made(program, [("abi", [])])[0].number == 1)
+
+
+def orders(program):
+    texts = [it.encode() for it in RISING]
+    pairs = [(a, b) for a in range(len(texts)) for b in range(len(texts))]
+    replies = made(program, [("order", [texts[a], texts[b]], LIMIT, 0) for a, b in pairs])
+    sign = lambda a, b: (a > b) - (a < b)
+    wants("the order of versions", all(it.number == sign(a, b) for it, (a, b) in zip(replies, pairs)))
+    keys = [it.room[: it.number] for it in made(program, [("key", [it], LIMIT, 256) for it in texts])]
+    wants("the order of keys", keys == sorted(keys) and len({*keys}) == len(keys))
+    for a, b in SAME:
+        reply, *keyed = made(program, [("order", [a.encode(), b.encode()], LIMIT, 0), *(("key", [it.encode()], LIMIT, 64) for it in (a, b))])
+        wants(f"{a} equals {b}", reply.number == 0 and keyed[0].room == keyed[1].room)
+    refused = made(program, [("order", [b"1", b"x"], LIMIT, 0), ("order", [b"\xff", b"1"], LIMIT, 0), ("key", [b"x"], LIMIT, 8)])
+    wants("the order and the key of no version", [it.number for it in refused] == [2, 2, -2] and refused[2].room == bytes([WAS] * 8))
+
+
+def batches(program):
+    for listed, versions, wanted in TAKEN:
+        for end in ("", "\n"):
+            if end or versions[-1]:
+                reply = made(program, [("take", [listed.encode(), ("\n".join(versions) + end).encode()])])[0]
+                wants(f"{listed!r} of {versions}", (reply.status, reply.text().decode()) == (ANSWERED, wanted), reply)
+    reply = made(program, [("take", [b">=1,=2", b"1\n"])])[0]
+    wants("a list that is none takes nothing", (reply.status, reply.place()) == (REFUSED, (1, 0, 4, 2)), reply)
+    reply = made(program, [("take", [b">=1", b"2\n\xff\n"])])[0]
+    wants("a line that is no text", (reply.status, reply.text()) == (ANSWERED, b"1?"), reply)
+    where = environment()
+    for markers, extras in HELD:
+        reply = made(program, [("hold", [markers.encode(), where, extras.encode()])])[0]
+        wants(f"markers that hold: {markers!r}", (reply.status, reply.text()) == (ANSWERED, b"1010?1?"), reply)
+    refused = [(where, b"-\n", 3, b"extra - is no name"), (b"{}", b"", 2, b"environment: environment 1: member implementation_name is missing or no text"),
+               (b"[]", b"", 2, b"environment: not an object"), (b"\xff", b"", 2, b"environment: not UTF-8 at byte 0"), (b"{", b"", 2, b"environment: not JSON"),
+               (where, b"\xff", 3, b"not UTF-8 at byte 0")]
+    for it, extras, number, message in refused:
+        reply = made(program, [("hold", [b"os_name == 'a'", it, extras])])[0]
+        wants(f"{message.decode()}", (reply.status, reply.input, reply.text()) == (REFUSED, number, message), reply)
+
+
+def runs(program):
+    """The stored runs: their answers, and what is said of refusals but for the inputs' names."""
+    stored = [*of_runs()]
+    for lot in in_lots(stored):
+        for (run, call), reply in zip(lot, made(program, [it for _, it in lot])):
+            said = run["stderr"].encode("utf-8", "surrogateescape").removeprefix(b"reqs: ").removesuffix(b"\n")
+            names = NAMES[call[0]]
+            path, colon, rest = said.partition(b": ")
+            if colon and path.decode() in PATHS:
+                said = names[PATHS[path.decode()]].encode() + colon + rest
+            text = run["stdout"].encode("utf-8", "surrogateescape") if reply.status != REFUSED else said
+            wants(f"run {run['name']}: {call[0]}", (reply.status, reply.text()) == (run["status"], text), reply)
+
+
+def kinds():
+    """One call of each kind, as it answers and as it is refused."""
+    lists = [read("examples", "first", it) for it in ("requirements.txt", "environment.json", "candidates.txt")]
+    where, many = environment(), read("examples", "first", "environments.json")
+    return [
+        ("check", [*lists, b"test\n"]), ("check", [b"a\n--b\n", *lists[1:], b""]), ("matrix", [lists[0], many, lists[2], b""]),
+        ("same", [b"a\n", b"b>1; os_name == 'nt'\n"]), ("conflicts", [b"a<1\na>2\n"]), ("normal", [b"A >= 1.0 ; os_name=='nt'\n"]), ("normal", [b"a @ b"]),
+        ("version", [b"1.0RC1.post2.dev3+a.b"]), ("version", [b"1.0 x"]), ("key", [b"1!70000.2.3rc1+ubuntu.1"]), ("specifiers", [b">=1.0,<2,!=1.5.*"]),
+        ("specifiers", [b">=1.0,2"]), ("take", [b">=1.0,===1.5", b"1.5\n2\nx\n"]), ("requirement", [b"a[b,c] >= 1; os_name == 'nt' or extra == 'e'"]),
+        ("requirement", [b"a @ file:///b ; os_name =="]), ("marker", [b"os_name == 'nt' or python_version < '3.8'"]),
+        ("marker", [b"os_name =="]), ("hold", [b"os_name == 'posix'\nx\n", where, b"a\n"]), ("order", [b"1.0.0.0.1", b"1.0.0.0.2+a"]),
+    ]
+
+
+def rooms(program):
+    """Room of each size up to the whole text's and one more."""
+    for call, texts in kinds():
+        whole = made(program, [(call, texts)])[0]
+        length = whole.number if call == "key" else 0 if call == "order" else whole.length
+        text = whole.room[:length]
+        replies = [it for lot in in_lots([(call, texts, LIMIT, room) for room in range(length + 2)], 400) for it in made(program, lot)]
+        is_so = all(it.room == (text + bytes([WAS]) * 2)[:room] and not it.behind and it.grown == 0
+                    and (it.status, it.number, it.place()) == (whole.status, whole.number, whole.place()) for room, it in enumerate(replies))
+        wants(f"{call} of {texts[0]!r} with each room up to {length + 1}", is_so)
+
+
+def refusals(program, refuse):
+    """Each request for memory refused, alone and with all behind it."""
+    def refused(call, first, last):
+        told, tells = os.pipe()
+        environment = {**AT_ONCE, "LD_PRELOAD": refuse, "REFUSE_FIRST": str(first), "REFUSE_LAST": str(last), "REFUSE_TOLD": str(tells)}
+        asked = struct.pack("<4Q", CALLS.index(call[0]), LIMIT, 4096, len(call[1]))
+        asked += struct.pack(f"<{len(call[1])}Q", *map(len, call[1])) + b"".join(call[1])
+        ran = subprocess.run([program], input=asked, capture_output=True, env=environment, pass_fds=[tells])
+        os.close(tells)
+        with os.fdopen(told, "rb") as pipe:
+            was = pipe.read()
+        reply = Reply(struct.unpack_from("<8Q", ran.stdout), ran.stdout[64:]) if ran.returncode == 0 else None
+        return reply, bool(was)
+
+    def tried(call):
+        whole = made(program, [(*call, LIMIT, 4096)])[0]
+        no_memory = {"key": -3, "order": 3}.get(call[0])
+        for first in range(1, MOST_REQUESTS):
+            for last in (first, ALL):
+                reply, was = refused(call, first, last)
+                if reply is None or reply.behind or reply.grown:
+                    return f"request {first}: {reply}"
+                lacks = reply.number == no_memory if no_memory else (reply.status, reply.length, *reply.place()) == (MEMORY, 0, 0, 0, 0, 0)
+                untouched = reply.room == bytes([WAS]) * 4096
+                same = (reply.status, reply.number, reply.place(), reply.room) == (whole.status, whole.number, whole.place(), whole.room)
+                if not (same or was and lacks and untouched):
+                    return f"request {first}: {reply}"
+            if not was:
+                return None if first > 3 else "no request of the call was refused"
+        return "requests without an end"
+
+    with ThreadPoolExecutor(4) as pool:
+        for call, fault in zip(kinds(), pool.map(tried, kinds())):
+            wants(f"{call[0]} of {call[1][0]!r} with memory refused", fault is None, fault)
+
+
+def exports(shared, static):
+    """The header's functions are those that both libraries export, and they call nothing but the C library's for memory."""
+    header = re.sub(r"/\*.*?\*/", "", read("include", "reqs.h").decode(), flags=re.S)
+    declared = {*re.findall(r"\b(reqs_\w+)\(", header)}
+    names = lambda *words: {it.split()[-1].partition("@")[0] for it in subprocess.check_output(["nm", *words], text=True).splitlines() if it.split()}
+    wants("libreqs.so exports what the header declares", names("-D", "--defined-only", shared) == declared)
+    wants("libreqs.a exports what the header declares", {it for it in names("-g", "--defined-only", static) if not it.endswith(":")} == declared)
+    called = names("-D", "--undefined-only", shared)
+    wants("libreqs.so calls nothing else", called <= {"malloc", "realloc", "free", "memcpy", "memmove", "memset", "memcmp"}, called)
+
+
+def main(words):
+    shared, static, deep, refuse, libraries = words
+    exports(*(os.path.join(libraries, it) for it in ("libreqs.so", "libreqs.a")))
+    for program in (shared, static):
+        answers(program)
+    orders(shared)
+    batches(shared)
+    runs(shared)
+    rooms(shared)
+    refusals(shared, refuse)
+    ran = subprocess.run([deep, *DEEP], capture_output=True, text=True)
+    wants("deep texts and many threads", ran.returncode == 0, f"status {ran.returncode} {ran.stdout}")
+    print(f"c: {passed} passed, {len(failed)} failed")
+    return 1 if failed else 0
+
+
+if __name__ == "__main__":
+    sys.exit(main(sys.argv[1:]))

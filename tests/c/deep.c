@@ -1,0 +1,191 @@
+/* Texts that nest deep or hold many variables, read in a thread with a small stack; and many threads at once.
+ *
+ *     deep MOST PRINTED KIB
+ *
+ * A marker of MOST extras is asked, others and a list of a fifth of them, and one of PRINTED is printed; threads have KIB
+ * of stack. The status is 0 where all was as it should be, and a line tells of each that was not. */
+
+#include "reqs.h"
+
+#include <pthread.h>
+#include <stdio.h>
+#include <stdlib.h>
+#include <string.h>
+
+#define THREADS 4
+#define TURNS 300
+
+static int failed;
+
+static void fails(const char *what, unsigned status) {
+    printf("FAILED: %s: status %u\n", what, status);
+    failed = 1;
+}
+
+struct text {
+    uint8_t *bytes;
+    size_t length;
+};
+
+static void add(struct text *to, const char *what) {
+    size_t length = strlen(what);
+    memcpy(to->bytes + to->length, what, length);
+    to->length += length;
+}
+
+static struct text room(size_t bytes) {
+    struct text made = {malloc(bytes), 0};
+    if (made.bytes == NULL) {
+        exit(2);
+    }
+    return made;
+}
+
+/* A comparison in so many brackets. */
+static struct text nested(int depth) {
+    struct text made = room(2 * (size_t)depth + 64);
+    for (int i = 0; i < depth; i++) {
+        add(&made, "(");
+    }
+    add(&made, "os_name == 'nt'");
+    for (int i = 0; i < depth; i++) {
+        add(&made, ")");
+    }
+    return made;
+}
+
+/* So many extras with `or` between them. */
+static struct text extras(int count) {
+    struct text made = room(32 * (size_t)count + 64);
+    for (int i = 0; i < count; i++) {
+        char one[48];
+        snprintf(one, sizeof one, "%sextra == 'x%d'", i == 0 ? "" : " or ", i);
+        add(&made, one);
+    }
+    return made;
+}
+
+static const char *MEMBERS =
+    "\"implementation_name\":\"cpython\",\"implementation_version\":\"3.11.4\",\"os_name\":\"posix\","
+    "\"platform_machine\":\"x86_64\",\"platform_python_implementation\":\"CPython\",\"platform_release\":\"5.4\","
+    "\"platform_system\":\"Linux\",\"platform_version\":\"#1\",\"python_full_version\":\"3.11.4\","
+    "\"python_version\":\"3.11\",\"sys_platform\":\"linux\"";
+
+/* An environment with one more member, in which so many lists nest. */
+static struct text environment(int depth) {
+    struct text made = room(2 * (size_t)depth + 1024);
+    add(&made, "{\"more\":");
+    for (int i = 0; i < depth; i++) {
+        add(&made, "[");
+    }
+    for (int i = 0; i < depth; i++) {
+        add(&made, "]");
+    }
+    add(&made, ",");
+    add(&made, MEMBERS);
+    add(&made, "}");
+    return made;
+}
+
+static void marker(const char *what, struct text text, unsigned wanted) {
+    static uint8_t out[8 << 20];
+    reqs_reply reply = reqs_marker(text.bytes, text.length, out, sizeof out);
+    if (reply.status != wanted) {
+        fails(what, reply.status);
+    }
+    free(text.bytes);
+}
+
+static void hold(const char *what, struct text text, struct text environment, const char *extra, unsigned wanted,
+                 char mark) {
+    uint8_t out[1] = {'-'};
+    reqs_reply reply = reqs_markers_hold(text.bytes, text.length, environment.bytes, environment.length,
+                                         (const uint8_t *)extra, strlen(extra), out, 1);
+    if (reply.status != wanted || (wanted == REQS_ANSWERED && out[0] != (uint8_t)mark)) {
+        fails(what, reply.status);
+    }
+    free(text.bytes);
+    free(environment.bytes);
+}
+
+/* Lists of many extras through the command. */
+static void check(const char *what, int count) {
+    struct text list = room(40 * (size_t)count + 64), where = environment(1);
+    add(&list, "a; ");
+    struct text marker = extras(count);
+    memcpy(list.bytes + list.length, marker.bytes, marker.length);
+    list.length += marker.length;
+    uint8_t out[64];
+    reqs_reply reply = reqs_check(list.bytes, list.length, where.bytes, where.length, (const uint8_t *)"a 1\n", 4,
+                                  (const uint8_t *)"x7\n", 3, out, sizeof out);
+    if (reply.status != REQS_ANSWERED || reply.length == 0) {
+        fails(what, reply.status);
+    }
+    free(list.bytes);
+    free(marker.bytes);
+    free(where.bytes);
+}
+
+static int most, printed;
+
+static void *deep(void *unused) {
+    (void)unused;
+    marker("256 brackets", nested(256), REQS_ANSWERED);
+    marker("257 brackets", nested(257), REQS_REFUSED);
+    marker("100,000 brackets", nested(100000), REQS_REFUSED);
+    hold("JSON that nests 127 deep", nested(0), environment(126), "", REQS_ANSWERED, '0');
+    hold("JSON that nests 129 deep", nested(0), environment(128), "", REQS_REFUSED, '-');
+    hold("JSON that nests 100,000 deep", nested(0), environment(100000), "", REQS_REFUSED, '-');
+    marker("extras that are printed", extras(printed), REQS_ANSWERED);
+    hold("extras of which one is there", extras(most), environment(1), "x7\n", REQS_ANSWERED, '1');
+    hold("extras of which none is there", extras(most / 5), environment(1), "y\n", REQS_ANSWERED, '0');
+    check("a list with extras", most / 5);
+    return NULL;
+}
+
+/* The same calls by each thread, which share nothing but the texts. */
+static void *turns(void *number) {
+    uint8_t out[256];
+    for (int i = 0; i < TURNS; i++) {
+        char text[64], wanted[64];
+        int n = snprintf(text, sizeof text, "v1.%d.0-RC.%d", i, *(int *)number);
+        snprintf(wanted, sizeof wanted, "1.%d.0rc%d", i, *(int *)number);
+        reqs_reply reply = reqs_version((uint8_t *)text, (size_t)n, out, sizeof out);
+        if (reply.status != REQS_ANSWERED || reply.length != strlen(wanted) || memcmp(out, wanted, reply.length) != 0) {
+            fails("threads: a version", reply.status);
+        }
+        n = snprintf(text, sizeof text, "'a%d.%d'==os_name", i, *(int *)number);
+        reply = reqs_marker((uint8_t *)text, (size_t)n, out, sizeof out);
+        n = snprintf(wanted, sizeof wanted, "os_name == 'a%d.%d'", i, *(int *)number);
+        if (reply.status != REQS_ANSWERED || reply.length != (size_t)n || memcmp(out, wanted, reply.length) != 0) {
+            fails("threads: a marker", reply.status);
+        }
+    }
+    return NULL;
+}
+
+int main(int count, char **words) {
+    if (count != 4) {
+        return 2;
+    }
+    most = atoi(words[1]);
+    printed = atoi(words[2]);
+    size_t stack = (size_t)atol(words[3]) * 1024;
+    pthread_attr_t small;
+    pthread_t one, many[THREADS];
+    int numbers[THREADS];
+    if (pthread_attr_init(&small) != 0 || pthread_attr_setstacksize(&small, stack) != 0 ||
+        pthread_create(&one, &small, deep, NULL) != 0 || pthread_join(one, NULL) != 0) {
+        return 2;
+    }
+    for (int i = 0; i < THREADS; i++) {
+        numbers[i] = i;
+        if (pthread_create(&many[i], &small, turns, &numbers[i]) != 0) {
+            return 2;
+        }
+    }
+    for (int i = 0; i < THREADS; i++) {
+        pthread_join(many[i], NULL);
+    }
+    return failed;
+}

@@ -1,0 +1,29 @@
+#!/usr/bin/env bash
+# Makes the library for C of the proved archive crates/reqs_c/out/libreqs_c.a: beside it libreqs.a, libreqs.so.1 and the
+# link libreqs.so.
+#
+#     pack.sh
+#
+# The archive asks for memory by three functions, which the toolchain's liblibc_c.a has over malloc, realloc and free.
+# They are joined with it, and every name but reqs_* is made local, so that a program may have other libraries of the
+# toolchain beside it. The shared library needs nothing but the C library, and its addresses are found when it is loaded.
+set -eu
+
+top=$(cd -- "$(dirname -- "$(readlink -f -- "${BASH_SOURCE[0]}")")/.." && pwd)
+out=$top/crates/reqs_c/out
+kit=$(dirname -- "$(rt doc)")
+room=$(mktemp -d)
+trap 'rm -rf "$room"' EXIT
+cd "$room"
+ar x "$out/libreqs_c.a"
+ar x "$kit/c/liblibc_c.a" heap.pic.o
+ld -r -o reqs.o ./*.o
+objcopy --wildcard --keep-global-symbol='reqs_*' reqs.o
+ar rcsD libreqs.a reqs.o
+${CC:-cc} -shared -nostartfiles -o libreqs.so.1 -Wl,-soname,libreqs.so.1 -Wl,-z,defs -Wl,-z,now -Wl,-z,relro -Wl,-z,noexecstack \
+    -Wl,--gc-sections -Wl,--build-id=none -Wl,--whole-archive libreqs.a -Wl,--no-whole-archive
+strip --strip-unneeded libreqs.so.1
+ln -s libreqs.so.1 libreqs.so
+for it in libreqs.a libreqs.so.1 libreqs.so; do
+    mv -f "$it" "$out/$it"
+done
