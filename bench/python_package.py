@@ -3,13 +3,14 @@
 
     python_package.py [LIBRARY]
 
-LIBRARY is libreqs.so, which `./build reqs_c` makes. Each time is the least of several runs, in microseconds for one operation, and
-the last column tells how many times as long packaging takes.
+LIBRARY is libreqs.so, which `./build reqs_c` makes. Each time is the least of several runs, in microseconds of the processor for one
+operation, and the last column tells how many times as long packaging takes.
 """
 
 import os
 import random
 import sys
+import time
 import timeit
 
 TOP = os.path.dirname(os.path.dirname(os.path.abspath(__file__)))
@@ -45,8 +46,8 @@ def random_texts(count):
 
 
 def least(call, times, of_each=1):
-    """Microseconds for one of the operations of which a call has `of_each`."""
-    return min(timeit.repeat(call, number=times, repeat=RUNS)) / times / of_each * 1e6
+    """Microseconds of the processor for one of the operations of which a call has `of_each`."""
+    return min(timeit.repeat(call, number=times, repeat=RUNS, timer=time.process_time)) / times / of_each * 1e6
 
 
 def row(name, ours, theirs):
@@ -65,7 +66,7 @@ def small():
     row("contains('2.31.0')", *(least(lambda: it.contains("2.31.0"), 5_000) for it in sets))
     row("Requirement(..)", *(least(lambda: make(LINE), 1_000) for make in (fowlyore.Requirement, Requirement)))
     markers = [make(LINE).marker for make in (fowlyore.Requirement, Requirement)]
-    row("marker.evaluate()", *(least(it.evaluate, 1_000) for it in markers))
+    row("marker.evaluate(..)", *(least(lambda: it.evaluate({"extra": "test"}), 1_000) for it in markers))
 
 
 def large():

@@ -11,7 +11,7 @@ from .errors import Refused, on_one_line, refusal
 
 __all__ = ["InvalidMarker", "Marker", "UndefinedComparison", "UndefinedEnvironmentName", "default_environment"]
 
-# What is printed for a marker that holds everywhere, whose normal text is empty.
+# What is printed for a marker that holds everywhere, whose normal text is empty: what never holds is `python_version < '0'`.
 _ALWAYS = "python_version >= '0'"
 
 

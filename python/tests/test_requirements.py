@@ -21,7 +21,7 @@ class Requirements(unittest.TestCase):
         it = Requirement("foo")
         self.assertEqual((it.extras, it.url, it.marker, str(it.specifier)), (set(), None, None, ""))
         self.assertEqual((str(it), repr(it)), ("foo", "<Requirement('foo')>"))
-        self.assertIsNone(Requirement("foo ; python_version >= '0'").marker)
+        self.assertIsNone(Requirement("foo ; os_name == 'nt' or os_name != 'nt'").marker)
 
     def test_url(self):
         it = Requirement("pip[x] @ https://example.org/pip.whl;a ; python_version < '3'")
@@ -99,12 +99,12 @@ class Markers(unittest.TestCase):
         self.assertNotEqual(marker, str(marker))
 
     def test_always_and_never(self):
-        for text in ("python_version >= '0'", "os_name == 'nt' or os_name != 'nt'"):
-            self.assertEqual(Marker(str(Marker(text))), Marker(text))
-            self.assertTrue(Marker(text).evaluate(WINDOWS))
+        always = Marker("os_name == 'nt' or os_name != 'nt'")
         never = Marker("os_name == 'nt' and os_name == 'posix'")
-        self.assertEqual(str(never), "python_version < '0'")
-        self.assertFalse(never.evaluate(WINDOWS))
+        for marker, text, holds in ((always, "python_version >= '0'", True), (never, "python_version < '0'", False)):
+            self.assertEqual(str(marker), text)
+            self.assertIs(marker.evaluate(WINDOWS), holds)
+            self.assertIs(Marker(text).evaluate(WINDOWS), holds)
 
     def test_refused(self):
         no_markers = ["", "os_name", "os_name == 'nt", "no_such_key == 'a'", "os_name == 'a' os_name == 'b'", "os_name ==\n'a'"]
