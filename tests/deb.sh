@@ -14,6 +14,7 @@ files=(
     usr/bin/reqs
     usr/include/reqs.h
     usr/lib/x86_64-linux-gnu/libreqs.a
+    usr/lib/x86_64-linux-gnu/libreqs.so
     usr/lib/x86_64-linux-gnu/libreqs.so.1
     usr/lib/x86_64-linux-gnu/pkgconfig/reqs.pc
     usr/libexec/reqs/reqs
@@ -56,7 +57,7 @@ installs() {
 }
 
 has_files() {
-    (cd "$root" && find usr -type f | sort) | cmp - <(printf '%s\n' "${files[@]}")
+    (cd "$root" && find usr ! -type d | sort) | cmp - <(printf '%s\n' "${files[@]}")
 }
 
 # (md5sums stand in the package's information)
@@ -87,7 +88,7 @@ says_so() {
 
 removes() {
     dpkg --root="$root" --force-not-root --force-bad-path --log="$work/log" -r reqs >"$work/said" 2>&1 &&
-        [ -z "$(find "$root/usr" -type f)" ]
+        [ -z "$(find "$root/usr" ! -type d)" ]
 }
 
 if ! command -v dpkg-deb >/dev/null || ! command -v dpkg >/dev/null; then
