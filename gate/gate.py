@@ -53,6 +53,9 @@ def parts(more):
     """The parts that are run one after another, and those that are then run side by side."""
     python = [sys.executable]
     of_reqs = ("examples", "reqs", "build", "install", "share", "try", *(f"tests/{it}" for it in OF_REQS))
+    of_pack = ("LICENSE-APACHE", "LICENSE-BSD", "build", "examples", "include", "pack", "tools")
+    of_python = (*of_pack, "docs/PYTHON.md", "python", "tests/python.sh")
+    of_deb = (*of_pack, "install", "share", "tests/deb.sh")
     asked = [f"crates/{it}/{of}" for it in QUESTIONS for of in ("data", "stdout")]
     return [
         Part("layout", [*python, "gate/layout.py"]),
@@ -68,6 +71,8 @@ def parts(more):
         Part("a first answer", ["bash", "tests/try.sh"], ["reqs_cli"], of_reqs),
         Part("installing", ["bash", "tests/install.sh"], ["reqs_cli"], of_reqs),
         Part("library for C", ["bash", "tests/c.sh"], ["reqs_c"], ("examples", "build", "tools", "include", *(f"tests/{it}" for it in OF_C))),
+        Part("Python package", ["bash", "tests/python.sh"], ["reqs_c"], of_python),
+        Part("Debian package", ["bash", "tests/deb.sh"], ["reqs_c", "reqs_cli"], of_deb),
         Part("refused memory", ["bash", "tests/refused.sh"], ["reqs_cli", *QUESTIONS], [*of_reqs, *asked]),
         Part("faults", [*python, "gate/faults.py"], ["underline"], ["gate"]),
     ]
