@@ -52,9 +52,10 @@ def parts(more):
     """The parts that are run one after another, and those that are then run side by side."""
     python = [sys.executable]
     of_reqs = ("examples", "reqs", "build", "install", "share", "try", *(f"tests/{it}" for it in OF_REQS))
-    of_c = ["include", "tools", "build"]
-    of_python = [*of_c, "python", "pack", "pyproject.toml", "docs/PYTHON.md", "examples/first", "tests/python.sh"]
-    of_deb = [*of_c, "pack", "install", "share", "examples/first", "tests/deb.sh"]
+    of_c = ("build", "include", "tools")
+    of_pack = ("LICENSE-APACHE", "LICENSE-BSD", "build", "examples", "include", "pack", "tools")
+    of_python = (*of_pack, "docs/PYTHON.md", "pyproject.toml", "python", "tests/python.sh")
+    of_deb = (*of_pack, "install", "share", "tests/deb.sh")
     asked = [f"crates/{it}/{of}" for it in QUESTIONS for of in ("data", "stdout")]
     return [
         Part("layout", [*python, "gate/layout.py"]),

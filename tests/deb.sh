@@ -88,7 +88,7 @@ says_so() {
 
 removes() {
     dpkg --root="$root" --force-not-root --force-bad-path --log="$work/log" -r reqs >"$work/said" 2>&1 &&
-        [ -z "$(find "$root/usr" ! -type d)" ]
+        [ -z "$(find "$root" -path "$root/usr/*" ! -type d)" ]
 }
 
 if ! command -v dpkg-deb >/dev/null || ! command -v dpkg >/dev/null; then
