@@ -16,7 +16,7 @@ from crates import PARTS, TOP
 FOLDER = os.path.join(TOP, "tests", "wrong")
 GATE = os.path.join(FOLDER, "gate.txt")
 NAME = re.compile(r"[A-Za-z0-9_-][A-Za-z0-9_.-]*\.edit")
-HEADER = re.compile(r"^( *)(?:pub(?:\([a-z]+\))? )?(?:unsafe |const )*fn (\w+)", re.M)
+HEADER = re.compile(r"^( *)(?:pub(?:\([a-z]+\))? )?(?:unsafe |const |extern \"C\" )*fn (\w+)", re.M)
 BLOCK = re.compile(r"^(impl|(?:pub(?:\([a-z]+\))? )?trait)\b(.*?)\{", re.M | re.S)
 ITEM = r"^ {0,%d}(?:pub(?:\([a-z]+\))? )?(?:const|static|struct|enum|impl|trait|mod|type|use)\b(?! fn)"
 FLOORS = ("least", "least-in-all")

@@ -40,8 +40,8 @@ class Lanes:
         self.left = sorted(tasks, key=lambda it: -tasks[it].chain)
         self.running, self.given = {}, {}
 
-    def jobs(self, key):
-        """By how many jobs a task is run, or 0 where it has to wait."""
+    def jobs(self, key, held):
+        """By how many jobs a task is run beside what waits for this much memory, or 0 where it has to wait."""
         idle = self.lanes - sum(jobs for _, jobs in self.running.values())
         if idle <= 0:
             return 0
@@ -51,14 +51,17 @@ class Lanes:
         share = max(work / self.lanes, 1)
         wanted = next((it for it in GAIN if task.chain / GAIN[it] <= share), max(GAIN))
         most = max(1, min(wanted, task.most_jobs, idle + BESIDE if task.chain > share else idle))
-        room = self.memory - sum(self.tasks[it].takes(jobs) for it, jobs in self.running.values())
+        room = self.memory - held - sum(self.tasks[it].takes(jobs) for it, jobs in self.running.values())
         fits = [it for it in range(1, most + 1) if task.takes(it) <= room]
         return max(fits) if fits else 0 if self.running else 1
 
     def start(self, pool):
         ready = [it for it in self.left if all(low in self.given for low in self.tasks[it].waits)]
+        # (a long chain that waits for memory gets what is let go, before shorter ones)
+        held = 0
         for key in ready:
-            jobs = self.jobs(key)
+            jobs = self.jobs(key, held)
+            held += 0 if jobs else self.tasks[key].memory
             if jobs:
                 self.left.remove(key)
                 self.running[pool.submit(self.tasks[key].call, self.given, jobs)] = key, jobs

@@ -32,7 +32,8 @@ abbrev pub met : {T : Type 0} → Bool → List (Branch T (Bool × Bool)) → Li
 met last [] = []
 met last (branch ∷ later) =
     cond (beq (both_true branch.child) last) (met last later)
-    (record { boundary = branch.boundary; child = both_true branch.child } ∷ met (both_true branch.child) later)
+    (record { boundary = branch.boundary; child = both_true branch.child }
+    ∷ met (both_true branch.child) later)
 
 -- ---- constant children
 

@@ -17,8 +17,8 @@ use pep508_marker::MarkerValueString;
 use pep508_tree::{Interner, MarkerTree, TreeNode};
 use std::alloc::{AllocError, Global};
 
-/// Constant trees between boundaries that a node lends, each negated where the flag is set; of the first there
-/// is its truth.
+/// Constant trees between boundaries that a node lends, each negated where the flag is set; of the first
+/// there is its truth.
 #[derive(Drop)]
 pub(crate) struct Source<'a, T> {
     pub first: bool,

@@ -53,7 +53,8 @@ by_tokens (Test q l h) (Test r m k) xs ys =
     ap₂ (λ us vs. ordering_then (ordering_then (ordering_then (question_cmp q r) Equal) Equal)
     (slice_cmp token_cmp us vs))
     (append_assoc (tokens l) (end ∷ tokens h) xs) (append_assoc (tokens m) (other_end ∷ tokens k) ys)
-    ∙ ap₂ ordering_then (then_equal_last (ordering_then (question_cmp q r) Equal) ∙ then_equal_last (question_cmp q r))
+    ∙ ap₂ ordering_then
+    (then_equal_last (ordering_then (question_cmp q r) Equal) ∙ then_equal_last (question_cmp q r))
     (by_tokens l m (end ∷ (tokens h ++ xs)) (other_end ∷ (tokens k ++ ys))
     ∙ ap (λ o. ordering_then (diagram_cmp l m) (ordering_then last o)) (by_tokens h k xs ys))
     ∙ sym (then_then (question_cmp q r) _ (slice_cmp token_cmp xs ys)

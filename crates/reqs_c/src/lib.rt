@@ -1,7 +1,7 @@
 //! The library for C: each call of `include/reqs.h`, over the crates that answer it.
 //!
-//! A text is a pointer to bytes and their number; a `Global` takes no argument. No call requires anything, and
-//! each keeps nothing. What its reply and the caller's buffer are, its clause says in terms of the texts.
+//! A text is a pointer to bytes and their number; a `Global` takes no argument. No call requires anything,
+//! and each keeps nothing. What its reply and the caller's buffer are, its clause says in terms of the texts.
 #![tactic(auto)]
 
 mod lists;

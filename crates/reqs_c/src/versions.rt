@@ -23,8 +23,8 @@ pub extern "C" fn reqs_version_order(alloc: Global, left: &[u8], right: &[u8]) -
     reqs_versions::version_order(alloc, left, right)
 }
 
-/// The key of a version: its length, with the front that fits written; -2 where the text is none, -3 for want of
-/// memory.
+/// The key of a version: its length, with the front that fits written; -2 where the text is none, -3 for want
+/// of memory.
 #[unsafe(no_mangle)]
 pub extern "C" fn reqs_version_key(alloc: Global, text: &[u8], out: &mut [u8]) -> i64
     ensures { IsKey text.now out.old out.new result }

@@ -13,8 +13,8 @@ use Rattle.reqs_reply.specs.Endings.{span}
 abbrev pub TextError : Type 0
 TextError = Pep508Error Verbatim VerbatimUrlError
 
--- the error tells a fault, which the message says and whose part of the first argument is the place; where the
--- message is that of the crate `url`, nothing is claimed of it
+-- the error tells a fault, which the message says and whose part of the first argument is the place; where
+-- the message is that of the crate `url`, nothing is claimed of it
 pub record IsToldBy (error : TextError) (place : Place) (message : List ℕ) : Type 0 where
   pub fault : Fault Verbatim VerbatimUrlError
   pub tells : told_error error ≡ Some fault

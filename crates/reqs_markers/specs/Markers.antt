@@ -22,14 +22,15 @@ use Rattle.reqs_markers.specs.Errors.{TextError, IsToldBy}
 abbrev pub marker_holds : Marker → Valuation → Bool
 marker_holds marker v = formula_holds (λ e. expression_holds e v) marker.formula
 
--- what reading a text returned is the tree of the marker that it is, with these nodes; or an error for its reason
+-- what reading a text returned is the tree of the marker that it is, with these nodes; or an error for its
+-- reason
 abbrev pub ReadsTree : List NodeRecord → List ℕ → Result Tree TextError → Result Marker Refused → Type 0
 ReadsTree nodes text (Ok tree) reading =
     (marker : Marker) × (reading ≡ Ok marker) × IsTreeOf nodes tree marker.formula
 ReadsTree nodes text (Err error) reading = Shows text (told_error error) reading
 
--- the text is a marker's normal one, empty where it always holds: that of the one diagram that asks nothing in
--- vain, has each version in its shortest spelling, and holds just where the marker does
+-- the text is a marker's normal one, empty where it always holds: that of the one diagram that asks nothing
+-- in vain, has each version in its shortest spelling, and holds just where the marker does
 pub record IsTextOf (marker : Marker) (text : List ℕ) : Type 0 where
   pub diagram : Diagram Question
   pub canonical : IsCanonical diagram

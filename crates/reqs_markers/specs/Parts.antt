@@ -33,8 +33,8 @@ ReadsUrl text outcome =
 
 -- ---- the parts
 
--- the specifiers with commas between them, and a URL as it is written, each on a line that is empty where there
--- is none
+-- the specifiers with commas between them, and a URL as it is written, each on a line that is empty where
+-- there is none
 abbrev pub asked_lines : Option (VersionOrUrl Verbatim VerbatimUrlError) → List ℕ
 asked_lines None = codes "\n\n"
 asked_lines (Some (asked.VersionSpecifier list)) = list_value_text list ++ codes "\n\n"
@@ -43,7 +43,8 @@ asked_lines (Some (asked.Url url)) = codes "\n" ++ (unwrap_or url.given [] ++ co
 -- the name, extras with commas between them, specifiers, URL, each on a line
 abbrev pub front_lines : Requirement Verbatim VerbatimUrlError → List ℕ
 front_lines r =
-    r.name ++ (codes "\n" ++ (join_with_byte 44 r.extras.items ++ (codes "\n" ++ asked_lines r.version_or_url)))
+    r.name ++ (codes "\n"
+    ++ (join_with_byte 44 r.extras.items ++ (codes "\n" ++ asked_lines r.version_or_url)))
 
 -- the text has the parts of the requirement that bytes are: those of the front, each on a line, and behind
 -- them the normal text of its marker

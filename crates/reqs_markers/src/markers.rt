@@ -1,6 +1,7 @@
 //! Markers.
 
-ghost use Rattle.std.specs.Prelude.{◌≡◌, ◌≢◌, if◌then◌else◌, chars, unwrap_or, IfOk, OnOk, None, string_bytes, []};
+ghost use Rattle.std.specs.Prelude.{◌≡◌, ◌≢◌, if◌then◌else◌, chars, unwrap_or, IfOk, OnOk, None};
+ghost use Rattle.std.specs.Prelude.{string_bytes, []};
 ghost use Rattle.pep508_diagram.specs.Question.{IsCanonical};
 ghost use Rattle.pep508_diagram.specs.Shortened.{HasShortVersions};
 ghost use Rattle.pep508_tree.specs.Meaning.{IsTree, diagram_of};
@@ -25,8 +26,8 @@ use reqs_reply::{Ended, Reply, text_of};
 use std::alloc::{AllocError, Global};
 use std::str;
 
-/// Answers with the normal text of the marker that a text is, which is empty where the marker always holds (PEP
-/// 508, "Environment Markers"). Another text is refused where it stops being a marker.
+/// Answers with the normal text of the marker that a text is, which is empty where the marker always holds
+/// (PEP 508, "Environment Markers"). Another text is refused where it stops being a marker.
 pub fn marker(alloc: Global, bytes: &[u8], out: &mut [u8]) -> Reply
     ensures { RepliesAs (MarkerEnds bytes.now) out.old out.new result }
 {
@@ -79,8 +80,8 @@ pub(crate) fn tree_text(
     }
 }
 
-/// `1` where the marker that a line is holds in an environment with extras, `0` where it doesn't, `?` where the
-/// line is no marker.
+/// `1` where the marker that a line is holds in an environment with extras, `0` where it doesn't, `?` where
+/// the line is no marker.
 pub fn mark_of_line(
     alloc: Global,
     line: &[u8],

@@ -29,10 +29,10 @@ pub fn no_variables(alloc: Global) -> Result<Vars, AllocError>
     Vars::new(alloc, &[], ROOT)
 }
 
-/// Answers with the parts of the requirement that a text is (PEP 508, "Grammar"): its name, its extras and its
-/// specifiers with commas between them, and its URL as it is written, each on a line, and behind them the normal
-/// text of its marker, which is empty where that always holds. Another text is refused where it stops being a
-/// requirement.
+/// Answers with the parts of the requirement that a text is (PEP 508, "Grammar"): its name, its extras and
+/// its specifiers with commas between them, and its URL as it is written, each on a line, and behind them the
+/// normal text of its marker, which is empty where that always holds. Another text is refused where it stops
+/// being a requirement.
 pub fn requirement(alloc: Global, bytes: &[u8], out: &mut [u8]) -> Reply
     ensures { RepliesAs (RequirementEnds bytes.now) out.old out.new result }
 {

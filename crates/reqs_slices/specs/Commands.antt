@@ -62,7 +62,8 @@ list_names = codes "requirements" ∷ []
 -- `reqs check`
 abbrev pub ChecksInputs : List (List ℕ) → List (List ℕ) → Ending → Type 0
 ChecksInputs inputs extras =
-    CommandEnds (ChecksAs no_variables extras) (CheckRefuses no_variables extras) (IsToldAt check_names 4) inputs
+    CommandEnds (ChecksAs no_variables extras) (CheckRefuses no_variables extras)
+    (IsToldAt check_names 4) inputs
 
 abbrev pub CheckEnds : List ℕ → List ℕ → List ℕ → List ℕ → Ending → Type 0
 CheckEnds requirements environment candidates =

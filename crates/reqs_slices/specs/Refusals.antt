@@ -44,8 +44,8 @@ place_told extras (faults.Version input index name) = whole (argument_of input)
 place_told extras (faults.Candidate input number cause) = in_line (argument_of input) number 0 0
 place_told extras (faults.TooManyCases input limit name) = whole (argument_of input)
 
--- a fault that refuses an input is told at its place by a message, in which inputs have these names; where the
--- message is in part that of the crate `url`, its front is told
+-- a fault that refuses an input is told at its place by a message, in which inputs have these names; where
+-- the message is in part that of the crate `url`, its front is told
 pub record IsToldAt (names : List (List ℕ)) (extras : ℕ) (fault : RunFault) (place : Place)
     (message : List ℕ) : Type 0 where
   pub refuses : status_of fault ≡ 2

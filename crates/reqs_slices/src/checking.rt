@@ -93,8 +93,8 @@ fn checked_with(
     ended(alloc, ran, text, &CHECK_NAMES, EXTRAS)
 }
 
-/// Answers as `reqs::matrix` does, with at most so many cases for a package. The extras stand one a line; empty
-/// lines are passed over. Takes memory for copies of the inputs, beside what the command takes.
+/// Answers as `reqs::matrix` does, with at most so many cases for a package. The extras stand one a line;
+/// empty lines are passed over. Takes memory for copies of the inputs, beside what the command takes.
 pub fn matrix(
     alloc: Global,
     requirements: &[u8],

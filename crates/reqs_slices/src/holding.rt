@@ -22,9 +22,9 @@ const NAMES: [&str; 2] = ["", "environment"];
 /// The number of the argument that has the extras.
 const EXTRAS: u32 = 3;
 
-/// Answers with a byte for each line of a text: `1` where the marker that the line is holds in the environment,
-/// which is JSON as of `check`, with the extras, one a line; `0` where it doesn't; `?` where the line is no
-/// marker (PEP 508, "Environment Markers"). Each marker is read for itself.
+/// Answers with a byte for each line of a text: `1` where the marker that the line is holds in the
+/// environment, which is JSON as of `check`, with the extras, one a line; `0` where it doesn't; `?` where the
+/// line is no marker (PEP 508, "Environment Markers"). Each marker is read for itself.
 pub fn markers_hold(
     alloc: Global,
     markers: &[u8],

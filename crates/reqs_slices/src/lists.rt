@@ -53,8 +53,8 @@ fn compared_with(alloc: Global, left: &[u8], right: &[u8], limit: u64, vars: &Va
     ended(alloc, ran, text, &SAME_NAMES, NO_EXTRAS)
 }
 
-/// Answers as `reqs::conflicts` does, with at most so many cases for a package. Takes memory for a copy of the
-/// list, beside what the command takes.
+/// Answers as `reqs::conflicts` does, with at most so many cases for a package. Takes memory for a copy of
+/// the list, beside what the command takes.
 pub fn conflicts(alloc: Global, requirements: &[u8], limit: u64, out: &mut [u8]) -> Reply
     ensures { RepliesAs (ConflictsEnd limit requirements.now) out.old out.new result }
 {

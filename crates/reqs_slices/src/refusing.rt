@@ -8,8 +8,8 @@ use reqs_ends::{Input, RunFault};
 use reqs_reply::{Ended, Place};
 use std::alloc::Global;
 
-/// How a call ends whose inputs, which have these names, are refused for a fault, or for which memory ran out.
-/// The argument of the number `extras` has the extras.
+/// How a call ends whose inputs, which have these names, are refused for a fault, or for which memory ran
+/// out. The argument of the number `extras` has the extras.
 pub(crate) fn refused(alloc: Global, fault: &RunFault, names: &[&str], extras: u32) -> Ended
     ensures { EndsIn NoAnswer (IsToldAt (map (λ n. n.now) names.now) extras fault.now) (ending_of result) }
 {

@@ -1,5 +1,6 @@
 -- What is answered on the texts of versions (PEP 440).
-use Rattle.std.specs.Prelude.{◌≡◌, ◌⊎◌, ℕ, ℤ, pos, negsuc, true, if◌then◌else◌, List, length, Option, Some, None}
+use Rattle.std.specs.Prelude.{◌≡◌, ◌⊎◌, ℕ, ℤ, pos, negsuc, true, if◌then◌else◌, List, length}
+use Rattle.std.specs.Prelude.{Option, Some, None}
 use Rattle.std.specs.Prelude.{Err}
 use Rattle.std.specs.Str.{is_utf8}
 use Rattle.std.specs.declared.cmp.Ordering.{Ordering}
@@ -56,14 +57,15 @@ order_of (Some a) (Some b) = order_code (version_cmp a b)
 order_of (Some a) None = pos 2
 order_of None b = pos 2
 
--- what is answered on the order of two texts' versions; 3 stands for want of memory, which may come at any time
+-- what is answered on the order of two texts' versions; 3 stands for want of memory, which may come at any
+-- time
 abbrev pub IsOrder : List ℕ → List ℕ → ℤ → Type 0
 IsOrder left right code = (code ≡ pos 3) ⊎ (code ≡ order_of (version_in left) (version_in right))
 
 -- ---- keys
 
--- what is given for a version's key: -2 where there is none, and nothing is written; or its length, and of it is
--- written what fits
+-- what is given for a version's key: -2 where there is none, and nothing is written; or its length, and of it
+-- is written what fits
 abbrev pub KeyGiven : Option VersionRecord → List ℕ → List ℕ → ℤ → Type 0
 KeyGiven None old new code = (code ≡ negsuc 1) × (new ≡ old)
 KeyGiven (Some version) old new code =
@@ -74,8 +76,8 @@ abbrev pub IsWritten : List ℕ → List ℕ → List ℕ → ℤ → Type 0
 IsWritten key old new code =
     ((code ≡ negsuc 2) × (new ≡ old)) ⊎ ((code ≡ pos (length key)) × (new ≡ written key old))
 
--- what is answered with the key of a text's version; -3 stands for want of memory, which may come at any time,
--- and then nothing is written
+-- what is answered with the key of a text's version; -3 stands for want of memory, which may come at any
+-- time, and then nothing is written
 abbrev pub IsKey : List ℕ → List ℕ → List ℕ → ℤ → Type 0
 IsKey bytes old new code =
     ((code ≡ negsuc 2) × (new ≡ old)) ⊎ KeyGiven (version_in bytes) old new code

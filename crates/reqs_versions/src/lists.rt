@@ -31,8 +31,8 @@ fn read_list(alloc: Global, bytes: &[u8]) -> Result<VersionSpecifiers, Ended>
     }
 }
 
-/// Answers with the members of the list that a text is, one a line, by their versions. Another text is refused
-/// for its first piece between commas that is no specifier.
+/// Answers with the members of the list that a text is, one a line, by their versions. Another text is
+/// refused for its first piece between commas that is no specifier.
 ///
 /// Linear in the text, but for bringing the members in order.
 pub fn specifiers(alloc: Global, bytes: &[u8], out: &mut [u8]) -> Reply
@@ -62,9 +62,9 @@ fn member_lines(alloc: Global, list: &VersionSpecifiers) -> Result<String, Alloc
     Ok(text)
 }
 
-/// Answers with a byte for each line of a text: `1` where the list that the first text is takes the version that
-/// the line is, `0` where it doesn't, and `?` where the line is no version. A pre-release is a version as any
-/// other.
+/// Answers with a byte for each line of a text: `1` where the list that the first text is takes the version
+/// that the line is, `0` where it doesn't, and `?` where the line is no version. A pre-release is a version
+/// as any other.
 ///
 /// Linear in the lines, of which each is compared with the list's members up to the first that refuses it.
 pub fn specifiers_take(alloc: Global, bytes: &[u8], versions: &[u8], out: &mut [u8]) -> Reply

@@ -97,9 +97,9 @@ fn order_of(left: &Option<Version>, right: &Option<Version>) -> i32
     }
 }
 
-/// Writes the key of a text's version, the front that fits: bytes in whose order versions stand, and which are
-/// the same exactly where versions are equal (PEP 440, "Summary of permitted suffixes and relative ordering").
-/// Gives the key's length; -2 where the text is no version, and -3 where memory ran out.
+/// Writes the key of a text's version, the front that fits: bytes in whose order versions stand, and which
+/// are the same exactly where versions are equal (PEP 440, "Summary of permitted suffixes and relative
+/// ordering"). Gives the key's length; -2 where the text is no version, and -3 where memory ran out.
 pub fn version_key(alloc: Global, bytes: &[u8], out: &mut [u8]) -> i64
     ensures { IsKey bytes.now out.old out.new result }
 {
