@@ -40,9 +40,9 @@ struct Place {
 
 /// Whether two lists require the same of each package in each environment, with whatever extras: the package
 /// or not, the same extras of it, the same points in the ranges of all its specifiers (PEP 440, "Version
-/// specifiers"), also where no version lies between two, and whether any of these specifiers has a pre-release
-/// or developmental release (PEP 440, "Handling of pre-releases"). If not, the first package that differs, and
-/// the marker of the first pair of its cases that do.
+/// specifiers"), also where no version lies between two, and whether any of these specifiers has a
+/// pre-release or developmental release (PEP 440, "Handling of pre-releases"). If not, the first package that
+/// differs, and the marker of the first pair of its cases that do.
 ///
 /// A line with a URL, with `===`, with `<` or `>` and a post-release, or with a number that can't be raised
 /// can't be compared, even where it never applies; and a package can't that has more cases than the limit in
