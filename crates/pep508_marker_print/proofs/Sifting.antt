@@ -104,7 +104,7 @@ module _ {T : Type 0} (same opposite : T → T → Bool) where
       ∙ ap (λ w. shortened_behind same opposite w (reverse later)) (sym pushed)
 
   -- one clause is kept or not
-  covered_turned : (clause : List T) (kept later : List (List T)) →
+  pub covered_turned : (clause : List T) (kept later : List (List T)) →
       is_covered same opposite clause (kept ++ later) ≡ is_covered same opposite clause (kept ++ reverse later)
   covered_turned clause kept later = any_turned kept later (λ other. list_all (stands_in same opposite clause) other)
 

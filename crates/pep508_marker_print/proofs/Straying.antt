@@ -35,7 +35,7 @@ still_by Equal p word x words more later e = e
 still_by Greater p word x words more later e =
     either_true (p x) (list_any p words) _ (λ it. or_left (p x) _ it) (λ it. or_right (p x) _ (later it)) e
 
-still_has : (words : List ℕ) (word other : ℕ) → has words other ≡ true →
+pub still_has : (words : List ℕ) (word other : ℕ) → has words other ≡ true →
     has (insert_key nat_cmp words word) other ≡ true
 still_has [] word other e = absurd (true≢false (sym e))
 still_has (x ∷ words) word other e =
@@ -48,7 +48,7 @@ now_by Less word x words more e later = or_left _ _ (ap is_eq (tied_itself nat_c
 now_by Equal word x words more e later = or_left _ _ (ap is_eq e)
 now_by Greater word x words more e later = or_right (is_at (nat_cmp word) x) _ later
 
-now_has : (words : List ℕ) (word : ℕ) → has (insert_key nat_cmp words word) word ≡ true
+pub now_has : (words : List ℕ) (word : ℕ) → has (insert_key nat_cmp words word) word ≡ true
 now_has [] word = or_left _ _ (ap is_eq (tied_itself nat_cmp_total word))
 now_has (x ∷ words) word =
     now_by (nat_cmp word x) word x words (insert_key nat_cmp words word) refl (now_has words word)

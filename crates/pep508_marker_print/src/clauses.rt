@@ -22,8 +22,9 @@ use std::alloc::{AllocError, Global};
 /// For each term of the clause it looks at that one of each kept clause, and where it is the negation's, or
 /// where there is none, at the terms, up to the first that decides.
 ///
-/// Then it looks at the four numbers of each other clause again, and at the terms at once where the bits are
-/// all the clause's own, so that the clause may be covered. Clauses of the same ten flags have all bits of
+/// Then, for each clause but those of one term by whose hash no other clause begins, it looks at the four
+/// numbers of each other clause again, and at the terms at once where the bits are all the clause's own, so
+/// that the clause may be covered. Clauses of the same ten flags have all bits of
 /// each other's values: of these it goes on for one in 30 to 110, by the flags' names, where one in 100
 /// matters. The more terms the clauses have, beyond some twenty, the less the bits tell.
 ///

@@ -2,6 +2,7 @@
 //! Contracts see a comparison as an `ExpressionRecord`.
 #![tactic(auto)]
 
+mod apart;
 mod bits;
 mod clause;
 mod clause_text;

@@ -1,13 +1,15 @@
 //! Clauses without needless terms, and without needless clauses.
 
-ghost use Rattle.std.specs.Prelude.{◌≡◌, [], ◌++◌, ◌&&◌, ◌||◌, not, IfOk, OnOk};
+ghost use Rattle.std.specs.Prelude.{◌≡◌, [], ◌∷◌, ◌++◌, ◌&&◌, ◌||◌, not, reverse, IfOk, IfSome, OnOk};
 ghost use Rattle.std.specs.List.{list_any, list_all};
 ghost use Rattle.pep508_marker_text.specs.Simplified.{sifted, has_some, stands_in, spares, is_needless};
 ghost use Rattle.pep508_marker_text.specs.Simplified.{is_covered};
 ghost use Rattle.pep508_marker_text.specs.Simplified.{shortened_behind, simplified};
+ghost use Rattle.pep508_marker_print.specs.Apart.{BeginApart};
 ghost use Rattle.pep508_marker_print.specs.Sparing.{has, candidates_of, is_spared_by, is_needless_by};
 ghost use Rattle.pep508_marker_print.specs.Terms.{lists_of};
 
+use crate::apart::{common_words, stands_apart};
 use crate::clause::Clause;
 use crate::strays::{Candidate, add_candidate, words};
 use crate::term::Term;
@@ -229,16 +231,31 @@ fn other_covers<T: Term>(clause: &Clause<T>, kept: &[Clause<T>], later: &[Clause
     is_covered(clause, kept) || is_covered(clause, later)
 }
 
+/// The same, where it is known by which words more than one of all these clauses begins.
+fn is_covered_beside<T: Term>(
+    clause: &Clause<T>,
+    kept: &[Clause<T>],
+    later: &[Clause<T>],
+    common: &Option<BTreeSet<u64>>,
+) -> bool
+    requires { IfSome common.now (λ words.
+        BeginApart T.literal (has words.keys) (kept.now ++ clause.now ∷ reverse later.now)) }
+    ensures { result ≡ is_covered T.same T.opposite clause.now (kept.now ++ later.now) }
+{
+    !stands_apart(clause, common) && other_covers(clause, kept, later)
+}
+
 /// The clauses without those that others cover.
 fn uncovered<T: Term>(alloc: Global, clauses: Vec<Clause<T>>) -> Result<Vec<Clause<T>>, AllocError>
     ensures { IfOk result (λ kept.
         kept.items ≡ sifted (is_covered T.same T.opposite) [] clauses.items) }
 {
+    let common = common_words(alloc, &clauses)?;
     let mut later = clauses;
     later.reverse();
     let mut kept = Vec::new(alloc);
     while let Some(clause) = later.pop() {
-        if !other_covers(&clause, &kept, &later) {
+        if !is_covered_beside(&clause, &kept, &later, &common) {
             kept.push(clause)?;
         }
     }
@@ -274,7 +291,7 @@ fn as_lists<T: Term>(alloc: Global, clauses: Vec<Clause<T>>) -> Result<Vec<Vec<T
 /// words of its terms among the clause's. The others of which at most one word isn't there are kept: each
 /// term of the clause looks at that word of each, and where it may be spared, at the terms, up to the
 /// first that decides. Then it looks at four numbers of each other one again, and at the terms where all
-/// bits are the clause's.
+/// bits are the clause's; but not for a clause of one term by whose word no other one begins.
 pub(crate) fn simplified<T: Term>(
     alloc: Global,
     clauses: Vec<Vec<T>>,
