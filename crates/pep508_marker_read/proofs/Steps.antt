@@ -16,15 +16,23 @@ use Rattle.pep508_error.specs.Refusals.{IsOf}
 use Rattle.pep508_error.specs.Steps.{◌>>=◌}
 use Rattle.pep508_error.specs.Cuts.{begins_by}
 use Rattle.pep508_marker_comparison.specs.SideReading.{Reading, TooDeep}
-use Rattle.pep508_marker_comparison.specs.Outcome.{Fits, Tells}
+use Rattle.std.specs.List.{AllByRecursion}
+use Rattle.pep508_marker.specs.Warnings.{Warning}
+use Rattle.pep508_marker_comparison.specs.Outcome.{Fits, Tells, IsWarned}
+use Rattle.pep508_marker_comparison.proofs.Warned.{warned_both}
+use Rattle.pep508_marker_read.specs.declared.chain.Step.{Step}
+use Rattle.pep508_marker_read.specs.declared.chain.Step.TheVariants as steps
 use Rattle.pep508_marker_read.specs.declared.levels.Level.{Level}
 use Rattle.pep508_marker_read.specs.declared.levels.Levels.{Levels}
 use Rattle.pep508_marker_read.specs.MarkerReading.{Marker, Connective, And, Or, is_next, behind_run}
 use Rattle.pep508_marker_read.specs.MarkerReading.{comparison_at, closed, part_of}
 use Rattle.pep508_marker_read.specs.TreeReading.{inner_at, piece_at, chain_at, chain_truth, listed, IsPartTree}
+use Rattle.pep508_marker_read.specs.TreeReading.{ReadsPart}
 use Rattle.pep508_marker_read.specs.Levels.{Begun, Standing, warned_in, begun_warned, waiting_warned, join_on}
 use Rattle.pep508_marker_read.specs.Levels.{all_on, waiting_on, further_at, AreTreesOf, IsBegun, AreBegun, Stands}
 use Rattle.pep508_marker_read.specs.Levels.{Opens, Closes, EndsChain, IsAtPart, IsBehindPart, IsBehindFormula, IsAtEnd}
+use Rattle.pep508_marker_read.specs.Levels.{IsStep, StepsTo, WarnsAndStepsTo}
+use Rattle.pep508_marker_read.proofs.Kept.{run_length, skipped_length}
 use Rattle.pep508_marker_read.proofs.ChainTrees.{none_said, trees_kept, next_tree, joined_tree}
 use Rattle.pep508_marker_read.proofs.Chains.{nothing, both_said, either_said, all_begins, opened, too_deep, part_other}
 use Rattle.pep508_marker_read.proofs.Chains.{goes_both, chain_over, goes_either, formula_over, closes, tells_on, behind_on}
@@ -96,6 +104,19 @@ in_all begun waiting piece =
     ∙ in_chain begun waiting piece
 
 -- ---- places
+
+pub passed : (word : Connective) (rest later : List ℕ) → true ≡ is_next word rest → later ≡ behind_run rest
+    → length later < length rest
+passed word rest later e at =
+    let a = run_length word rest (sym e) in
+    let b : length later ≡ length (behind_run rest) = ap length at in
+    omega (arith, a, b)
+
+pub skipped : (rest later : List ℕ) → later ≡ skip_leading_whitespace rest → length later ≤ length rest
+skipped rest later at =
+    let a = skipped_length rest in
+    let b : length later ≡ length (skip_leading_whitespace rest) = ap length at in
+    omega (arith, a, b)
 
 pub of_on : (start place : Cursor) (refusal : Refusal) → IsBehind start place → IsOf place refusal → IsOf start refusal
 of_on start place refusal b h kind = h kind ∙ b.input
@@ -397,16 +418,96 @@ module _ (deepest : ℕ) (start : Cursor) (reading : Reading Marker) where
           leaves_at h.depth h.waiting h.deep (others_so h.waiting h.others) h.whole (part_tree h) h.warned_is h.goes_on
           later (behind_on start end later h.stays k) e
 
-      stays_open_at : (depth : ℕ) (waiting : List Begun) → Others waiting → (whole : Marker)
-          → waiting_on depth waiting (whole, behind end) ≡ reading → (kind : RefusalKind)
-          → Tells kind (closed (whole, behind end)) → Tells kind reading
-      stays_open_at depth [] others whole goes kind tells = absurd others
-      stays_open_at depth (begun ∷ waiting) others whole goes kind tells =
+      stays_open_at : (depth : ℕ) (waiting : List Begun) → Others waiting → (said : Marker)
+          → waiting_on depth waiting (said, behind end) ≡ reading → (kind : RefusalKind)
+          → Tells kind (closed (said, behind end)) → Tells kind reading
+      stays_open_at depth [] others said goes kind tells = absurd others
+      stays_open_at depth (begun ∷ waiting) others said goes kind tells =
           subst (Tells kind) goes
-          (tells_on kind (closed (whole, behind end))
+          (tells_on kind (closed (said, behind end))
           (all_on (record { depth = suc depth; begun = begun; waiting = waiting })) tells)
 
       -- its bracket doesn't close
       pub stays_open : (h : Over) (kind : RefusalKind) → Tells kind (closed (h.whole, behind end)) → Tells kind reading
       stays_open h kind tells =
           stays_open_at h.depth h.waiting (others_so h.waiting h.others) h.whole h.goes_on kind tells
+
+-- ---- the whole reading
+
+-- the reading has come to a step, and its warnings were taken
+pub record IsReading {R : Type 0} (takes : R → Warning → R → Type 0) (old now : R) (nodes : List NodeRecord)
+    (deepest : ℕ) (start : Cursor) (reading : Reading Marker) (levels : Levels) (step : Step) : Type 0 where
+  pub warned : List MarkerWarningKind
+  pub taken : IsWarned takes old now warned
+  pub step_is : IsStep nodes deepest start reading warned levels step
+
+module _ {R : Type 0} (takes : R → Warning → R → Type 0) (old : R) (deepest : ℕ) (start : Cursor)
+    (reading : Reading Marker) where
+  abbrev Is : R → List NodeRecord → Levels → Step → Type 0
+  Is now nodes levels step = IsReading takes old now nodes deepest start reading levels step
+
+  module _ (now later : R) (nodes new : List NodeRecord) (levels after : Levels) (step : Step) (h : Is now nodes levels step)
+      (place : Cursor) where
+    -- at a piece
+    module _ (e : step ≡ steps.Part place) where
+      so : Is now nodes levels (steps.Part place)
+      so = subst (Is now nodes levels) e h
+
+      abbrev Claims : Result Step Refusal → Type 0
+      Claims result = (from : Cursor) (it : Reading Marker) (warned : List MarkerWarningKind)
+          → IsAtPart nodes deepest from it warned levels place
+          → WarnsAndStepsTo takes now later new deepest from it warned after result
+
+      pub part_on : (next : Step) → Claims (Ok next) → Is later new after next
+      part_on next claims =
+          let it = claims start reading so.warned so.step_is in
+          record {
+            warned = so.warned ++ it.0;
+            taken = warned_both takes old now later so.warned it.0 so.taken it.1;
+            step_is = it.2;
+          }
+
+      pub part_refused : (refusal : Refusal) → Claims (Err refusal) → Tells refusal.kind reading × IsOf start refusal
+      part_refused refusal claims = claims start reading so.warned so.step_is
+
+    -- behind a piece
+    module _ (tree : Option Tree) (e : step ≡ steps.Read tree place) where
+      behind_so : Is now nodes levels (steps.Read tree place)
+      behind_so = subst (Is now nodes levels) e h
+
+      abbrev GoesOn : Result Step Refusal → Type 0
+      GoesOn result = (most : ℕ) (from : Cursor) (it : Reading Marker) (warned : List MarkerWarningKind)
+          → IsBehindPart nodes most from it warned levels tree place → StepsTo new most from it warned after result
+
+      pub read_on : (next : Step) → GoesOn (Ok next) → Is now new after next
+      read_on next goes = record {
+        warned = behind_so.warned;
+        taken = behind_so.taken;
+        step_is = goes deepest start reading behind_so.warned behind_so.step_is;
+      }
+
+      pub read_refused : (refusal : Refusal) → GoesOn (Err refusal) → Tells refusal.kind reading × IsOf start refusal
+      read_refused refusal goes = goes deepest start reading behind_so.warned behind_so.step_is
+
+      -- the trees behind a piece are all made
+      pub either_made : AllByRecursion (IsTree nodes) levels.either.items
+      either_made = behind_so.step_is.stands.here.either_trees.made
+
+      pub both_made : AllByRecursion (IsTree nodes) levels.both.items
+      both_made = behind_so.step_is.stands.here.both_trees.made
+
+      pub tree_made : IfSome tree (IsTree nodes)
+      tree_made = behind_so.step_is.tree_is.made
+
+    -- at the end
+    module _ (tree : Option Tree) (e : step ≡ steps.End tree place) where
+      end_so : Is now nodes levels (steps.End tree place)
+      end_so = subst (Is now nodes levels) e h
+
+      pub all_read : ReadsPart takes old now nodes (Ok (tree, place)) reading
+      all_read =
+          let it = end_so.step_is in
+          (it.whole, it.is_read, it.tree_is, subst (IsWarned takes old now) (sym it.warned_is) end_so.taken)
+
+      pub all_stays : IsBehind start place
+      all_stays = end_so.step_is.stays
