@@ -14,8 +14,9 @@ use Rattle.pep508_conjunctions.specs.Sources.{all_hold}
 use Rattle.pep508_conjunctions.proofs.Meets.{and_true}
 use Rattle.pep508_expression.specs.Expressions.{expression_holds}
 use Rattle.pep508_marker_read.specs.Formula.{Formula, joined, truth_in}
-use Rattle.pep508_marker_read.specs.MarkerReading.{Connective, And, Or, made_of}
-use Rattle.pep508_marker_read.specs.TreeReading.{joins, chain_truth, listed, IsPartTree, AreChainTrees}
+use Rattle.pep508_marker_read.specs.MarkerReading.{Marker, Connective, And, Or, made_of}
+use Rattle.pep508_marker_read.specs.TreeReading.{joins, chain_truth, listed, IsPartTree}
+use Rattle.pep508_marker_read.specs.Levels.{join_on, truth_of, AreTreesOf}
 
 -- ---- truths
 
@@ -67,16 +68,6 @@ truths_kept old new more (t ∷ ts) h v =
     ap (λ b. b ∷ map (λ t. holds new t v) ts) (holds_kept old new more t h.0 v)
     ∙ ap (λ bs. holds old t v ∷ bs) (truths_kept old new more ts h.1 v)
 
-pub part_kept : (old new : List NodeRecord) → Extends old new → (tree : Option Tree) → IfSome tree (IsTree old)
-    → IfSome tree (IsTree new)
-part_kept old new more None h = tt
-part_kept old new more (Some t) h = tree_kept old new more t h
-
-pub part_truth_kept : (old new : List NodeRecord) → Extends old new → (tree : Option Tree) → IfSome tree (IsTree old)
-    → (v : Valuation) → option_map (λ t. holds new t v) tree ≡ option_map (λ t. holds old t v) tree
-part_truth_kept old new more None h v = refl
-part_truth_kept old new more (Some t) h v = ap Some (holds_kept old new more t h v)
-
 all_append : (P : Tree → Type 0) (xs ys : List Tree) → AllByRecursion P xs → AllByRecursion P ys
     → AllByRecursion P (xs ++ ys)
 all_append P [] ys h k = k
@@ -120,41 +111,51 @@ one_or nodes (t ∷ trees) v some =
     ap (λ bs. Some (not (all_true bs))) (negations (λ t. holds nodes t v) (t ∷ trees))
     ∙ or_chain (holds nodes t v) (map (λ t. holds nodes t v) trees)
 
--- ---- chains that are read
+-- ---- what was said
 
-pub first_tree : (word : Connective) (nodes : List NodeRecord) (tree : Option Tree)
-    (formula : Formula ExpressionRecord) → IsPartTree nodes tree formula
-    → AreChainTrees word nodes (listed tree) formula
-first_tree word nodes tree formula h = record {
-  made = all_listed (IsTree nodes) tree h.made;
-  truth = λ v. part_truth word (λ t. holds nodes t v) tree ∙ h.truth v;
+pub none_said : (word : Connective) (nodes : List NodeRecord) → AreTreesOf word nodes [] None
+none_said word nodes = record { made = tt; truth = λ v. refl }
+
+pub trees_kept : (word : Connective) (old new : List NodeRecord) → Extends old new → (trees : List Tree)
+    (said : Option Marker) → AreTreesOf word old trees said → AreTreesOf word new trees said
+trees_kept word old new more trees said h = record {
+  made = all_kept old new more trees h.made;
+  truth = λ v. ap (chain_truth word) (truths_kept old new more trees h.made v) ∙ h.truth v;
 }
 
--- one more tree, which was made later
-pub next_tree : (word : Connective) (nodes now : List NodeRecord) → Extends nodes now → (trees : List Tree)
-    (formula : Formula ExpressionRecord) → AreChainTrees word nodes trees formula → (tree : Option Tree)
-    (next : Formula ExpressionRecord) → IsPartTree now tree next
-    → AreChainTrees word now (trees ++ listed tree) (made_of word formula next)
-next_tree word nodes now more trees formula h tree next k = record {
-  made = all_append (IsTree now) trees (listed tree) (all_kept nodes now more trees h.made)
-      (all_listed (IsTree now) tree k.made);
+said_on : (word : Connective) (said : Option Marker) (next : Marker) (v : Valuation)
+    → joined (joins word) (truth_of said v) (truth_in (λ e. expression_holds e v) next.formula)
+    ≡ truth_of (Some (join_on word said next)) v
+said_on word None next v = refl
+said_on word (Some first) next v = sym (joined_by word (λ e. expression_holds e v) first.formula next.formula)
+
+-- one more tree
+pub next_tree : (word : Connective) (nodes : List NodeRecord) (trees : List Tree) (said : Option Marker)
+    → AreTreesOf word nodes trees said → (tree : Option Tree) (next : Marker) → IsPartTree nodes tree next.formula
+    → AreTreesOf word nodes (trees ++ listed tree) (Some (join_on word said next))
+next_tree word nodes trees said h tree next k = record {
+  made = all_append (IsTree nodes) trees (listed tree) h.made (all_listed (IsTree nodes) tree k.made);
   truth = λ v.
-      ap (chain_truth word) (mapped (λ t. holds now t v) trees (listed tree))
-      ∙ chain_append word (map (λ t. holds now t v) trees) (map (λ t. holds now t v) (listed tree))
-      ∙ ap (λ x. joined (joins word) x (chain_truth word (map (λ t. holds now t v) (listed tree))))
-      (ap (chain_truth word) (truths_kept nodes now more trees h.made v) ∙ h.truth v)
-      ∙ ap (joined (joins word) (truth_in (λ e. expression_holds e v) formula))
-      (part_truth word (λ t. holds now t v) tree ∙ k.truth v)
-      ∙ sym (joined_by word (λ e. expression_holds e v) formula next);
+      ap (chain_truth word) (mapped (λ t. holds nodes t v) trees (listed tree))
+      ∙ chain_append word (map (λ t. holds nodes t v) trees) (map (λ t. holds nodes t v) (listed tree))
+      ∙ ap (λ x. joined (joins word) x (chain_truth word (map (λ t. holds nodes t v) (listed tree)))) (h.truth v)
+      ∙ ap (joined (joins word) (truth_of said v)) (part_truth word (λ t. holds nodes t v) tree ∙ k.truth v)
+      ∙ said_on word said next v;
 }
 
 -- the tree of all
-pub chain_tree : (word : Connective) (nodes now : List NodeRecord) (trees : List Tree)
-    (formula : Formula ExpressionRecord) → AreChainTrees word nodes trees formula → (tree : Option Tree)
-    → IfSome tree (IsTree now)
+pub joined_tree : (word : Connective) (nodes now : List NodeRecord) (trees : List Tree) (whole : Marker)
+    → AreTreesOf word nodes trees (Some whole) → (tree : Option Tree) → IfSome tree (IsTree now)
     → ((v : Valuation) → option_map (λ t. holds now t v) tree ≡ chain_truth word (map (λ t. holds nodes t v) trees))
-    → IsPartTree now tree formula
-chain_tree word nodes now trees formula h tree made truth = record {
+    → IsPartTree now tree whole.formula
+joined_tree word nodes now trees whole h tree made truth = record {
   made = made;
   truth = λ v. truth v ∙ h.truth v;
 }
+
+pub all_made : (nodes now : List NodeRecord) → Extends nodes now → (trees after : List Tree) (tree : Option Tree)
+    → AllByRecursion (IsTree nodes) trees → IfSome tree (IsTree now) → after ≡ trees ++ listed tree
+    → AllByRecursion (IsTree now) after
+all_made nodes now more trees after tree h k e =
+    subst (AllByRecursion (IsTree now)) (sym e)
+    (all_append (IsTree now) trees (listed tree) (all_kept nodes now more trees h) (all_listed (IsTree now) tree k))

@@ -9,6 +9,7 @@ pub mod LeftOut
 pub mod Kept
 pub mod ChainTrees
 pub mod Chains
+pub mod Steps
 pub mod ComparedTrees
 pub mod MarkerTrees
 pub mod Words

@@ -6,4 +6,5 @@ pub mod MarkerReading
 pub mod MarkerText
 pub mod MarkerOutcome
 pub mod TreeReading
+pub mod Levels
 pub mod TextOutcome

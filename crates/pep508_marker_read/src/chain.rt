@@ -1,17 +1,22 @@
 //! Reading chains of comparisons, and brackets.
 
-ghost use Rattle.std.specs.Prelude.{◌≡◌, MatchResult, Ok};
+ghost use Rattle.std.specs.Prelude.{◌≡◌, ℕ, ◌*◌, ◌<◌, ◌≤◌, List, length, Ok, IfOk, IfErr, IfSome, MatchResult};
+ghost use Rattle.std.specs.List.{AllByRecursion};
 ghost use Rattle.pep508_error.specs.Cursors.{IsBehind, behind};
-ghost use Rattle.pep508_tree.specs.Meaning.{Extends};
-ghost use Rattle.pep508_marker_comparison.specs.SideReading.{TooDeep};
-ghost use Rattle.pep508_marker_comparison.specs.Outcome.{Fits, Tells};
+ghost use Rattle.pep508_error.specs.declared.cursor.Cursor.{Cursor};
 ghost use Rattle.pep508_error.specs.Refusals.{IsOf, StaysIn};
-ghost use Rattle.pep508_marker_read.specs.MarkerReading.{Marker, closed, part_of};
-ghost use Rattle.pep508_marker_read.specs.TreeReading.{connective, inner_at, enclosed_at, piece_at, chain_at};
-ghost use Rattle.pep508_marker_read.specs.TreeReading.{ReadsPart, ReadsPiece, StaysAt};
+ghost use Rattle.pep508_marker.specs.declared.warnings.MarkerWarningKind.{MarkerWarningKind};
+ghost use Rattle.pep508_tree.specs.Meaning.{IsTree, Extends};
+ghost use Rattle.pep508_marker_comparison.specs.SideReading.{Reading, TooDeep};
+ghost use Rattle.pep508_marker_comparison.specs.Outcome.{Fits, Tells};
+ghost use Rattle.pep508_marker_read.specs.MarkerReading.{Marker, Or, closed};
+ghost use Rattle.pep508_marker_read.specs.TreeReading.{chain_at, ReadsPart};
+ghost use Rattle.pep508_marker_read.specs.Levels.{IsAtPart, IsBehindPart, IsBehindFormula, StepsTo};
+ghost use Rattle.pep508_marker_read.specs.Levels.{WarnsAndStepsTo, left_at};
 
 use crate::compared::read_compared;
 use crate::join::{join_all, push_part};
+use crate::levels::Levels;
 use crate::word::Word;
 use pep508_error::{Cursor, Refusal};
 use pep508_marker::Reporter;
@@ -19,139 +24,143 @@ use pep508_marker_comparison::{expect, malformed};
 use pep508_tree::{Interner, MarkerTree};
 use std::alloc::Global;
 
-/// The tree of pieces with a word between each two, and the place behind them and white space. Brackets may
-/// nest so deep.
-#[cycle(reading)]
-pub(crate) fn read_chain<'a, R: Reporter>(
+/// What a place in a formula stands before.
+#[derive(Clone, Copy)]
+pub(crate) enum Step<'a> {
+    /// A piece of a chain of `and`.
+    Part(Cursor<'a>),
+    /// What follows a piece, of which the tree is here, if it has one.
+    Read(Option<MarkerTree>, Cursor<'a>),
+    /// What follows the whole formula, of which the tree is here.
+    End(Option<MarkerTree>, Cursor<'a>),
+}
+
+/// The tree of pieces with `or` between each two, of which each is pieces with `and` between each two, and the
+/// place behind it and white space. Brackets may nest so deep; no stack is needed for them.
+pub(crate) fn read_formula<'a, R: Reporter>(
     alloc: Global,
     interner: &mut Interner,
-    word: Word,
-    depth: usize,
+    deepest: usize,
     start: Cursor<'a>,
     reporter: &mut R,
 ) -> Result<(Option<MarkerTree>, Cursor<'a>), Refusal<'a>>
     requires { R.can_report reporter.old }
     ensures read { ReadsPart R.takes reporter.old reporter.new interner.new.nodes result
-        (chain_at (connective word) depth (behind start.entry)) }
+        (chain_at Or deepest (behind start.entry)) }
     ensures stays { StaysIn start.entry result }
     ensures again { R.can_report reporter.new }
     ensures keeps { Extends interner.old.nodes interner.new.nodes }
     ensures counts { interner.new.conjunctions ≡ interner.old.conjunctions }
 {
-    let mut trees = Vec::new(alloc);
-    let mut place = read_next(alloc, interner, &mut trees, word, depth, start, reporter)?;
-    while let Some(later) = word.pass(place) {
-        place = read_next(alloc, interner, &mut trees, word, depth, later, reporter)?;
-    }
-    let tree = join_all(alloc, interner, word, &trees)?;
-    Ok((tree, place.after_whitespace()))
-}
-
-/// Puts the tree of the piece at a place behind those of earlier ones; the place behind the piece.
-#[cycle(reading)]
-fn read_next<'a, R: Reporter>(
-    alloc: Global,
-    interner: &mut Interner,
-    trees: &mut Vec<MarkerTree>,
-    word: Word,
-    depth: usize,
-    start: Cursor<'a>,
-    reporter: &mut R,
-) -> Result<Cursor<'a>, Refusal<'a>>
-    requires { R.can_report reporter.old }
-    ensures read { ReadsPiece R.takes reporter.old reporter.new interner.new.nodes trees.old.items
-        trees.new.items result (piece_at (connective word) depth (behind start.entry)) }
-    ensures stays { StaysAt start.entry result }
-    ensures again { R.can_report reporter.new }
-    ensures keeps { Extends interner.old.nodes interner.new.nodes }
-    ensures counts { interner.new.conjunctions ≡ interner.old.conjunctions }
-{
-    let (tree, later) = read_piece(alloc, interner, word, depth, start, reporter)?;
-    push_part(trees, tree)?;
-    Ok(later)
-}
-
-/// What a word joins: a part of a marker, or a chain of them.
-#[cycle(reading)]
-fn read_piece<'a, R: Reporter>(
-    alloc: Global,
-    interner: &mut Interner,
-    word: Word,
-    depth: usize,
-    start: Cursor<'a>,
-    reporter: &mut R,
-) -> Result<(Option<MarkerTree>, Cursor<'a>), Refusal<'a>>
-    requires { R.can_report reporter.old }
-    ensures read { ReadsPart R.takes reporter.old reporter.new interner.new.nodes result
-        (piece_at (connective word) depth (behind start.entry)) }
-    ensures stays { StaysIn start.entry result }
-    ensures again { R.can_report reporter.new }
-    ensures keeps { Extends interner.old.nodes interner.new.nodes }
-    ensures counts { interner.new.conjunctions ≡ interner.old.conjunctions }
-{
-    match word {
-        Word::And => read_part(alloc, interner, depth, start.after_whitespace(), reporter),
-        Word::Or => read_chain(alloc, interner, Word::And, depth, start, reporter),
+    let mut levels = Levels::new(alloc);
+    let mut step = Step::Part(start);
+    'steps: loop {
+        step = match step {
+            Step::Part(place) => read_part(alloc, interner, deepest, &mut levels, place, reporter)?,
+            Step::Read(tree, place) => go_on(alloc, interner, &mut levels, tree, place)?,
+            Step::End(tree, place) => return Ok((tree, place)),
+        };
     }
 }
 
-/// A comparison, or a formula in brackets.
-#[cycle(reading)]
+/// A comparison, or the beginning of a formula in brackets.
 fn read_part<'a, R: Reporter>(
     alloc: Global,
     interner: &mut Interner,
-    depth: usize,
-    start: Cursor<'a>,
+    deepest: usize,
+    levels: &mut Levels<'a>,
+    place: Cursor<'a>,
     reporter: &mut R,
-) -> Result<(Option<MarkerTree>, Cursor<'a>), Refusal<'a>>
+) -> Result<Step<'a>, Refusal<'a>>
     requires { R.can_report reporter.old }
-    ensures read { ReadsPart R.takes reporter.old reporter.new interner.new.nodes result
-        (part_of (inner_at depth) (behind start.entry)) }
-    ensures stays { StaysIn start.entry result }
+    ensures read { (start : Cursor) (reading : Reading Marker) (warned : List MarkerWarningKind)
+        → IsAtPart interner.old.nodes deepest start reading warned levels.old place.entry
+        → WarnsAndStepsTo R.takes reporter.old reporter.new interner.new.nodes deepest start reading warned
+        levels.new result }
+    ensures shorter { IfOk result (λ step. left_at step < left_at (Step.Part place.entry)) }
     ensures again { R.can_report reporter.new }
     ensures keeps { Extends interner.old.nodes interner.new.nodes }
     ensures counts { interner.new.conjunctions ≡ interner.old.conjunctions }
 {
-    match start.strip('(') {
-        Some(inner) => read_enclosed(alloc, interner, depth, start, inner, reporter),
-        None => read_compared(alloc, interner, start, reporter),
+    let place = place.after_whitespace();
+    match place.strip('(') {
+        Some(inner) => {
+            if levels.waiting.len() >= deepest {
+                return Err(refuse_depth(alloc, place));
+            }
+            levels.open(alloc, place)?;
+            Ok(Step::Part(inner))
+        }
+        None => {
+            let (tree, later) = read_compared(alloc, interner, place, reporter)?;
+            Ok(Step::Read(tree, later))
+        }
     }
 }
 
-/// A formula behind an opening bracket, and the closing one.
-#[cycle(reading)]
-fn read_enclosed<'a, R: Reporter>(
+/// Puts the tree of a piece to the others, and looks for the word that follows.
+fn go_on<'a>(
     alloc: Global,
     interner: &mut Interner,
-    depth: usize,
-    opening: Cursor<'a>,
-    inner: Cursor<'a>,
-    reporter: &mut R,
-) -> Result<(Option<MarkerTree>, Cursor<'a>), Refusal<'a>>
-    requires inner { IsBehind opening inner }
-    requires reports { R.can_report reporter.old }
-    ensures read { ReadsPart R.takes reporter.old reporter.new interner.new.nodes result
-        (enclosed_at depth (behind inner.entry)) }
-    ensures stays { StaysIn opening.entry result }
-    ensures again { R.can_report reporter.new }
+    levels: &mut Levels<'a>,
+    tree: Option<MarkerTree>,
+    place: Cursor<'a>,
+) -> Result<Step<'a>, Refusal<'a>>
+    requires either { AllByRecursion (IsTree interner.old.nodes) levels.old.either.items }
+    requires both { AllByRecursion (IsTree interner.old.nodes) levels.old.both.items }
+    requires tree { IfSome tree (IsTree interner.old.nodes) }
+    ensures read { (deepest : ℕ) (start : Cursor) (reading : Reading Marker) (warned : List MarkerWarningKind)
+        → IsBehindPart interner.old.nodes deepest start reading warned levels.old tree place.entry
+        → StepsTo interner.new.nodes deepest start reading warned levels.new result }
+    ensures shorter { IfOk result (λ step. left_at step < left_at (Step.Read tree place.entry)) }
     ensures keeps { Extends interner.old.nodes interner.new.nodes }
     ensures counts { interner.new.conjunctions ≡ interner.old.conjunctions }
 {
-    if depth == 0 {
-        return Err(refuse_depth(alloc, opening));
+    push_part(&mut levels.both, tree)?;
+    if let Some(later) = Word::And.pass(place) {
+        return Ok(Step::Part(later));
     }
-    let (tree, end) = read_chain(alloc, interner, Word::Or, depth - 1, inner, reporter)?;
-    let later = close(alloc, opening, end)?;
-    Ok((tree, later))
+    levels.end_chain(alloc, interner)?;
+    let end = place.after_whitespace();
+    match Word::Or.pass(end) {
+        Some(later) => Ok(Step::Part(later)),
+        None => leave(alloc, interner, levels, end.after_whitespace()),
+    }
+}
+
+/// Joins the trees of a formula that is over, and leaves its brackets, if it stands in any.
+fn leave<'a>(
+    alloc: Global,
+    interner: &mut Interner,
+    levels: &mut Levels<'a>,
+    end: Cursor<'a>,
+) -> Result<Step<'a>, Refusal<'a>>
+    requires { AllByRecursion (IsTree interner.old.nodes) levels.old.either.items }
+    ensures read { (deepest : ℕ) (start : Cursor) (reading : Reading Marker) (warned : List MarkerWarningKind)
+        → IsBehindFormula interner.old.nodes deepest start reading warned levels.old end.entry
+        → StepsTo interner.new.nodes deepest start reading warned levels.new result }
+    ensures shorter { IfOk result (λ step. left_at step ≤ 2 * length (behind end.entry)) }
+    ensures keeps { Extends interner.old.nodes interner.new.nodes }
+    ensures counts { interner.new.conjunctions ≡ interner.old.conjunctions }
+{
+    let tree = join_all(alloc, interner, Word::Or, &levels.either)?;
+    match levels.close() {
+        None => Ok(Step::End(tree, end)),
+        Some(opening) => {
+            let later = close(alloc, opening, end)?;
+            Ok(Step::Read(tree, later))
+        }
+    }
 }
 
 /// The place behind the bracket that closes another.
 fn close<'a>(alloc: Global, opening: Cursor<'a>, end: Cursor<'a>) -> Result<Cursor<'a>, Refusal<'a>>
-    requires { IsBehind opening end }
     ensures read { (marker : Marker) → MatchResult result
         (λ later. closed (marker, behind end.entry) ≡ Ok (marker, behind later))
         (λ refusal. Tells refusal.kind (closed (marker, behind end.entry))) }
-    ensures stays { StaysAt opening.entry result }
+    ensures shorter { IfOk result (λ later. length (behind later) < length (behind end.entry)) }
+    ensures stays { IfOk result (IsBehind end.entry) }
+    ensures of { opening.entry.input.now ≡ end.entry.input.now → IfErr result (IsOf end.entry) }
 {
     if end.peek().is_none() {
         return Err(opening.refuse_char(malformed(String::from_str(

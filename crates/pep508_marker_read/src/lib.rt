@@ -5,6 +5,7 @@ mod chain;
 mod compared;
 mod join;
 pub mod laws;
+mod levels;
 mod marker;
 mod parse;
 mod word;

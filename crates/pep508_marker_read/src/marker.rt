@@ -7,8 +7,7 @@ ghost use Rattle.pep508_error.specs.Refusals.{IsOf};
 ghost use Rattle.pep508_marker_read.specs.MarkerReading.{marker_at};
 ghost use Rattle.pep508_marker_read.specs.MarkerOutcome.{ReadsMarker};
 
-use crate::chain::read_chain;
-use crate::word::Word;
+use crate::chain::read_formula;
 use pep508_error::{Cursor, Refusal};
 use pep508_marker::Reporter;
 use pep508_marker_comparison::{malformed, refuse_rest};
@@ -41,7 +40,7 @@ pub fn read_marker<'a, R: Reporter>(
     ensures keeps { Extends interner.old.nodes interner.new.nodes }
     ensures counts { interner.new.conjunctions ≡ interner.old.conjunctions }
 {
-    let (tree, later) = read_chain(alloc, interner, Word::Or, DEEPEST, start, reporter)?;
+    let (tree, later) = read_formula(alloc, interner, DEEPEST, start, reporter)?;
     let end = later.after_whitespace();
     match end.peek() {
         None => Ok(tree.unwrap_or(MarkerTree::TRUE)),

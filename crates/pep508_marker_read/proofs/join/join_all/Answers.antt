@@ -1,7 +1,6 @@
 use Rattle.std.proofs.Common.{◌∙◌, ap, sym, Some, not}
 use Rattle.pep508_tree.specs.Meaning.{holds}
 use Rattle.pep508_tree.proofs.OneTree.{negation_holds}
-use Rattle.pep508_marker_read.specs.TreeReading.{connective, chain_truth}
 use Rattle.pep508_marker_read.proofs.ChainTrees.{all_and, one_or}
 use Rattle.pep508_marker_read.proofs.join.join_all.Goals as goal
 

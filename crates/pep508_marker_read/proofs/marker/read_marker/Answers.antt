@@ -15,7 +15,7 @@ returns-in-None-clause-read g c =
       read.0,
       ended (behind c.args.start) read.0 (behind c.in_ok-tree.later) (behind c.after_whitespace-end.result) read.1
           c.after_whitespace-end.ensures.rest c.in-None.ensures.cases,
-      whole_tree c.read_chain.new.interner.nodes c.in_ok-tree.tree read.0.formula read.2 c.unwrap_or.result
+      whole_tree c.read_formula.new.interner.nodes c.in_ok-tree.tree read.0.formula read.2 c.unwrap_or.result
           c.unwrap_or.ensures,
       read.3,
     )
