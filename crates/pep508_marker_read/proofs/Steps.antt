@@ -1,7 +1,7 @@
 -- How a reading's levels change, step by step.
 use Rattle.std.proofs.Common.{◌≡◌, ℕ, zero, suc, ◌+◌, ◌<◌, ◌≤◌, ◌==◌, arith, true, false, List, [], ◌∷◌, ◌++◌, length}
-use Rattle.std.proofs.Common.{Some, None, Ok, Err, refl, ap, sym, subst, ◌∙◌, append_assoc, reverse}
-use Rattle.std.specs.Prelude.{Option, Result, IfSome, map, option_map}
+use Rattle.std.proofs.Common.{Some, None, Ok, refl, ap, sym, subst, ◌∙◌, append_assoc, reverse}
+use Rattle.std.specs.Prelude.{Option, IfSome, map, option_map}
 use Rattle.std.proofs.lemmas.List.{reverse-append, length-reverse, append-nil}
 use Rattle.std.specs.Str.{skip_leading_whitespace}
 use Rattle.pep508_marker.specs.declared.warnings.MarkerWarningKind.{MarkerWarningKind}
@@ -16,7 +16,6 @@ use Rattle.pep508_error.specs.Refusals.{IsOf}
 use Rattle.pep508_error.specs.Steps.{◌>>=◌}
 use Rattle.pep508_error.specs.Cuts.{begins_by}
 use Rattle.pep508_marker_comparison.specs.SideReading.{Reading, TooDeep}
-use Rattle.std.specs.List.{AllByRecursion}
 use Rattle.pep508_marker.specs.Warnings.{Warning}
 use Rattle.pep508_marker_comparison.specs.Outcome.{Fits, Tells, IsWarned}
 use Rattle.pep508_marker_comparison.proofs.Warned.{warned_both}
@@ -27,11 +26,10 @@ use Rattle.pep508_marker_read.specs.declared.levels.Levels.{Levels}
 use Rattle.pep508_marker_read.specs.MarkerReading.{Marker, Connective, And, Or, is_next, behind_run}
 use Rattle.pep508_marker_read.specs.MarkerReading.{comparison_at, closed, part_of}
 use Rattle.pep508_marker_read.specs.TreeReading.{inner_at, piece_at, chain_at, chain_truth, listed, IsPartTree}
-use Rattle.pep508_marker_read.specs.TreeReading.{ReadsPart}
-use Rattle.pep508_marker_read.specs.Levels.{Begun, Standing, warned_in, begun_warned, waiting_warned, join_on}
+use Rattle.pep508_marker_read.specs.Levels.{Begun, Standing, warned_in, waiting_warned, join_on}
 use Rattle.pep508_marker_read.specs.Levels.{all_on, waiting_on, further_at, AreTreesOf, IsBegun, AreBegun, Stands}
 use Rattle.pep508_marker_read.specs.Levels.{Opens, Closes, EndsChain, IsAtPart, IsBehindPart, IsBehindFormula, IsAtEnd}
-use Rattle.pep508_marker_read.specs.Levels.{IsStep, StepsTo, WarnsAndStepsTo}
+use Rattle.pep508_marker_read.specs.Levels.{IsStep, WarnsAndStepsTo}
 use Rattle.pep508_marker_read.proofs.Kept.{run_length, skipped_length}
 use Rattle.pep508_marker_read.proofs.ChainTrees.{none_said, trees_kept, next_tree, joined_tree}
 use Rattle.pep508_marker_read.proofs.Chains.{nothing, both_said, either_said, all_begins, opened, too_deep, part_other}
@@ -284,7 +282,7 @@ module _ (deepest : ℕ) (start : Cursor) (reading : Reading Marker) where
       all_either : AreTreesOf Or now after.either.items (Some whole)
       all_either =
           let chain = joined_tree And nodes now mid.both.items (both_said h.at.begun h.piece) pushed_both over.tree
-              over.made over.truth in
+          over.made over.truth in
           let earlier = trees_kept Or nodes now more old.either.items h.at.begun.either h.stands.here.either_trees in
           subst (λ ts. AreTreesOf Or now ts (Some whole))
           (sym (over.either ∙ ap (λ ts. ts ++ listed over.tree) same_either))
@@ -367,7 +365,7 @@ module _ (deepest : ℕ) (start : Cursor) (reading : Reading Marker) where
     pub ends : Over → old.waiting.items ≡ [] → (new : Levels) → IsAtEnd now deepest start reading warned new tree end
     ends h none new =
         let e = ends_at h.depth h.waiting (reverse old.waiting.items) (ap reverse none) h.whole (part_tree h) h.others
-            h.warned_is h.stays h.goes_on in
+        h.warned_is h.stays h.goes_on in
         record { whole = e.whole; tree_is = e.tree_is; warned_is = e.warned_is; stays = e.stays; is_read = e.is_read }
 
     module _ (new : Levels) (opening : Cursor) (shut : Closes old new opening) where
@@ -446,68 +444,18 @@ module _ {R : Type 0} (takes : R → Warning → R → Type 0) (old : R) (deepes
   abbrev Is : R → List NodeRecord → Levels → Step → Type 0
   Is now nodes levels step = IsReading takes old now nodes deepest start reading levels step
 
-  module _ (now later : R) (nodes new : List NodeRecord) (levels after : Levels) (step : Step) (h : Is now nodes levels step)
-      (place : Cursor) where
-    -- at a piece
-    module _ (e : step ≡ steps.Part place) where
-      so : Is now nodes levels (steps.Part place)
-      so = subst (Is now nodes levels) e h
-
-      abbrev Claims : Result Step Refusal → Type 0
-      Claims result = (from : Cursor) (it : Reading Marker) (warned : List MarkerWarningKind)
-          → IsAtPart nodes deepest from it warned levels place
-          → WarnsAndStepsTo takes now later new deepest from it warned after result
-
-      pub part_on : (next : Step) → Claims (Ok next) → Is later new after next
-      part_on next claims =
-          let it = claims start reading so.warned so.step_is in
-          record {
-            warned = so.warned ++ it.0;
-            taken = warned_both takes old now later so.warned it.0 so.taken it.1;
-            step_is = it.2;
-          }
-
-      pub part_refused : (refusal : Refusal) → Claims (Err refusal) → Tells refusal.kind reading × IsOf start refusal
-      part_refused refusal claims = claims start reading so.warned so.step_is
-
-    -- behind a piece
-    module _ (tree : Option Tree) (e : step ≡ steps.Read tree place) where
-      behind_so : Is now nodes levels (steps.Read tree place)
-      behind_so = subst (Is now nodes levels) e h
-
-      abbrev GoesOn : Result Step Refusal → Type 0
-      GoesOn result = (most : ℕ) (from : Cursor) (it : Reading Marker) (warned : List MarkerWarningKind)
-          → IsBehindPart nodes most from it warned levels tree place → StepsTo new most from it warned after result
-
-      pub read_on : (next : Step) → GoesOn (Ok next) → Is now new after next
-      read_on next goes = record {
-        warned = behind_so.warned;
-        taken = behind_so.taken;
-        step_is = goes deepest start reading behind_so.warned behind_so.step_is;
+  -- a piece was read
+  pub part_on : (now later : R) (nodes new : List NodeRecord) (levels after : Levels) (step : Step)
+      → Is now nodes levels step → (place : Cursor) → step ≡ steps.Part place → (next : Step)
+      → ((from : Cursor) (it : Reading Marker) (warned : List MarkerWarningKind)
+      → IsAtPart nodes deepest from it warned levels place
+      → WarnsAndStepsTo takes now later new deepest from it warned after (Ok next))
+      → Is later new after next
+  part_on now later nodes new levels after step h place e next claims =
+      let so = subst (Is now nodes levels) e h in
+      let it = claims start reading so.warned so.step_is in
+      record {
+        warned = so.warned ++ it.0;
+        taken = warned_both takes old now later so.warned it.0 so.taken it.1;
+        step_is = it.2;
       }
-
-      pub read_refused : (refusal : Refusal) → GoesOn (Err refusal) → Tells refusal.kind reading × IsOf start refusal
-      read_refused refusal goes = goes deepest start reading behind_so.warned behind_so.step_is
-
-      -- the trees behind a piece are all made
-      pub either_made : AllByRecursion (IsTree nodes) levels.either.items
-      either_made = behind_so.step_is.stands.here.either_trees.made
-
-      pub both_made : AllByRecursion (IsTree nodes) levels.both.items
-      both_made = behind_so.step_is.stands.here.both_trees.made
-
-      pub tree_made : IfSome tree (IsTree nodes)
-      tree_made = behind_so.step_is.tree_is.made
-
-    -- at the end
-    module _ (tree : Option Tree) (e : step ≡ steps.End tree place) where
-      end_so : Is now nodes levels (steps.End tree place)
-      end_so = subst (Is now nodes levels) e h
-
-      pub all_read : ReadsPart takes old now nodes (Ok (tree, place)) reading
-      all_read =
-          let it = end_so.step_is in
-          (it.whole, it.is_read, it.tree_is, subst (IsWarned takes old now) (sym it.warned_is) end_so.taken)
-
-      pub all_stays : IsBehind start place
-      all_stays = end_so.step_is.stays

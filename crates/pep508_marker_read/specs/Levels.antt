@@ -1,4 +1,4 @@
--- Formulas that were begun, of which each but the last waits for the end of the next, and how reading goes on.
+-- Formulas that were begun, each but the last waiting for the end of the next, and how reading goes on.
 use Rattle.std.specs.Prelude.{◌≡◌, ℕ, suc, ◌+◌, ◌*◌, List, [], ◌∷◌, ◌++◌, length, map, reverse, option_map}
 use Rattle.std.specs.Prelude.{Bool, Option, Some, None, IfSome, Result, Ok, Err}
 use Rattle.std.specs.List.{AllByRecursion}

@@ -1,6 +1,7 @@
 //! Reading chains of comparisons, and brackets.
 
-ghost use Rattle.std.specs.Prelude.{◌≡◌, ℕ, ◌*◌, ◌<◌, ◌≤◌, List, length, Ok, IfOk, IfErr, IfSome, MatchResult};
+ghost use Rattle.std.specs.Prelude.{◌≡◌, ℕ, ◌*◌, ◌<◌, ◌≤◌, List, length, Ok};
+ghost use Rattle.std.specs.Prelude.{IfOk, IfErr, IfSome, MatchResult};
 ghost use Rattle.std.specs.List.{AllByRecursion};
 ghost use Rattle.pep508_error.specs.Cursors.{IsBehind, behind};
 ghost use Rattle.pep508_error.specs.declared.cursor.Cursor.{Cursor};
@@ -35,8 +36,8 @@ pub(crate) enum Step<'a> {
     End(Option<MarkerTree>, Cursor<'a>),
 }
 
-/// The tree of pieces with `or` between each two, of which each is pieces with `and` between each two, and the
-/// place behind it and white space. Brackets may nest so deep; no stack is needed for them.
+/// The tree of chains of `and` with `or` between each two, and the place behind them and white space.
+/// Brackets may nest so deep; they take memory and no stack.
 pub(crate) fn read_formula<'a, R: Reporter>(
     alloc: Global,
     interner: &mut Interner,

@@ -12,7 +12,7 @@ use pep508_tree::{Interner, MarkerTree};
 use std::alloc::{AllocError, Global};
 use std::mem;
 
-/// A formula that waits for the end of one in brackets, and where these open.
+/// A formula that waits for the end of one in brackets, where these open, and its trees, as in `Levels`.
 #[derive(Drop)]
 pub(crate) struct Level<'a> {
     pub opening: Cursor<'a>,
@@ -20,8 +20,8 @@ pub(crate) struct Level<'a> {
     pub both: Vec<MarkerTree>,
 }
 
-/// The trees of what was read of a formula: of its chains of `and` that are over, and of the pieces of the one
-/// that isn't. Before it those that wait, the outermost first.
+/// The trees of what was read of a formula: of its chains of `and` that are over, and of the pieces of the
+/// one that isn't. Before it those that wait, the outermost first.
 #[derive(Drop)]
 pub(crate) struct Levels<'a> {
     pub waiting: Vec<Level<'a>>,
@@ -57,7 +57,7 @@ impl<'a> Levels<'a> {
         Ok(())
     }
 
-    /// Lets go of the last formula and goes on with the one before it; where the brackets open, if there is one.
+    /// Lets go of the last formula, and goes on with the one before it; where its brackets open, if any.
     pub fn close(&mut self) -> Option<Cursor<'a>>
         ensures { MatchOption result (self.old.waiting.items ≡ []) (Closes self.old self.new) }
     {

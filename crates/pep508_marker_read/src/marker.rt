@@ -21,10 +21,10 @@ const DEEPEST: usize = 256;
 /// comparison without a meaning is passed over; where all are, the marker holds. The warnings are reported in
 /// their order, those of a text that is refused behind them too.
 ///
-/// Brackets nest at most 256 deep. Linear in the text but for joining the trees of comparisons: those of a
-/// chain of `and` or `or` are joined by halves. None of that counts as one of the interner's conjunctions.
-/// Takes memory for the trees, for the texts of the warnings that are wanted, and for a refusal, which shows
-/// the part at fault.
+/// Brackets nest at most 256 deep, and take no stack. Linear in the text but for joining the trees of
+/// comparisons: those of a chain of `and` or `or` cost what `conjunction_of_all` does. None of that counts as
+/// one of the interner's conjunctions. Takes memory for the trees, for the texts of the warnings that are
+/// wanted, and for a refusal, which shows the part at fault.
 #[tactic(auto, unfolding(crate::specs::MarkerReading::marker_at))]
 pub fn read_marker<'a, R: Reporter>(
     alloc: Global,
