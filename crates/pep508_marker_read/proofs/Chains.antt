@@ -1,5 +1,5 @@
 -- How reading goes on, from one piece to the next.
-use Rattle.std.proofs.Common.{◌≡◌, ℕ, zero, suc, ◌-◌, ◌<◌, ◌≤◌, ◌==◌, arith, Bool, true, false, if◌then◌else◌}
+use Rattle.std.proofs.Common.{◌≡◌, ℕ, zero, suc, ◌≤◌, ◌==◌, arith, Bool, true, false, if◌then◌else◌}
 use Rattle.std.proofs.Common.{List, [], ◌∷◌, length, Ok, Err, Some, None, refl, ap, sym, subst, ◌∙◌}
 use Rattle.std.specs.Prelude.{Result}
 use Rattle.std.specs.Str.{skip_leading_whitespace}
@@ -14,7 +14,7 @@ use Rattle.pep508_marker_comparison.specs.Outcome.{Fits, Tells}
 use Rattle.pep508_marker_read.specs.MarkerReading.{Marker, Connective, And, Or, join_with, is_next, behind_run}
 use Rattle.pep508_marker_read.specs.MarkerReading.{more_at, joined_at, comparison_at, closed, part_of, formula_at}
 use Rattle.pep508_marker_read.specs.TreeReading.{inner_at, piece_at, chain_at}
-use Rattle.pep508_marker_read.specs.Levels.{Begun, Standing, join_on, further_at, formula_on, waiting_on, all_on}
+use Rattle.pep508_marker_read.specs.Levels.{Begun, join_on, further_at, formula_on, waiting_on, all_on}
 use Rattle.pep508_marker_read.proofs.Kept.{Keeps, run_length, piece_keeps}
 
 -- ---- refusals

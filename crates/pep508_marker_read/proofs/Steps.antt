@@ -1,7 +1,7 @@
 -- How a reading's levels change, step by step.
 use Rattle.std.proofs.Common.{◌≡◌, ℕ, zero, suc, ◌+◌, ◌<◌, ◌≤◌, ◌==◌, arith, true, false, List, [], ◌∷◌, ◌++◌, length}
-use Rattle.std.proofs.Common.{Some, None, Ok, Err, refl, ap, sym, subst, ◌∙◌, append_assoc, reverse}
-use Rattle.std.specs.Prelude.{Option, Result, IfSome, map, option_map}
+use Rattle.std.proofs.Common.{Some, None, Ok, refl, ap, sym, subst, ◌∙◌, append_assoc, reverse}
+use Rattle.std.specs.Prelude.{Option, IfSome, map, option_map}
 use Rattle.std.proofs.lemmas.List.{reverse-append, length-reverse, append-nil}
 use Rattle.std.specs.Str.{skip_leading_whitespace}
 use Rattle.pep508_marker.specs.declared.warnings.MarkerWarningKind.{MarkerWarningKind}
@@ -16,7 +16,6 @@ use Rattle.pep508_error.specs.Refusals.{IsOf}
 use Rattle.pep508_error.specs.Steps.{◌>>=◌}
 use Rattle.pep508_error.specs.Cuts.{begins_by}
 use Rattle.pep508_marker_comparison.specs.SideReading.{Reading, TooDeep}
-use Rattle.std.specs.List.{AllByRecursion}
 use Rattle.pep508_marker.specs.Warnings.{Warning}
 use Rattle.pep508_marker_comparison.specs.Outcome.{Fits, Tells, IsWarned}
 use Rattle.pep508_marker_comparison.proofs.Warned.{warned_both}
@@ -27,11 +26,10 @@ use Rattle.pep508_marker_read.specs.declared.levels.Levels.{Levels}
 use Rattle.pep508_marker_read.specs.MarkerReading.{Marker, Connective, And, Or, is_next, behind_run}
 use Rattle.pep508_marker_read.specs.MarkerReading.{comparison_at, closed, part_of}
 use Rattle.pep508_marker_read.specs.TreeReading.{inner_at, piece_at, chain_at, chain_truth, listed, IsPartTree}
-use Rattle.pep508_marker_read.specs.TreeReading.{ReadsPart}
-use Rattle.pep508_marker_read.specs.Levels.{Begun, Standing, warned_in, begun_warned, waiting_warned, join_on}
+use Rattle.pep508_marker_read.specs.Levels.{Begun, Standing, warned_in, waiting_warned, join_on}
 use Rattle.pep508_marker_read.specs.Levels.{all_on, waiting_on, further_at, AreTreesOf, IsBegun, AreBegun, Stands}
 use Rattle.pep508_marker_read.specs.Levels.{Opens, Closes, EndsChain, IsAtPart, IsBehindPart, IsBehindFormula, IsAtEnd}
-use Rattle.pep508_marker_read.specs.Levels.{IsStep, StepsTo, WarnsAndStepsTo}
+use Rattle.pep508_marker_read.specs.Levels.{IsStep, WarnsAndStepsTo}
 use Rattle.pep508_marker_read.proofs.Kept.{run_length, skipped_length}
 use Rattle.pep508_marker_read.proofs.ChainTrees.{none_said, trees_kept, next_tree, joined_tree}
 use Rattle.pep508_marker_read.proofs.Chains.{nothing, both_said, either_said, all_begins, opened, too_deep, part_other}

@@ -1,24 +1,21 @@
 -- What the readers of a marker's pieces return, by what there is to read: trees of what is not left out.
-use Rattle.std.specs.Prelude.{◌≡◌, ℕ, suc, zero, Bool, ◌&&◌, ◌||◌, List, [], ◌∷◌, ◌++◌, map, option_map}
+use Rattle.std.specs.Prelude.{◌≡◌, ℕ, suc, zero, Bool, ◌&&◌, ◌||◌, List, [], ◌∷◌, option_map}
 use Rattle.std.specs.Prelude.{Option, Some, None, IfSome, Result, Ok, Err}
-use Rattle.std.specs.List.{AllByRecursion}
 use Rattle.pep508_marker.specs.Warnings.{Warning}
 use Rattle.pep508_marker.specs.Expression.{ExpressionRecord}
 use Rattle.pep508_diagram.specs.Question.{Valuation}
 use Rattle.pep508_tree.specs.Tree.{Tree}
 use Rattle.pep508_tree.specs.Meaning.{NodeRecord, IsTree, holds}
 use Rattle.pep508_expression.specs.Expressions.{expression_holds}
-use Rattle.pep508_error.specs.Cursors.{IsBehind, behind}
+use Rattle.pep508_error.specs.Cursors.{behind}
 use Rattle.pep508_error.specs.declared.cursor.Cursor.{Cursor}
 use Rattle.pep508_error.specs.declared.refusal.Refusal.{Refusal}
 use Rattle.pep508_marker_comparison.specs.SideReading.{Reading, TooDeep}
-use Rattle.pep508_error.specs.Steps.{◌>>=◌}
 use Rattle.pep508_marker_comparison.specs.Outcome.{Tells, IsWarned}
-use Rattle.pep508_error.specs.Refusals.{IsOf}
 use Rattle.pep508_marker_read.specs.declared.word.Word.{Word}
 use Rattle.pep508_marker_read.specs.declared.word.Word.TheVariants as words
 use Rattle.pep508_marker_read.specs.Formula.{Formula, joined, truth_in}
-use Rattle.pep508_marker_read.specs.MarkerReading.{Marker, Connective, And, Or, closed, part_at, joined_at}
+use Rattle.pep508_marker_read.specs.MarkerReading.{Marker, Connective, And, Or, part_at, joined_at}
 use Rattle.pep508_marker_read.specs.MarkerReading.{formula_at}
 
 -- ---- what there is to read
