@@ -224,7 +224,10 @@ fn answers_among<F: Fn(&Version, bool) -> bool>(
     ensures { IfOk result (λ text. (said : List LineRecord) → KeepsAll interner.now.nodes table.old said →
         IsMatrixText on_request extras.now said candidates.now 1 environments.now text.whole) }
 {
-    let mut text = Pieces::new(alloc);
+    let room = environments
+        .len()
+        .saturating_mul(table.len().saturating_add(1));
+    let mut text = Pieces::new(alloc, room);
     let mut rows = RowTexts::new(alloc);
     for (place, environment) in environments.iter().enumerate() {
         put_line(alloc, &mut text, place + 1)?;

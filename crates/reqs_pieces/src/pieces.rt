@@ -33,14 +33,15 @@ impl Model for Pieces {
 }
 
 impl Pieces {
-    /// An empty text, which has no pieces.
-    pub fn new(alloc: Global) -> Pieces
+    /// An empty text, which has no pieces. There is room for pieces to stand in it so many times, where there
+    /// is memory for that: so many take no more of it, and are never moved.
+    pub fn new(alloc: Global, room: usize) -> Pieces
         ensures texts { result.texts ≡ [] }
         ensures whole { result.whole ≡ [] }
     {
         Pieces {
             texts: Vec::new(alloc),
-            order: Vec::new(alloc),
+            order: order_for(alloc, room),
         }
     }
 
@@ -91,5 +92,15 @@ impl Pieces {
             add_text(writer, buffer, text.as_bytes())?;
         }
         write_whole(writer, buffer)
+    }
+}
+
+/// An empty list, with room for so many pieces where there is memory for them.
+fn order_for(alloc: Global, room: usize) -> Vec<u32>
+    ensures { result.items ≡ [] }
+{
+    match Vec::with_capacity(alloc, room) {
+        Ok(order) => order,
+        Err(_) => Vec::new(alloc),
     }
 }

@@ -7,7 +7,6 @@ pub mod Counts
 pub mod Errors
 pub mod Standing
 pub mod Numbers
-pub mod Settings
 pub mod Answers
 pub mod Choosing
 pub mod Runs

@@ -19,13 +19,13 @@ ghost use Rattle.reqtable_table.specs.Standing.{IsTable};
 use crate::asked::places_of;
 use crate::row::{row_at, rows_of};
 use crate::runs::Runs;
-use crate::setting::Setting;
 use crate::table::Table;
 use pep440_version::Version;
 use pep508_environment::MarkerEnvironment;
 use pep508_name::ExtraName;
 use pep508_tree::Interner;
 use reqtable_answer::{Admission, Answer, Row};
+use reqtable_holding::Setting;
 use reqtable_text::Candidates;
 use std::alloc::{AllocError, Global};
 
@@ -65,14 +65,14 @@ impl Table {
     /// `answer` among the candidates that `runs` found for the packages, which serve any number of
     /// environments.
     ///
-    /// Evaluates each line's marker, and finds a package's case in as many steps as the logarithm of its
-    /// cases. What is taken in a case is decided once, from the greatest version down, up to the candidate
-    /// that is taken. The case's range tells of candidates without a local part that are no post-releases,
-    /// and of post-releases too where no line of the case has `<` or `>`. Those of them that lie between two
-    /// of its intervals are passed over together, in as many steps as the logarithms of the number of
-    /// intervals and of the package's candidates; each that an interval holds is admitted or not. The
-    /// specifiers are asked of all others, or of all candidates where the case has no range. So the admission
-    /// is that by which `runs` knows what was taken.
+    /// Evaluates each marker once, whichever lines have it or its negation, and finds a package's case in
+    /// steps as the logarithm of its cases. What is taken in a case is decided once, from the greatest
+    /// version down, up to the candidate that is taken. The case's range tells of candidates without a local
+    /// part that are no post-releases, and of post-releases too where no line of the case has `<` or `>`.
+    /// Those of them that lie between two of its intervals are passed over together, in steps as the
+    /// logarithms of the number of intervals and of the package's candidates; each that an interval holds is
+    /// admitted or not. The specifiers are asked of all others, or of all candidates where the case has no
+    /// range. So the admission is that by which `runs` knows what was taken.
     pub fn answer_among<F: Fn(&Version, bool) -> bool>(
         &mut self,
         alloc: Global,
@@ -105,6 +105,7 @@ impl Table {
         let rows = rows_of(
             alloc,
             packages,
+            self.slots,
             &setting,
             runs.ordered,
             &runs.runs,
@@ -129,7 +130,7 @@ impl Table {
         ensures stands { IsTable self.now }
     {
         let setting = Setting::new(interner, environment, extras);
-        places_of(alloc, &self.packages, &setting)
+        places_of(alloc, &self.packages, self.slots, &setting)
     }
 
     /// The row of the package at a place in an environment with extras, where a line of it applies: as it

@@ -9,21 +9,22 @@ ghost use Rattle.std.specs.Str.{bytes_eq};
 ghost use Rattle.pep508_tree.specs.Meaning.{IsTree};
 ghost use Rattle.reqtable_answer.specs.Asks.{has_extra};
 ghost use Rattle.reqtable_cases.specs.Lines.{marked};
+ghost use Rattle.reqtable_holding.specs.Known.{AreKnown};
+ghost use Rattle.reqtable_holding.specs.Settings.{nodes_in, valuation_in};
 ghost use Rattle.reqtable_table.specs.Answers.{kept_marks, LiesIn};
 ghost use Rattle.reqtable_table.specs.Cases.{HasItsCases};
 ghost use Rattle.reqtable_table.specs.Choosing.{case_asks, AreApplying, IsCaseFor};
 ghost use Rattle.reqtable_table.specs.Kept.{KeptCase};
 ghost use Rattle.reqtable_table.specs.KeptLines.{line_record, package_record};
 ghost use Rattle.reqtable_table.specs.Numbers.{numbers_cmp};
-ghost use Rattle.reqtable_table.specs.Settings.{nodes_in, valuation_in};
 ghost use Rattle.reqtable_table.specs.Standing.{HasItsLines};
 ghost use Rattle.reqtable_table.specs.declared.table.Case.{Case};
 
 use crate::kept::TableLine;
-use crate::setting::Setting;
 use crate::table::Package;
 use pep508_name::ExtraName;
 use reqtable_answer::united_extras;
+use reqtable_holding::{Known, Setting};
 use std::alloc::{AllocError, Global};
 use std::cmp::Ordering;
 
@@ -32,23 +33,27 @@ pub(crate) fn mark(
     marks: &mut Vec<bool>,
     lines: &[TableLine],
     setting: &Setting<'_>,
+    known: &mut Known,
 ) -> Result<(), AllocError>
-    requires { AllByRecursion (λ line. IsTree (nodes_in setting.now) line.marker)
+    requires trees { AllByRecursion (λ line. IsTree (nodes_in setting.now) line.marker)
         (map line_record lines.now) }
-    ensures { OnOk result (marks.new.items
+    requires known { AreKnown (nodes_in setting.now) (valuation_in setting.now) known.old }
+    ensures marks { OnOk result (marks.new.items
         ≡ kept_marks (nodes_in setting.now) (valuation_in setting.now) (map line_record lines.now)) }
+    ensures known { AreKnown (nodes_in setting.now) (valuation_in setting.now) known.new }
 {
     marks.clear();
     for line in lines {
-        marks.push(setting.holds(line.marker))?;
+        marks.push(known.holds(setting, line.slot, line.marker))?;
     }
     Ok(())
 }
 
-/// In which of its cases each package lies.
+/// In which of its cases each package lies, whose markers have so many slots.
 pub(crate) fn places_of(
     alloc: Global,
     packages: &[Package],
+    slots: usize,
     setting: &Setting<'_>,
 ) -> Result<Vec<Option<usize>>, AllocError>
     requires lines { AllByRecursion HasItsLines (map package_record packages.now) }
@@ -59,8 +64,9 @@ pub(crate) fn places_of(
     let mut marks = Vec::new(alloc);
     let mut numbers = Vec::new(alloc);
     let mut places = Vec::with_capacity(alloc, packages.len())?;
+    let mut known = Known::new(alloc, slots)?;
     for kept in packages {
-        let place = place_in(kept, setting, &mut marks, &mut numbers)?;
+        let place = place_in(kept, setting, &mut known, &mut marks, &mut numbers)?;
         places.push(place)?;
     }
     Ok(places)
@@ -70,15 +76,18 @@ pub(crate) fn places_of(
 fn place_in(
     kept: &Package,
     setting: &Setting<'_>,
+    known: &mut Known,
     marks: &mut Vec<bool>,
     numbers: &mut Vec<usize>,
 ) -> Result<Option<usize>, AllocError>
     requires lines { HasItsLines (package_record kept.now) }
     requires cases { HasItsCases (nodes_in setting.now) (package_record kept.now) }
-    ensures { IfOk result
+    requires known { AreKnown (nodes_in setting.now) (valuation_in setting.now) known.old }
+    ensures lies { IfOk result
         (LiesIn (nodes_in setting.now) (valuation_in setting.now) (package_record kept.now)) }
+    ensures known { AreKnown (nodes_in setting.now) (valuation_in setting.now) known.new }
 {
-    mark(marks, &kept.lines, setting)?;
+    mark(marks, &kept.lines, setting, known)?;
     if !marks.contains(&true) {
         return Ok(None);
     }

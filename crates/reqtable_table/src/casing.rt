@@ -93,7 +93,7 @@ fn numbers(alloc: Global, lines: &[&Given]) -> Result<Vec<usize>, AllocError>
 
 /// Whether a specifier of the lines has a pre-release or developmental release.
 fn any_prerelease(lines: &[&Given]) -> bool
-    ensures { result ≡ list_any (λ line. not line.now.is_url && any_prerelease line.now.specifiers) lines.now }
+    ensures { result ≡ list_any (λ l. not l.now.is_url && any_prerelease l.now.specifiers) lines.now }
 {
     lines
         .iter()

@@ -25,6 +25,7 @@ fn line_shown(alloc: Global, line: TableLine) -> Result<String, fmt::Error> {
         number,
         extras,
         marker,
+        slot,
         is_url,
         is_bounded,
         specifiers,
@@ -32,7 +33,9 @@ fn line_shown(alloc: Global, line: TableLine) -> Result<String, fmt::Error> {
     let always = marker.is_true();
     let extras = extras.len();
     let tests = specifiers.tests();
-    Ok(format!(in alloc; "line {number}: {extras} {always} {is_url} {is_bounded} {tests}\n")?)
+    Ok(format!(in alloc;
+        "line {number}: {extras} {always} {slot} {is_url} {is_bounded} {tests}\n"
+    )?)
 }
 
 fn case_shown(alloc: Global, case: Case) -> Result<String, fmt::Error> {
@@ -47,7 +50,6 @@ fn case_shown(alloc: Global, case: Case) -> Result<String, fmt::Error> {
     Ok(format!(in alloc; "case {lines:?}: {never} {ranged} {pre}\n")?)
 }
 
-/// What the table of these lines keeps.
 fn shown(alloc: Global, lines: &str) -> Result<String, fmt::Error> {
     let vars = Vars::new(alloc, &[], "/w")?;
     let mut interner = Interner::new(alloc);
@@ -57,8 +59,8 @@ fn shown(alloc: Global, lines: &str) -> Result<String, fmt::Error> {
     let Ok(table) = Table::build(alloc, read, &mut interner, 2) else {
         return Ok(String::from_str(alloc, "refused")?);
     };
-    let Table { packages } = table;
-    let mut text = String::new(alloc);
+    let Table { packages, slots } = table;
+    let mut text = format!(in alloc; "{slots} slots\n")?;
     for package in packages {
         text.push_str(package_shown(alloc, package)?.as_str())?;
     }
@@ -68,8 +70,8 @@ fn shown(alloc: Global, lines: &str) -> Result<String, fmt::Error> {
 #[test]
 fn a_table_keeps_these_fields(rt: HostRuntime) -> Result<(), Fail> {
     let lines = "foo[x]>=1a1,<3 ; os_name == 'posix'\nfoo==2\nbar @ ./c\n";
-    let want = "bar\nline 3: 0 true true false 0\ncase [3]: false false false\n\
-        foo\nline 1: 1 false false true 0\nline 2: 0 true false false 0\n\
+    let want = "2 slots\nbar\nline 3: 0 true 0 true false 0\ncase [3]: false false false\n\
+        foo\nline 1: 1 false 1 false true 0\nline 2: 0 true 0 false false 0\n\
         case [1, 2]: false true true\ncase [2]: false true false\n";
     assert_eq!(rt; shown(rt.alloc(), lines)?.as_str(), want);
     Ok(())

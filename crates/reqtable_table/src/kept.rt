@@ -7,6 +7,7 @@ use pep440_specifier_list::CountedSpecifiers;
 use pep508_name::ExtraName;
 use pep508_tree::MarkerTree;
 use reqtable_groups::Given;
+use reqtable_holding::Slots;
 use reqtable_run::telling::has_bound;
 use std::alloc::{AllocError, Global};
 
@@ -16,6 +17,8 @@ pub(crate) struct TableLine {
     pub(crate) number: usize,
     pub(crate) extras: Vec<ExtraName>,
     pub(crate) marker: MarkerTree,
+    /// The marker's number in `Slots`.
+    pub(crate) slot: usize,
     pub(crate) is_url: bool,
     /// Whether a specifier is `<` or `>`.
     pub(crate) is_bounded: bool,
@@ -23,17 +26,21 @@ pub(crate) struct TableLine {
 }
 
 /// The lines, none of whose specifiers was asked so far.
-pub(crate) fn kept_lines(alloc: Global, lines: Vec<Given>) -> Result<Vec<TableLine>, AllocError>
+pub(crate) fn kept_lines(
+    alloc: Global,
+    lines: Vec<Given>,
+    slots: &mut Slots,
+) -> Result<Vec<TableLine>, AllocError>
     ensures { IfOk result (λ kept. map line_record kept.items ≡ map kept_by lines.items) }
 {
     let mut kept = Vec::with_capacity(alloc, lines.len())?;
     for line in lines {
-        kept.push(kept_line(line))?;
+        kept.push(kept_line(slots.slot_of(line.marker)?, line))?;
     }
     Ok(kept)
 }
 
-fn kept_line(line: Given) -> TableLine
+fn kept_line(slot: usize, line: Given) -> TableLine
     ensures { line_record result ≡ kept_by line }
 {
     let Given {
@@ -48,6 +55,7 @@ fn kept_line(line: Given) -> TableLine
         number,
         extras,
         marker,
+        slot,
         is_url,
         is_bounded,
         specifiers: CountedSpecifiers::new(specifiers),

@@ -11,7 +11,6 @@ mod kept;
 pub mod laws;
 mod row;
 mod runs;
-mod setting;
 mod table;
 
 pub use runs::Runs;

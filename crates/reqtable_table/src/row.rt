@@ -9,6 +9,8 @@ ghost use Rattle.reqtable_text.specs.Ordered.{placed_seen};
 ghost use Rattle.reqtable_answer.specs.Admission.{Admits, AnswersBy};
 ghost use Rattle.reqtable_answer.specs.Rows.{row_seen, IsTakenBelow};
 ghost use Rattle.reqtable_cases.specs.Lines.{marked};
+ghost use Rattle.reqtable_holding.specs.Known.{AreKnown};
+ghost use Rattle.reqtable_holding.specs.Settings.{nodes_in, valuation_in};
 ghost use Rattle.reqtable_table.specs.Answers.{kept_asked, most_tests, most_tests_of};
 ghost use Rattle.reqtable_table.specs.Answers.{AreRowsFor, IsRowIf, SameLine, SamePackage};
 ghost use Rattle.reqtable_table.specs.Cases.{HasItsCases};
@@ -19,25 +21,25 @@ ghost use Rattle.reqtable_table.specs.declared.table.Case.{Case};
 ghost use Rattle.reqtable_table.specs.KeptLines.{line_record, package_record};
 ghost use Rattle.reqtable_table.specs.Owns.{own_record, runs_of};
 ghost use Rattle.reqtable_table.specs.Runs.{AreOrdered, AreRunsOf, IsTold, AreTold};
-ghost use Rattle.reqtable_table.specs.Settings.{nodes_in, valuation_in};
 ghost use Rattle.reqtable_table.specs.Standing.{HasItsFlags, IsOfTexts, HasItsLines};
 
 use crate::asked::{extras_of, mark, place_of};
 use crate::choosing::{any_marked, chosen};
 use crate::kept::TableLine;
 use crate::runs::Told;
-use crate::setting::Setting;
 use crate::table::{Case, Package};
 use pep440_version::Version;
 use reqtable_answer::{Admission, Outcome, Row};
+use reqtable_holding::{Known, Setting};
 use reqtable_run::Run;
 use reqtable_text::Ordered;
 use std::alloc::{AllocError, Global};
 
-/// The rows of the packages of which a line applies.
+/// The rows of the packages of which a line applies, whose markers have so many slots.
 pub(crate) fn rows_of<F: Fn(&Version, bool) -> bool>(
     alloc: Global,
     packages: &mut [Package],
+    slots: usize,
     setting: &Setting<'_>,
     ordered: &Ordered<'_>,
     runs: &[Run<'_, '_>],
@@ -64,11 +66,13 @@ pub(crate) fn rows_of<F: Fn(&Version, bool) -> bool>(
         (map package_record packages.old) }
 {
     let mut rows = Vec::new(alloc);
+    let mut known = Known::new(alloc, slots)?;
     for (index, kept) in packages.iter_mut().enumerate() {
         let row = row_of(
             alloc,
             kept,
             setting,
+            &mut known,
             &runs[index],
             &mut told[index],
             admission,
@@ -111,6 +115,7 @@ pub(crate) fn row_at<F: Fn(&Version, bool) -> bool>(
         alloc,
         &mut packages[index],
         setting,
+        &mut Known::nothing(alloc),
         &runs[index],
         &mut told[index],
         admission,
@@ -132,6 +137,7 @@ fn row_of<F: Fn(&Version, bool) -> bool>(
     alloc: Global,
     kept: &mut Package,
     setting: &Setting<'_>,
+    known: &mut Known,
     own: &Run<'_, '_>,
     told: &mut Told,
     admission: &Admission<F>,
@@ -139,6 +145,7 @@ fn row_of<F: Fn(&Version, bool) -> bool>(
     requires callable { F.IsAlwaysCallable admission.now }
     requires lines { HasItsLines (package_record kept.old) }
     requires cases { HasItsCases (nodes_in setting.now) (package_record kept.old) }
+    requires known { AreKnown (nodes_in setting.now) (valuation_in setting.now) known.old }
     requires said { AllByRecursion (λ c. IsSaid c.1.version) (map placed_seen own.now) }
     requires told { IsTold (F.post admission.now) (package_record kept.old) (own_record own.now told.old) }
     ensures row { IfOk result (λ row. (admits : Admits) → AnswersBy (F.post admission.now) admits →
@@ -149,13 +156,14 @@ fn row_of<F: Fn(&Version, bool) -> bool>(
         IfSome row (λ row. IsTakenBelow count row.outcome)) }
     ensures same { SamePackage (package_record kept.new) (package_record kept.old) }
     ensures told { IsTold (F.post admission.now) (package_record kept.old) (own_record own.now told.new) }
+    ensures known { AreKnown (nodes_in setting.now) (valuation_in setting.now) known.new }
     ensures tests { tests_of (map line_record kept.new.lines.items)
         ≤ tests_of (map line_record kept.old.lines.items)
         + most_tests (kept_asked (nodes_in setting.now) (valuation_in setting.now)
         (map line_record kept.old.lines.items)) (map placed_seen own.now) }
 {
     let mut marks = Vec::new(alloc);
-    mark(&mut marks, &kept.lines, setting)?;
+    mark(&mut marks, &kept.lines, setting, known)?;
     if !marks.contains(&true) {
         return Ok(None);
     }

@@ -25,6 +25,7 @@ use pep508_cases::{CasesError, tree_cases};
 use pep508_name::PackageName;
 use pep508_tree::{Interner, MarkerTree};
 use reqtable_groups::{Group, grouped};
+use reqtable_holding::Slots;
 use reqtable_requirements::Requirements;
 use std::alloc::{AllocError, AllocFailed, Global};
 use std::error::Error;
@@ -105,6 +106,8 @@ impl Error for TableError {}
 #[derive(Drop)]
 pub struct Table {
     pub(crate) packages: Vec<Package>,
+    /// How many numbers the lines' markers have.
+    pub(crate) slots: usize,
 }
 
 impl Model for Table {
@@ -139,8 +142,12 @@ impl Table {
     {
         a_read_specifier_is_built();
         let groups = grouped(alloc, requirements.into_lines())?;
-        match packages_of(alloc, interner, groups, limit) {
-            Ok(packages) => Ok(Table { packages }),
+        let mut slots = Slots::new(alloc);
+        match packages_of(alloc, interner, groups, limit, &mut slots) {
+            Ok(packages) => Ok(Table {
+                packages,
+                slots: slots.len(),
+            }),
             Err(error) => Err(error),
         }
     }
@@ -157,6 +164,13 @@ impl Table {
             Ok(place) => Some(&self.packages[place].cases),
             Err(_) => None,
         }
+    }
+
+    /// How many packages there are.
+    pub fn len(&self) -> usize
+        ensures { result ≡ length self.now }
+    {
+        self.packages.len()
     }
 
     /// How many specifiers were asked since the table was built, up to `u64::MAX`. Linear in the lines.
@@ -194,6 +208,7 @@ fn packages_of(
     interner: &mut Interner,
     groups: Vec<Group>,
     limit: u64,
+    slots: &mut Slots,
 ) -> Result<Vec<Package>, TableError>
     requires { AllByRecursion (AreOfTrees interner.old.nodes) groups.items }
     ensures made { IfOk result (λ made. AllZip (IsPackageOf limit interner.new.nodes) groups.items
@@ -205,7 +220,7 @@ fn packages_of(
 {
     let mut packages = Vec::with_capacity(alloc, groups.len())?;
     for group in groups {
-        match package_of(alloc, interner, group, limit) {
+        match package_of(alloc, interner, group, limit, slots) {
             Ok(package) => packages.push(package)?,
             Err(error) => return Err(error),
         }
@@ -219,6 +234,7 @@ fn package_of(
     interner: &mut Interner,
     group: Group,
     limit: u64,
+    slots: &mut Slots,
 ) -> Result<Package, TableError>
     requires { AreOfTrees interner.old.nodes group }
     ensures made { IfOk result (λ made. IsPackageOf limit interner.new.nodes group (package_record made)) }
@@ -235,6 +251,6 @@ fn package_of(
         Err(CasesError::Memory) => return Err(TableError::Memory),
     };
     let cases = cases_of(alloc, &lines, sets)?;
-    let lines = kept_lines(alloc, lines)?;
+    let lines = kept_lines(alloc, lines, slots)?;
     Ok(Package { name, cases, lines })
 }

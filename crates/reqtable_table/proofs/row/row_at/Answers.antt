@@ -8,7 +8,8 @@ use Rattle.reqtable_answer.specs.Rows.{row_seen}
 use Rattle.reqtable_table.specs.Answers.{IsRowIf}
 use Rattle.reqtable_table.specs.KeptLines.{package_record}
 use Rattle.reqtable_table.specs.Owns.{runs_of}
-use Rattle.reqtable_table.specs.Settings.{nodes_in, valuation_in}
+use Rattle.reqtable_holding.proofs.Holding.{nothing_known}
+use Rattle.reqtable_holding.specs.Settings.{nodes_in, valuation_in}
 use Rattle.reqtable_table.proofs.Rows.{none_before, lines_here, cases_here, within_runs, said_here, below_here, row_here, end_here}
 use Rattle.reqtable_table.proofs.Told.{told_long, told_own, own_told}
 use Rattle.reqtable_table.proofs.row.row_at.Goals as goal
@@ -76,6 +77,10 @@ row_of-requires-clause-cases g c =
     let r = c.requires in
     let so = none_before nodes v all.candidates old i in
     cases_here nodes v all r.ordered old r.lines r.cases r.runs old i kept so r.within is
+
+pub row_of-requires-clause-known : goal.row_of-requires-clause-known
+row_of-requires-clause-known g c =
+    nothing_known (nodes_in c.args.setting.now) (valuation_in c.args.setting.now) c.nothing.result c.nothing.ensures
 
 pub row_of-requires-clause-said : goal.row_of-requires-clause-said
 row_of-requires-clause-said g c =

@@ -6,7 +6,7 @@ use Rattle.reqtable_answer.specs.Asks.{has_extra}
 use Rattle.reqtable_table.specs.Answers.{kept_marks, kept_asked}
 use Rattle.reqtable_table.specs.Choosing.{case_asks, outcome_in_order}
 use Rattle.reqtable_table.specs.KeptLines.{package_record}
-use Rattle.reqtable_table.specs.Settings.{nodes_in, valuation_in}
+use Rattle.reqtable_holding.specs.Settings.{nodes_in, valuation_in}
 use Rattle.reqtable_table.proofs.AskedLines.{records}
 use Rattle.reqtable_table.proofs.MarkedAsks.{any_mark}
 use Rattle.reqtable_table.proofs.Same.{same_package}
@@ -37,7 +37,7 @@ returns-then-not-contains-clause-row g c = λ admits by.
     let v = valuation_in c.args.setting.now in
     let lines = c.args.kept.now.lines.items in
     let marks_are : c.mark.new.marks.items ≡ kept_marks nodes v (records lines) =
-    c.in_ok-mark.ensures ∙ ap (λ l. kept_marks nodes v (records l)) c.deref.ensures.value in
+    c.in_ok-mark.ensures.marks ∙ ap (λ l. kept_marks nodes v (records l)) c.deref.ensures.value in
     sym (any_mark (λ b. beq b true) is_itself nodes v (records lines))
     ∙ sym (ap (list_any (λ b. beq b true)) (c.deref-2.ensures.value ∙ marks_are))
     ∙ sym c.contains.ensures.value ∙ c.if-not-contains.true
@@ -48,7 +48,7 @@ returns-in-Ok-clause-row g c = λ admits by.
     let v = valuation_in c.args.setting.now in
     let lines = c.args.kept.now.lines.items in
     let marks_are : c.mark.new.marks.items ≡ kept_marks nodes v (records lines) =
-    c.in_ok-mark.ensures ∙ ap (λ l. kept_marks nodes v (records l)) c.deref.ensures.value in
+    c.in_ok-mark.ensures.marks ∙ ap (λ l. kept_marks nodes v (records l)) c.deref.ensures.value in
     let asks : c.deref-5.result.now ≡ c.mark.new.marks.items → c.deref-4.result.now ≡ lines →
     case_asks c.deref-5.result.now (records c.deref-4.result.now) ≡ kept_asked nodes v (records lines) =
     (λ m l i. case_asks ((m ∙ marks_are) i) (records (l i))) in

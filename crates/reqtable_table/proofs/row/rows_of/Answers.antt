@@ -6,9 +6,11 @@ use Rattle.reqtable_text.specs.declared.ordered.Placed.{Placed}
 use Rattle.reqtable_answer.specs.Rows.{row_seen, IsTakenBelow}
 use Rattle.reqtable_table.specs.Answers.{AreRowsFor}
 use Rattle.reqtable_table.specs.Owns.{runs_of}
-use Rattle.reqtable_table.specs.Settings.{nodes_in, valuation_in}
+use Rattle.reqtable_holding.proofs.Holding.{none_known}
+use Rattle.reqtable_holding.specs.Settings.{nodes_in, valuation_in}
 use Rattle.reqtable_table.proofs.Rows.{kept_records, none_answered, lines_here, cases_here, within_runs, said_here, below_here}
 use Rattle.reqtable_table.proofs.Rows.{next_here, end_here, rows_here, seen_added, all_added}
+use Rattle.reqtable_table.proofs.Same.{all_same}
 use Rattle.reqtable_table.proofs.Told.{told_long, told_own, own_told}
 use Rattle.reqtable_table.proofs.row.rows_of.Goals as goal
 
@@ -21,6 +23,9 @@ own_of runs i run within is other =
     let long = length-map runs seen in
     ap seen is ∙ sym (get_or-map seen runs i run other (omega arith))
 
+pub returns-in_err-known-clause-kept : goal.returns-in_err-known-clause-kept
+returns-in_err-known-clause-kept g c = all_same (kept_records c.args.packages.now)
+
 pub loop-index-init : goal.loop-index-init
 loop-index-init g c =
     let nodes = nodes_in c.args.setting.now in
@@ -30,6 +35,7 @@ loop-index-init g c =
     record {
       so_far = none_answered nodes v candidates c.args.packages.now;
       told = c.requires.told;
+      known = none_known nodes v c.in_ok-known.known c.in_ok-known.ensures;
       rows = λ admits by. subst (λ rows. AreRowsFor admits nodes v candidates [] (map row_seen rows)) none tt;
       places = subst (All (λ row. IsTakenBelow (length candidates) row.outcome)) none (λ k d within. absurd (omega arith));
     }
@@ -255,6 +261,7 @@ loop-index-preserved g c =
     record {
       so_far = next_here nodes v all r.ordered old r.lines r.cases r.runs now i kept so.so_far within is own own_at c.row_of.new.kept c.row_of.ensures.same c.row_of.ensures.tests;
       told = own_told _ now all.runs c.loop-index.told i kept so.told within is own (own_at own) c.row_of.new.kept c.row_of.new.told c.row_of.ensures.same c.row_of.ensures.told;
+      known = c.row_of.ensures.known;
       rows = λ admits by.
           subst (AreRowsFor admits nodes v all.candidates (kept_records (take (i + 1) old)))
           (sym (ap (map row_seen) c.in_ok-add_row.ensures ∙ seen_added rows row))

@@ -15,7 +15,7 @@ use Rattle.reqtable_table.specs.Kept.{KeptPackage}
 use Rattle.reqtable_table.specs.KeptLines.{package_record}
 use Rattle.reqtable_table.specs.Owns.{runs_of}
 use Rattle.reqtable_table.specs.Runs.{AreRunsOf}
-use Rattle.reqtable_table.specs.Settings.{nodes_in, valuation_in}
+use Rattle.reqtable_holding.specs.Settings.{nodes_in, valuation_in}
 use Rattle.reqtable_table.proofs.RowsOfLines.{rows_are_the_answer}
 use Rattle.reqtable_table.proofs.LentTable.{stays, runs_stay}
 use Rattle.reqtable_table.proofs.table.Table.answer_among.Goals as goal

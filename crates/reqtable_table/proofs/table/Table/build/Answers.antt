@@ -28,8 +28,8 @@ returns-in-Ok-clause-built c = λ vars said stand.
     all_built vars c.args.interner.now.nodes c.packages_of.new.interner.nodes c.in-Ok.ensures.keeps c.args.requirements groups are said stand
     c.args.limit (map package_record c.in-Ok.packages.items) c.in-Ok.ensures.made
 
-pub returns-in-Err-clause-built : goal.returns-in-Err-clause-built
-returns-in-Err-clause-built c = λ vars said stand.
+pub returns-clause-built : goal.returns-clause-built
+returns-clause-built c = λ vars said stand.
     let groups = c.in_ok-groups.groups.items in
     let are : AreGrouped c.args.requirements groups = subst (λ lines. AreGrouped lines groups) c.into_lines.ensures.lines c.in_ok-groups.ensures in
     refused_so vars c.args.interner.now.nodes c.args.requirements groups are said stand

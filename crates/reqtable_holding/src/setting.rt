@@ -3,7 +3,7 @@
 ghost use Rattle.std.specs.Prelude.{◌≡◌};
 ghost use Rattle.pep508_evaluation.specs.Valuations.{valuation_of};
 ghost use Rattle.pep508_tree.specs.Meaning.{IsTree, holds};
-ghost use Rattle.reqtable_table.specs.Settings.{nodes_in, valuation_in};
+ghost use Rattle.reqtable_holding.specs.Settings.{nodes_in, valuation_in};
 
 use pep508_environment::MarkerEnvironment;
 use pep508_evaluation::MarkerTreeEvaluation;
@@ -12,14 +12,14 @@ use pep508_tree::{Interner, MarkerTree};
 
 /// An environment with extras, and the interner of the markers that are looked at in it.
 #[derive(Drop)]
-pub(crate) struct Setting<'a> {
-    pub(crate) interner: &'a Interner,
-    pub(crate) environment: &'a MarkerEnvironment,
-    pub(crate) extras: &'a [ExtraName],
+pub struct Setting<'a> {
+    pub interner: &'a Interner,
+    pub environment: &'a MarkerEnvironment,
+    pub extras: &'a [ExtraName],
 }
 
 impl<'a> Setting<'a> {
-    pub(crate) fn new(
+    pub fn new(
         interner: &'a Interner,
         environment: &'a MarkerEnvironment,
         extras: &'a [ExtraName],
@@ -35,7 +35,7 @@ impl<'a> Setting<'a> {
     }
 
     /// Whether a marker holds.
-    pub(crate) fn holds(&self, marker: MarkerTree) -> bool
+    pub fn holds(&self, marker: MarkerTree) -> bool
         requires { IsTree (nodes_in self.now) marker }
         ensures { result ≡ holds (nodes_in self.now) marker (valuation_in self.now) }
     {

@@ -4,7 +4,7 @@ use Rattle.std.specs.Prelude.{List}
 use Rattle.pep508_diagram.specs.Question.{Valuation}
 use Rattle.pep508_evaluation.specs.Valuations.{valuation_of}
 use Rattle.pep508_tree.specs.Meaning.{NodeRecord}
-use Rattle.reqtable_table.specs.declared.setting.Setting.{Setting}
+use Rattle.reqtable_holding.specs.declared.setting.Setting.{Setting}
 
 abbrev pub nodes_in : Setting → List NodeRecord
 nodes_in setting = setting.interner.now.nodes

@@ -1,0 +1,114 @@
+//! What markers were found to say.
+
+ghost use Rattle.std.specs.Prelude.{◌≡◌, ◌<◌, ℕ, [], length, Some, None, get_or, set, IfOk};
+ghost use Rattle.version_ranges.specs.Turns.{flips};
+ghost use Rattle.pep508_tree.specs.Meaning.{IsTree, holds};
+ghost use Rattle.reqtable_holding.specs.Known.{plain, truth_at, AreKnown};
+ghost use Rattle.reqtable_holding.specs.Settings.{nodes_in, valuation_in};
+
+use crate::setting::Setting;
+use pep508_tree::MarkerTree;
+use std::alloc::{AllocError, Global};
+use std::marker::Model;
+
+/// What is known of the trees at a place of an interner: whether the one holds that isn't negated.
+#[derive(Clone, Copy)]
+pub struct Said {
+    pub place: usize,
+    pub holds: bool,
+}
+
+/// What markers were found to say in one environment with extras, by their slots.
+#[derive(Drop)]
+pub struct Known {
+    said: Vec<Option<Said>>,
+}
+
+impl Model for Known {
+    ghost use Rattle.std.specs.Prelude.{List, Option};
+    ghost use Rattle.reqtable_holding.specs.declared.known.Said.{Said};
+
+    ghost Value = { List (Option Said) };
+
+    ghost view = { λ k. k.said.items };
+}
+
+impl Known {
+    /// Nothing is known, and nothing will be kept. Takes no memory.
+    pub fn nothing(alloc: Global) -> Known
+        ensures { result ≡ [] }
+    {
+        Known {
+            said: Vec::new(alloc),
+        }
+    }
+
+    /// Nothing is known yet, and there is room for what markers of so many slots say.
+    pub fn new(alloc: Global, slots: usize) -> Result<Known, AllocError>
+        ensures { IfOk result (λ known. (slot : ℕ) → get_or known slot None ≡ None) }
+    {
+        let mut said = Vec::new(alloc);
+        said.resize(slots, None)?;
+        Ok(Known { said })
+    }
+
+    /// Whether a marker holds: as it is known at its slot, or else evaluated, and known there from then on
+    /// where there is room. Markers of one slot are told apart by their places, so each is right.
+    pub fn holds(&mut self, setting: &Setting<'_>, slot: usize, marker: MarkerTree) -> bool
+        requires made { IsTree (nodes_in setting.now) marker }
+        requires known { AreKnown (nodes_in setting.now) (valuation_in setting.now) self.old }
+        ensures answer { result ≡ holds (nodes_in setting.now) marker (valuation_in setting.now) }
+        ensures known { AreKnown (nodes_in setting.now) (valuation_in setting.now) self.new }
+        ensures kept { slot < length self.old → truth_at (get_or self.new slot None) marker.place
+            ≡ Some (holds (nodes_in setting.now) (plain marker.place) (valuation_in setting.now)) }
+        ensures long { length self.new ≡ length self.old }
+    {
+        if let Some(truth) = self.truth_at(slot, marker.place()) {
+            return turned(marker.is_negated(), truth);
+        }
+        let truth = setting.holds(marker);
+        self.keep(slot, marker.place(), turned(marker.is_negated(), truth));
+        truth
+    }
+
+    /// What is known at a slot of the trees at a place.
+    fn truth_at(&self, slot: usize, place: usize) -> Option<bool>
+        ensures { result ≡ truth_at (get_or self.now slot None) place }
+    {
+        let said = self.said_at(slot)?;
+        if said.place == place {
+            Some(said.holds)
+        } else {
+            None
+        }
+    }
+
+    fn said_at(&self, slot: usize) -> Option<Said>
+        ensures { result ≡ get_or self.now slot None }
+    {
+        if slot < self.said.len() {
+            self.said[slot]
+        } else {
+            None
+        }
+    }
+
+    /// Keeps what is said at a place, where there is the slot.
+    fn keep(&mut self, slot: usize, place: usize, truth: bool)
+        ensures { self.new ≡ set self.old slot (Some (record { place = place; holds = truth })) }
+    {
+        if slot < self.said.len() {
+            self.said[slot] = Some(Said {
+                place,
+                holds: truth,
+            });
+        }
+    }
+}
+
+/// A truth, turned where the flag is set.
+fn turned(turns: bool, truth: bool) -> bool
+    ensures { result ≡ flips turns truth }
+{
+    if turns { !truth } else { truth }
+}
