@@ -1,3 +1,4 @@
 pub mod Answered
 pub mod Whole
 pub mod Numbered
+pub mod Formats
