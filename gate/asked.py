@@ -42,7 +42,6 @@ UNASKED = {
     "MarkerTree::is_negated": LENT,
     "MarkerTree::turned": LENT,
     "MarkerTree::cmp_places": LENT,
-    "Table::answer_among": "what `Table::answer`, which is asked, does behind bringing the candidates in order",
 }
 
 # What is no code: comments, texts, characters, items for proofs alone and clauses.

@@ -276,7 +276,14 @@ wants "a format in capitals" 2 "" SOMETHING
 run check R E C --format json --format json
 wants "two formats" 2 "" SOMETHING
 run matrix some M foos --format json
-wants "a format for matrix" 2 "" SOMETHING
+wants "an object of environments" 0 '{"environments":[{"number":1,"packages":[{"extras":[],"name":"foo","outcome":"version","version":"1.0"}]},'\
+'{"number":2,"packages":[{"extras":[],"name":"bar","outcome":"version","version":"2.0"},'\
+'{"extras":[],"name":"foo","outcome":"version","version":"1.0"}]}]}'"$n" ""
+run matrix --format json some none foos
+wants "an object without environments" 0 '{"environments":[]}'"$n" ""
+run matrix --format json empty M foos
+wants "an object of environments without rows" 0 \
+    '{"environments":[{"number":1,"packages":[]},{"number":2,"packages":[]}]}'"$n" ""
 
 # Examples.
 for example in "$top"/examples/*/expected.txt; do

@@ -3,7 +3,7 @@
 
     objects.py PROGRAM
 
-Each run of a command that has `--format` is asked by `--format json`, where runs.py asks for a text: its status is the same,
+Each run is asked by `--format json`, where runs.py asks for a text: its status is the same,
 what it writes is one line that is one compact JSON object with its keys in order, and the text that this object tells is that of
 the run. An answer is on standard output and a fault on standard error, and nothing is on the other. By `--format text` it is
 asked too, and then it writes the text. The examples of docs/JSON.md are run as well. A line is printed for each that differs;
@@ -19,8 +19,6 @@ import sys
 import runs
 
 TOP = os.path.dirname(os.path.dirname(os.path.abspath(__file__)))
-# The commands that have the option.
-COMMANDS = ("check", "same", "conflicts", "normal")
 EVERYWHERE = "all environments"
 
 # The kinds of faults by what is said of them, and where a place of bytes stands in it.
@@ -90,10 +88,16 @@ def conflict_text(conflict):
     return f"{conflict['package']} {','.join(map(str, conflict['lines']))}{pre}\n"
 
 
+def environment_text(environment):
+    return f"env {environment['number']}\n" + "".join(map(row_text, environment["packages"]))
+
+
 def text_of(command, answer):
     """The text that an object tells: what the command prints without `--format json`."""
     if command == "check":
         return "".join(map(row_text, answer["packages"]))
+    if command == "matrix":
+        return "".join(map(environment_text, answer["environments"]))
     if command == "conflicts":
         return "".join(map(conflict_text, answer["conflicts"]))
     if command == "normal":
@@ -137,13 +141,6 @@ def faults_of(command, wanted, got):
     return [] if told == wished else [f"it tells {told!r}, not {wished!r}"]
 
 
-def asked(stored):
-    """Each run that is asked for an object: its name, command, words, the texts of its files, and how it is to end."""
-    for name, words, texts, wanted in runs.runs_of(stored):
-        if words[0] in COMMANDS:
-            yield name, words, texts, wanted
-
-
 def examples():
     """The examples of docs/JSON.md: a command line, and what it writes."""
     with open(os.path.join(TOP, "docs", "JSON.md"), encoding="utf-8") as file:
@@ -172,7 +169,7 @@ def stored_runs():
 
 def count():
     """How many runs and examples there are."""
-    return sum(1 for _ in asked(stored_runs())) + sum(1 for _ in examples())
+    return sum(1 for _ in runs.runs_of(stored_runs())) + sum(1 for _ in examples())
 
 
 def main():
@@ -180,7 +177,7 @@ def main():
         sys.exit(__doc__)
     program = os.path.abspath(sys.argv[1])
     passed = failed = 0
-    for turn, (name, words, texts, wanted) in enumerate(asked(stored_runs())):
+    for turn, (name, words, texts, wanted) in enumerate(runs.runs_of(stored_runs())):
         try:
             found = faults_of(words[0], wanted, runs.ended(program, with_format(words, "json", turn), texts))
         except (OSError, subprocess.TimeoutExpired) as error:

@@ -33,14 +33,14 @@ module _ (vars : Variables) (extras : List (List ℕ)) (x y z : List ℕ) (names
   whole_check format (Err fault) h =
       rw (e, l) (refuses_texts vars First x fault (behind_lines (environment_from Second 1) names said y z) h)
 
-  pub whole_matrix : (limit : ℕ) (result : Result PiecesRecord RunFault)
-      → AnswersAll IsPlain limit result (behind_lines (environments_from Second) names said y z)
-      → AnswersAll (IsOfTexts vars First x) limit result (texts_of (environments_from Second) vars extras x y z)
+  pub whole_matrix : (format : Format) (limit : ℕ) (result : Result PiecesRecord RunFault)
+      → AnswersAll IsPlain format limit result (behind_lines (environments_from Second) names said y z)
+      → AnswersAll (IsOfTexts vars First x) format limit result (texts_of (environments_from Second) vars extras x y z)
   unfolding texts_of
-  whole_matrix limit (Ok text) h = rw (e, l) h
-  whole_matrix limit (Err fault) (inl h) =
+  whole_matrix format limit (Ok text) h = rw (e, l) h
+  whole_matrix format limit (Err fault) (inl h) =
       rw (e, l) (inl (refuses_texts vars First x fault (behind_lines (environments_from Second) names said y z) h))
-  whole_matrix limit (Err fault) (inr h) = rw (e, l) (inr h)
+  whole_matrix format limit (Err fault) (inr h) = rw (e, l) (inr h)
 
 -- what refuses all texts may be said of them
 pub may_be_said : (vars : Variables) (list : Input) (bytes : List ℕ) (limit : ℕ) (fault : RunFault) (texts : MatrixTexts)

@@ -24,7 +24,7 @@ use Rattle.reqs_cli.specs.declared.opened.Opened.TheVariants as opened
 -- what a command may answer in a format
 abbrev pub answering : Asked → Format → Variables → List (List ℕ) → Answering
 answering Check format vars extras = ChecksAs format vars extras
-answering (Matrix limit) format vars extras = MatrixAnswersAs limit vars extras
+answering (Matrix limit) format vars extras = MatrixAnswersAs format limit vars extras
 answering (Same limit) format vars extras = SameAnswersAs format limit vars
 answering (Conflicts limit) format vars extras = ConflictsAnswerAs format limit vars
 answering Normal format vars extras = NormalAnswersAs format vars

@@ -10,7 +10,7 @@ use reqs::Format;
 use std::alloc::{AllocError, Global};
 
 /// The words for formats.
-const FORMATS: [&str; 2] = ["text", "json"];
+static FORMATS: [&str; 2] = ["text", "json"];
 
 /// What `--version` says beside the program's name.
 const VERSION: &str = "0.1.0";
@@ -141,7 +141,8 @@ fn matrix_command<'a>(alloc: Global) -> Result<Command<'a>, AllocError> {
         .required(true);
     let matrix = Command::new(alloc, "matrix")
         .about("Prints for each environment of a list what check prints for it")
-        .arg(limit_argument(alloc))?;
+        .arg(limit_argument(alloc))?
+        .arg(format_argument(alloc))?;
     with_inputs(alloc, matrix, environments)
 }
 

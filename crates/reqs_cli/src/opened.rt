@@ -112,6 +112,7 @@ pub fn run_read<S: Read + Drop, W: Write>(
             extras,
             vars,
             *limit,
+            format,
             output,
         ),
         Opened::Same { left, right, limit } => same(

@@ -21,6 +21,10 @@ abbrev pub value_or_null : {X : Type 0} → (X → Data) → Option X → Data
 value_or_null value_of (Some x) = value_of x
 value_or_null value_of None = null
 
--- a value's text, without a blank between its parts, and the end of its line
+-- a value's text, without a blank between its parts
+unfoldable pub value_text : Data → List ℕ
+value_text value = compact_text value
+
+-- and the end of its line
 unfoldable pub line_of : Data → List ℕ
 line_of value = compact_text value ++ codes "\n"

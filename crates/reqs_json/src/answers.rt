@@ -1,14 +1,15 @@
 //! The rows of an answer, as a text in a format.
 
-ghost use Rattle.std.specs.Prelude.{◌≡◌, All, map, length, IfOk, string_bytes};
+ghost use Rattle.std.specs.Prelude.{◌≡◌, ◌++◌, All, map, length, IfOk, string_bytes};
 ghost use Rattle.serde_json.specs.View.{view};
+ghost use Rattle.serde_json.specs.Written.{comma_if};
 ghost use Rattle.reqtable_answer.specs.Rows.{row_seen, IsTakenBelow};
-ghost use Rattle.reqs_json.specs.Lines.{line_of};
+ghost use Rattle.reqs_json.specs.Lines.{line_of, value_text};
 ghost use Rattle.reqs_json.specs.Rows.{outcome_word, version_value, package_value, packages_value};
-ghost use Rattle.reqs_json.specs.Rows.{answer_value, rows_text};
+ghost use Rattle.reqs_json.specs.Rows.{answer_value, environment_value, rows_text};
 
 use crate::format::Format;
-use crate::lines::{line_of, names_value};
+use crate::lines::{line_of, names_value, value_text};
 use reqtable_answer::{Answer, Outcome, Row};
 use reqtable_text::{Candidate, Candidates};
 use serde_json::{Value, json};
@@ -51,6 +52,71 @@ fn answer_value(alloc: Global, rows: &[Row], candidates: &[Candidate]) -> Result
 {
     let packages = packages_value(alloc, rows, candidates)?;
     json!(in alloc; {"packages": packages})
+}
+
+/// The object of an environment's answer, which has this number, behind a comma where it stands behind
+/// others.
+///
+/// The candidates are those among which was chosen. Linear in the text, with memory for its values.
+pub fn environment_text(
+    alloc: Global,
+    later: bool,
+    number: usize,
+    answer: &Answer,
+    candidates: &Candidates,
+) -> Result<String, AllocError>
+    requires { All (λ row. IsTakenBelow (length candidates.now) row.outcome) answer.now.rows.items }
+    ensures { IfOk result (λ text. string_bytes text ≡ comma_if later ++ value_text
+        (environment_value candidates.now number (map row_seen answer.now.rows.items))) }
+{
+    let object = environment_object(alloc, number, &answer.rows, candidates.items())?;
+    behind_comma(alloc, later, object.as_str())
+}
+
+/// A text, behind a comma where something stands before.
+fn behind_comma(alloc: Global, later: bool, shown: &str) -> Result<String, AllocError>
+    ensures { IfOk result (λ text. string_bytes text ≡ comma_if later ++ shown.now) }
+{
+    let mut text = String::from_str(alloc, comma_if(later))?;
+    text.push_str(shown)?;
+    Ok(text)
+}
+
+/// The object of rows and a number, as a text.
+fn environment_object(
+    alloc: Global,
+    number: usize,
+    rows: &[Row],
+    candidates: &[Candidate],
+) -> Result<String, AllocError>
+    requires { All (λ row. IsTakenBelow (length candidates.now) row.outcome) rows.now }
+    ensures { IfOk result (λ text. string_bytes text
+        ≡ value_text (environment_value candidates.now number (map row_seen rows.now))) }
+{
+    let object = environment_value(alloc, number, rows, candidates)?;
+    value_text(alloc, &object)
+}
+
+/// A comma, where something stands before.
+fn comma_if(later: bool) -> &'static str
+    ensures { result.now ≡ comma_if later }
+{
+    if later { "," } else { "" }
+}
+
+/// The object of rows and a number.
+fn environment_value(
+    alloc: Global,
+    number: usize,
+    rows: &[Row],
+    candidates: &[Candidate],
+) -> Result<Value, AllocError>
+    requires { All (λ row. IsTakenBelow (length candidates.now) row.outcome) rows.now }
+    ensures { IfOk result (λ value.
+        view value ≡ environment_value candidates.now number (map row_seen rows.now)) }
+{
+    let packages = packages_value(alloc, rows, candidates)?;
+    json!(in alloc; {"number": number, "packages": packages})
 }
 
 /// Rows as an array.

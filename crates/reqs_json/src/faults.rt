@@ -57,7 +57,6 @@ pub fn usage_line(alloc: Global, message: &str) -> Result<String, AllocError>
 }
 
 /// Want of memory as an object on a line, for which no memory is needed.
-#[tactic(auto, unfolding(crate::specs::Lines::line_of))]
 pub fn memory_line() -> &'static str
     ensures { result.now ≡ line_of (error_value (kind_of Memory) (codes "out of memory") None nowhere) }
 {

@@ -8,7 +8,7 @@ pub mod laws;
 mod lines;
 mod messages;
 
-pub use answers::answer_text;
+pub use answers::{answer_text, environment_text};
 pub use faults::{fault_line, memory_line, usage_line};
 pub use format::Format;
 pub use lines::{line_of, lines_value, numbers_value};

@@ -5,7 +5,7 @@ ghost use Rattle.std.specs.Str.Lines.{lines};
 ghost use Rattle.serde_json.specs.Data.{string};
 ghost use Rattle.serde_json.specs.View.{view};
 ghost use Rattle.serde_json.specs.Written.{has_float};
-ghost use Rattle.reqs_json.specs.Lines.{array_of, number_of, lines_value, line_of};
+ghost use Rattle.reqs_json.specs.Lines.{array_of, number_of, lines_value, line_of, value_text};
 
 use pep508_name::ExtraName;
 use serde_json::Value;
@@ -20,6 +20,15 @@ pub fn line_of(alloc: Global, value: &Value) -> Result<String, AllocError>
     let mut text = value.to_string(alloc)?;
     text.push('\n')?;
     Ok(text)
+}
+
+/// The text of a value, without blanks between its parts. Linear in the text.
+#[tactic(auto, unfolding(crate::specs::Lines::value_text))]
+pub(crate) fn value_text(alloc: Global, value: &Value) -> Result<String, AllocError>
+    requires { has_float (view value.now) ≡ false }
+    ensures { IfOk result (λ text. string_bytes text ≡ value_text (view value.now)) }
+{
+    value.to_string(alloc)
 }
 
 /// Names as an array of texts.

@@ -73,7 +73,8 @@ CheckEnds requirements environment candidates =
 -- `reqs matrix`
 abbrev pub TablesInputs : ℕ → List (List ℕ) → List (List ℕ) → Ending → Type 0
 TablesInputs limit inputs extras =
-    CommandEnds (MatrixAnswersAs limit no_variables extras) (MatrixRefuses limit no_variables extras)
+    CommandEnds (MatrixAnswersAs format.Text limit no_variables extras)
+    (MatrixRefuses limit no_variables extras)
     (IsToldAt matrix_names 4) inputs
 
 abbrev pub MatrixEnds : ℕ → List ℕ → List ℕ → List ℕ → List ℕ → Ending → Type 0

@@ -155,7 +155,7 @@ fn tabled_with(
     vars: &Vars,
     limit: u64,
 ) -> Ended
-    ensures { CommandEnds (MatrixAnswersAs limit vars.now (map (λ e. e.now) extras.now))
+    ensures { CommandEnds (MatrixAnswersAs Format.Text limit vars.now (map (λ e. e.now) extras.now))
         (MatrixRefuses limit vars.now (map (λ e. e.now) extras.now)) (IsToldAt matrix_names 4)
         (requirements.now ∷ environments.now ∷ candidates.now ∷ []) (ending_of result) }
 {
@@ -173,6 +173,7 @@ fn tabled_with(
         extras,
         vars,
         limit,
+        Format::Text,
         &mut text,
     );
     ended(alloc, ran, text, &MATRIX_NAMES, EXTRAS)

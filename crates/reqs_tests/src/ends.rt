@@ -206,6 +206,7 @@ fn run(
             &[],
             &vars,
             limit,
+            Format::Text,
             output,
         )
     } else {
