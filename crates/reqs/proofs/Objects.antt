@@ -2,7 +2,6 @@
 use Rattle.std.proofs.Common.{◌≡◌, ◌∙◌, ◌++◌, ◌+◌, ◌<◌, ◌≤◌, ◌∷◌, [], ℕ, suc, List, Bool, true, false, nat_lt, length, take, get_or, codes, ap, refl, sym, subst, arith, append_assoc, append-nil, length-append}
 use Rattle.std.specs.List.{AllZip}
 use Rattle.std.proofs.lemmas.List.{take_all, take_more}
-use Rattle.serde_json.specs.Written.{comma_if}
 use Rattle.pep508_tree.specs.Meaning.{NodeRecord}
 use Rattle.pep508_environment.specs.Environment.{EnvironmentRecord}
 use Rattle.pep508_evaluation.specs.Valuations.{valuation_of}
@@ -13,9 +12,8 @@ use Rattle.reqtable_requirements.specs.LineReading.{LineRecord}
 use Rattle.reqtable_table.specs.Answers.{SamePackage}
 use Rattle.reqtable_table.specs.Kept.{KeptPackage, KeepsAll}
 use Rattle.reqs_json.specs.declared.format.Format.TheVariants.{Json}
-use Rattle.reqs_json.specs.Lines.{value_text}
-use Rattle.reqs_json.specs.Rows.{environment_value, environment_values}
-use Rattle.reqs_json.proofs.Joined.{items_front, one_more, whole}
+use Rattle.reqs_json.specs.Rows.{environment_values}
+use Rattle.reqs_json.proofs.Joined.{items_front, object_behind, one_more, whole}
 use Rattle.reqs.specs.Check.{on_request}
 use Rattle.reqs.specs.Matrix.{AreAnswers, IsMatrixIn}
 
@@ -53,10 +51,10 @@ module _ (extras : List (List ℕ)) (lines : List LineRecord) (candidates : List
   pub gone_on : (place : ℕ) (x : EnvironmentRecord) → place < length all → x ≡ get_or all place x
       → (old new : List ℕ) → IsBegun extras lines candidates all place old
       → (rows : List RowRecord) → IsAnswer on_request (asks_of (valuation_of x extras) lines) candidates rows
-      → new ≡ old ++ (comma_if (nat_lt 0 place) ++ value_text (environment_value candidates (place + 1) rows))
+      → new ≡ old ++ object_behind (nat_lt 0 place) candidates (place + 1) rows
       → IsBegun extras lines candidates all (place + 1) new
   gone_on place x below is old new so_far rows answered e =
-      let object = comma_if (nat_lt 0 place) ++ value_text (environment_value candidates (place + 1) rows) in
+      let object = object_behind (nat_lt 0 place) candidates (place + 1) rows in
       let front = items_front false (environment_values candidates 1 so_far.answers) in
       let long = so_far.long in
       let R : EnvironmentRecord → List RowRecord → Type 0 =

@@ -26,6 +26,10 @@ pub whole : (candidates : List Candidate) (answers : List (List RowRecord))
 unfolding line_of serde_json_on_literals
 whole candidates answers = rw (closed false (environment_values candidates 1 answers)) (simp append_assoc)
 
+-- an environment's object, behind a comma where something stands before
+abbrev pub object_behind : Bool → List Candidate → ℕ → List RowRecord → List ℕ
+object_behind later candidates number rows = comma_if later ++ value_text (environment_value candidates number rows)
+
 module _ (candidates : List Candidate) (rows : List RowRecord) where
   abbrev shown : ℕ → List ℕ
   shown number = value_text (environment_value candidates number rows)
@@ -42,7 +46,7 @@ module _ (candidates : List Candidate) (rows : List RowRecord) where
   -- the last of all, which may stand behind others
   pub one_more : (answers : List (List RowRecord)) (place : ℕ) (later : Bool) → length answers ≡ place → later ≡ nat_lt 0 place
       → items_front false (environment_values candidates 1 (answers ++ rows ∷ []))
-      ≡ items_front false (environment_values candidates 1 answers) ++ (comma_if later ++ shown (place + 1))
+      ≡ items_front false (environment_values candidates 1 answers) ++ object_behind later candidates (place + 1) rows
   one_more [] place later long e =
       let none : later ≡ false = e ∙ ap (λ n. nat_lt 0 n) (sym long) in
       let first : place + 1 ≡ 1 = omega (arith, long) in
