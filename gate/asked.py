@@ -34,7 +34,7 @@ FACES = ("pep440_rs", "pep508_rs", "reqtable", "reqs", "reqs_io")
 # Of version_ranges the sets are public; their boundaries are lent to the crates of ranges and trees.
 SETS = ("Ranges", "RangeValue", "Iter")
 # Run by tests/cli.sh on the stored runs.
-RUN = ("reqs_ends", "reqs_lists", "reqs_pieces", "reqs_rows", "reqs", "reqs_cli")
+RUN = ("reqs_ends", "reqs_json", "reqs_lists", "reqs_pieces", "reqs_rows", "reqs", "reqs_cli")
 # Calls that need no question, and why.
 LENT = "lent to the crates of trees, and public only since its type is"
 UNASKED = {
@@ -42,7 +42,6 @@ UNASKED = {
     "MarkerTree::is_negated": LENT,
     "MarkerTree::turned": LENT,
     "MarkerTree::cmp_places": LENT,
-    "Table::answer_among": "what `Table::answer`, which is asked, does behind bringing the candidates in order",
 }
 
 # What is no code: comments, texts, characters, items for proofs alone and clauses.

@@ -14,6 +14,7 @@ import tempfile
 from crates import TOP
 
 sys.path.insert(0, os.path.join(TOP, "tests"))
+import objects
 import refused
 
 def read(*path):
@@ -51,6 +52,7 @@ def counts(programs):
         yield f"questions {name}", len(list(refused.questions(name)))
     stored = json.loads(read("tests", "runs.json"))
     yield "runs", sum(len(stored[it]) for it in ("runs", "worked", "matrix", "lists"))
+    yield "objects", objects.count()
     with tempfile.TemporaryDirectory(prefix="floors-") as room:
         yield "commands", len(list(refused.commands(room)))
 

@@ -26,8 +26,8 @@ CLOSING = re.compile(r"^(?:[a-z]+: )?(\d+) passed, (\d+) failed$", re.M)
 NOTHING = "--from-nothing"
 QUESTIONS = ("pep440_vectors", "pep508_vectors", "pep508_marker_vectors")
 # What of tests/ the parts read that run programs.
-OF_REQS = ("alike.py", "cli.sh", "help.txt", "install.sh", "lists", "pages", "pairs.py", "refuse.c", "refused.py", "refused.sh",
-           "runs.json", "runs.py", "try.sh")
+OF_REQS = ("alike.py", "cli.sh", "help.txt", "install.sh", "lists", "objects.py", "pages", "pairs.py", "refuse.c", "refused.py",
+           "refused.sh", "runs.json", "runs.py", "try.sh")
 
 OF_C = ("c", "c.py", "c.sh", "refuse.c", "runs.json")
 
@@ -51,7 +51,7 @@ class Part:
 def parts(more):
     """The parts that are run one after another, and those that are then run side by side."""
     python = [sys.executable]
-    of_reqs = ("examples", "reqs", "build", "install", "share", "try", *(f"tests/{it}" for it in OF_REQS))
+    of_reqs = ("docs/JSON.md", "examples", "reqs", "build", "install", "share", "try", *(f"tests/{it}" for it in OF_REQS))
     of_c = ("build", "include", "tools")
     of_pack = ("LICENSE-APACHE", "LICENSE-BSD", "build", "examples", "include", "pack", "tools")
     of_python = (*of_pack, "docs/PYTHON.md", "pyproject.toml", "python", "tests/python.sh")

@@ -235,6 +235,56 @@ printf "foo ; os.name == 'nt'\n" >old
 run normal old
 wants "no normal text of an old key" 2 "" "reqs: old: line 1: deprecated key$n"
 
+# Answers and faults as objects.
+object() {
+    printf '{"error":{"kind":"%s","length":%s,"line":%s,"message":"%s","path":%s,"start":%s}}\n' "$@"
+}
+run check --format json extras E C dev
+wants "an object" 0 '{"packages":[{"extras":["a","b"],"name":"foo-bar","outcome":"version","version":"2.0"}]}'"$n" ""
+run check empty E C --format=json
+wants "an object without rows" 0 '{"packages":[]}'"$n" ""
+run conflicts --format json R
+wants "an object without conflicts" 0 '{"conflicts":[]}'"$n" ""
+run normal empty --format json
+wants "an object without requirements" 0 '{"requirements":[]}'"$n" ""
+run same any early --format json
+wants "an object of a difference that is everywhere" 1 '{"marker":null,"package":"foo","same":false}'"$n" ""
+printf 'foo ; sys_platform == "a\\b\x01"\n' >escapes
+run normal escapes --format json
+wants "a backslash and a control character in an object" 0 \
+    '{"requirements":["foo ; sys_platform == '"'a\\\\b\\u0001'"'"]}'"$n" ""
+run check --format json absent E C
+wants "a file that doesn't open, as an object" 3 "" "$(object read null null 'read fault' '"absent"' null)$n"
+run check --format json - - C
+wants "standard input twice, as an object" 2 "" \
+    "$(object command-line null null 'standard input (-) can be one input alone' null null)$n"
+"$program" check R E C --format json >/dev/full 2>err </dev/null
+status=$?
+: >out
+wants "a full standard output, as an object" 3 "" "$(object write null null 'write fault' null null)$n"
+"$program" check empty E C --format json >/dev/full 2>err </dev/null
+status=$?
+wants "an object without rows to a full standard output" 3 "" "$(object write null null 'write fault' null null)$n"
+run same again url --format json
+wants "a list with a URL, as an object" 2 "" "$(object refused null 1 URL '"url"' null)$n"
+run check R E C --format text
+wants "the usual format" 0 "foo-bar 1.19$n" ""
+run check R E C --format xml
+wants "an unknown format" 2 "" SOMETHING
+run check R E C --format JSON
+wants "a format in capitals" 2 "" SOMETHING
+run check R E C --format json --format json
+wants "two formats" 2 "" SOMETHING
+run matrix some M foos --format json
+wants "an object of environments" 0 '{"environments":[{"number":1,"packages":[{"extras":[],"name":"foo","outcome":"version","version":"1.0"}]},'\
+'{"number":2,"packages":[{"extras":[],"name":"bar","outcome":"version","version":"2.0"},'\
+'{"extras":[],"name":"foo","outcome":"version","version":"1.0"}]}]}'"$n" ""
+run matrix --format json some none foos
+wants "an object without environments" 0 '{"environments":[]}'"$n" ""
+run matrix --format json empty M foos
+wants "an object of environments without rows" 0 \
+    '{"environments":[{"number":1,"packages":[]},{"number":2,"packages":[]}]}'"$n" ""
+
 # Examples.
 for example in "$top"/examples/*/expected.txt; do
     example=${example%/*}
@@ -640,21 +690,25 @@ wants "a limit of no cases, for conflicts" 2 "" "reqs: R: more than 0 cases for 
 run check --frobnicate R E C
 wants "an unknown option" 2 "" SOMETHING
 
-# The stored runs.
-if command -v python3 >/dev/null; then
-    python3 "$top/tests/runs.py" "$program" >runs.out
-    grep -v '^runs: ' runs.out
-    line=$(grep -E '^runs: [0-9]+ passed, [0-9]+ failed$' runs.out | tail -n 1)
+# The stored runs, and the same runs asked for objects.
+stored() {
+    python3 "$top/tests/$1.py" "$program" >runs.out
+    grep -v "^$1: " runs.out
+    line=$(grep -E "^$1: [0-9]+ passed, [0-9]+ failed\$" runs.out | tail -n 1)
     if [ -n "$line" ]; then
-        line=${line#runs: }
+        line=${line#"$1: "}
         good=${line%% passed*}
         bad=${line##*, }
         passed=$((passed + good))
         failed=$((failed + ${bad%% failed}))
     else
         failed=$((failed + 1))
-        echo "FAILED: tests/runs.py ended without its closing line"
+        echo "FAILED: tests/$1.py ended without its closing line"
     fi
+}
+if command -v python3 >/dev/null; then
+    stored runs
+    stored objects
 else
     failed=$((failed + 1))
     echo "FAILED: python3 is not on the PATH, and the stored runs need it"

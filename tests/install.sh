@@ -173,7 +173,7 @@ completed() {
 }
 holds "bash completes a command" [ "$(completed reqs ch)" = "check " ]
 holds "bash completes an option" [ "$(completed reqs --v)" = "--version " ]
-holds "bash completes a command's option" [ "$(completed reqs check --)" = "--help " ]
+holds "bash completes a command's option" [ "$(completed reqs check --)" = "--format --help " ]
 holds "bash completes an option of matrix" [ "$(completed reqs matrix --l)" = "--limit " ]
 holds "bash leaves files to the shell" [ "$(completed reqs check R)" = " " ]
 

@@ -1,3 +1,5 @@
 pub mod Answered
 pub mod Whole
 pub mod Numbered
+pub mod Formats
+pub mod Objects

@@ -6,6 +6,7 @@ use Rattle.reqtable_text.specs.TextLines.{text_lines}
 use Rattle.reqtable_requirements.specs.LineReading.{LineRecord}
 use Rattle.reqtable_requirements.specs.Requirements.{IsErrorIn}
 use Rattle.reqs_io.specs.Front.{AreAsTold}
+use Rattle.reqs_json.specs.declared.format.Format.{Format}
 use Rattle.pep508_environment.specs.Environment.{EnvironmentRecord}
 use Rattle.reqs_ends.specs.declared.fault.Input.{Input}
 use Rattle.reqs_ends.specs.declared.fault.Input.TheVariants.{First, Second}
@@ -24,22 +25,22 @@ use Rattle.reqs.specs.Texts.{ReadTexts, behind_lines, texts_of}
 
 module _ (vars : Variables) (extras : List (List ℕ)) (x y z : List ℕ) (names : List (List ℕ))
     (said : List LineRecord) (e : extras_of extras ≡ Ok names) (l : lines_from vars First x ≡ Ok said) where
-  pub whole_check : {Y : Type 0} (result : Result (String Y) RunFault)
-      → AnswersText IsPlain result (behind_lines (environment_from Second 1) names said y z)
-      → AnswersText (IsOfTexts vars First x) result (texts_of (environment_from Second 1) vars extras x y z)
+  pub whole_check : {Y : Type 0} (format : Format) (result : Result (String Y) RunFault)
+      → AnswersText IsPlain format result (behind_lines (environment_from Second 1) names said y z)
+      → AnswersText (IsOfTexts vars First x) format result (texts_of (environment_from Second 1) vars extras x y z)
   unfolding texts_of
-  whole_check (Ok text) h = rw (e, l) h
-  whole_check (Err fault) h =
+  whole_check format (Ok text) h = rw (e, l) h
+  whole_check format (Err fault) h =
       rw (e, l) (refuses_texts vars First x fault (behind_lines (environment_from Second 1) names said y z) h)
 
-  pub whole_matrix : (limit : ℕ) (result : Result PiecesRecord RunFault)
-      → AnswersAll IsPlain limit result (behind_lines (environments_from Second) names said y z)
-      → AnswersAll (IsOfTexts vars First x) limit result (texts_of (environments_from Second) vars extras x y z)
+  pub whole_matrix : (format : Format) (limit : ℕ) (result : Result PiecesRecord RunFault)
+      → AnswersAll IsPlain format limit result (behind_lines (environments_from Second) names said y z)
+      → AnswersAll (IsOfTexts vars First x) format limit result (texts_of (environments_from Second) vars extras x y z)
   unfolding texts_of
-  whole_matrix limit (Ok text) h = rw (e, l) h
-  whole_matrix limit (Err fault) (inl h) =
+  whole_matrix format limit (Ok text) h = rw (e, l) h
+  whole_matrix format limit (Err fault) (inl h) =
       rw (e, l) (inl (refuses_texts vars First x fault (behind_lines (environments_from Second) names said y z) h))
-  whole_matrix limit (Err fault) (inr h) = rw (e, l) (inr h)
+  whole_matrix format limit (Err fault) (inr h) = rw (e, l) (inr h)
 
 -- what refuses all texts may be said of them
 pub may_be_said : (vars : Variables) (list : Input) (bytes : List ℕ) (limit : ℕ) (fault : RunFault) (texts : MatrixTexts)

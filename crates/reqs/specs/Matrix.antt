@@ -7,7 +7,11 @@ use Rattle.pep508_tree.specs.Meaning.{NodeRecord}
 use Rattle.pep508_environment.specs.Environment.{EnvironmentRecord}
 use Rattle.pep508_evaluation.specs.Valuations.{valuation_of}
 use Rattle.reqtable_text.specs.declared.candidates.Candidate.{Candidate}
-use Rattle.reqtable_answer.specs.Answer.{Admits, IsAnswerText}
+use Rattle.reqtable_answer.specs.Answer.{Admits, RowRecord, IsAnswer, IsAnswerText}
+use Rattle.reqs_json.specs.declared.format.Format.{Format}
+use Rattle.reqs_json.specs.declared.format.Format.TheVariants.{Text, Json}
+use Rattle.reqs_json.specs.Lines.{line_of}
+use Rattle.reqs_json.specs.Rows.{answers_value}
 use Rattle.reqtable_requirements.specs.Asks.{asks_of}
 use Rattle.reqtable_requirements.specs.LineReading.{LineRecord}
 use Rattle.reqtable_requirements.specs.Requirements.{StandsFor}
@@ -44,6 +48,23 @@ IsMatrixText admits extras lines candidates number (environment ∷ environments
     × IsMatrixText admits extras lines candidates (suc number) environments rest
     × (text ≡ environment_line number ++ answer ++ rest)
 
+-- the rows that are the answer in each environment
+abbrev pub AreAnswers : Admits → List (List ℕ) → List LineRecord → List Candidate → List EnvironmentRecord
+    → List (List RowRecord) → Type 0
+AreAnswers admits extras lines candidates environments answers =
+    AllZip
+    (λ environment rows. IsAnswer admits (asks_of (valuation_of environment extras) lines) candidates rows)
+    environments answers
+
+-- the text of all answers in a format: that above, or the line of the object that has the rows of each
+abbrev pub IsMatrixIn : Format → Admits → List (List ℕ) → List LineRecord → List Candidate
+    → List EnvironmentRecord → List ℕ → Type 0
+IsMatrixIn Text admits extras lines candidates environments text =
+    IsMatrixText admits extras lines candidates 1 environments text
+IsMatrixIn Json admits extras lines candidates environments text =
+    (answers : List (List RowRecord)) × AreAnswers admits extras lines candidates environments answers
+    × (text ≡ line_of (answers_value candidates answers))
+
 -- texts one behind another, each behind the line of its environment
 abbrev pub numbered : ℕ → List (List ℕ) → List ℕ
 numbered number [] = []
@@ -55,10 +76,10 @@ abbrev pub MatrixTexts : Type 0
 MatrixTexts = Result (ReadTexts (List EnvironmentRecord)) Cause
 
 -- no package has more cases than the limit, and the text has the answers for all environments
-pub record IsWithinLimit (limit : ℕ) (read : ReadTexts (List EnvironmentRecord)) (text : List ℕ)
-    : Type 0 where
+pub record IsWithinLimit (format : Format) (limit : ℕ) (read : ReadTexts (List EnvironmentRecord))
+    (text : List ℕ) : Type 0 where
   pub few : (name : List ℕ) → HasTooMany limit read.lines name → ⊥
-  pub is_text : IsMatrixText on_request read.extras read.lines read.candidates 1 read.second text
+  pub is_text : IsMatrixIn format on_request read.extras read.lines read.candidates read.second text
 
 -- the fault names the first package that has more
 abbrev pub IsOverLimit : ℕ → List LineRecord → RunFault → Type 0
@@ -71,9 +92,10 @@ IsRead texts Holds = (read : ReadTexts (List EnvironmentRecord)) × (texts ≡ O
 
 -- the text has the answers; or the texts are refused for what the fault says, or, once all are read, for a
 -- package that has too many cases
-abbrev pub AnswersAll : (RunFault → Type 0) → ℕ → Result PiecesRecord RunFault → MatrixTexts → Type 0
-AnswersAll IsOne limit (Ok text) texts = IsRead texts (λ read. IsWithinLimit limit read text.whole)
-AnswersAll IsOne limit (Err fault) texts =
+abbrev pub AnswersAll : (RunFault → Type 0) → Format → ℕ → Result PiecesRecord RunFault → MatrixTexts → Type 0
+AnswersAll IsOne format limit (Ok text) texts =
+    IsRead texts (λ read. IsWithinLimit format limit read text.whole)
+AnswersAll IsOne format limit (Err fault) texts =
     Refuses IsOne fault texts ⊎ IsRead texts (λ read. IsOverLimit limit read.lines fault)
 
 -- lines stand for those of some text
@@ -99,9 +121,11 @@ WritesText contents old new text (Err fault) =
 
 -- ---- the command
 
-abbrev pub MatrixAnswersAs : ℕ → Variables → List (List ℕ) → List (List ℕ) → Status → List ℕ → Type 0
-MatrixAnswersAs limit vars extras inputs status text =
-    (status ≡ Answered) × IsRead (matrix_texts vars extras inputs) (λ read. IsWithinLimit limit read text)
+abbrev pub MatrixAnswersAs : Format → ℕ → Variables → List (List ℕ) → List (List ℕ) → Status → List ℕ
+    → Type 0
+MatrixAnswersAs format limit vars extras inputs status text =
+    (status ≡ Answered)
+    × IsRead (matrix_texts vars extras inputs) (λ read. IsWithinLimit format limit read text)
 
 abbrev pub MatrixRefuses : ℕ → Variables → List (List ℕ) → List (List ℕ) → RunFault → Type 0
 MatrixRefuses limit vars extras inputs fault =
@@ -109,8 +133,8 @@ MatrixRefuses limit vars extras inputs fault =
     ⊎ IsRead (matrix_texts vars extras inputs) (λ read. IsOverLimit limit read.lines fault)
 
 -- `matrix` ends so, with what its readers tell of the requirements, the environments and the candidates
-abbrev pub RunsMatrix : {W : Type 0} → ℕ → Variables → List (List ℕ) → Option (List ℕ) → Option (List ℕ)
-    → Option (List ℕ) → (W → Option (List ℕ)) → W → W → Result Status RunFault → Type 0
-RunsMatrix limit vars extras requirements environments candidates contents old new result =
-    Runs (MatrixAnswersAs limit vars extras) (MatrixRefuses limit vars extras)
+abbrev pub RunsMatrix : {W : Type 0} → Format → ℕ → Variables → List (List ℕ) → Option (List ℕ)
+    → Option (List ℕ) → Option (List ℕ) → (W → Option (List ℕ)) → W → W → Result Status RunFault → Type 0
+RunsMatrix format limit vars extras requirements environments candidates contents old new result =
+    Runs (MatrixAnswersAs format limit vars extras) (MatrixRefuses limit vars extras)
     (requirements ∷ environments ∷ candidates ∷ []) contents old new result

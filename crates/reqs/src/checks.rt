@@ -4,10 +4,10 @@ ghost use Rattle.std.specs.Prelude.{◌≡◌, ◌≢◌, List, map, IfErr, IfOk
 ghost use Rattle.std.specs.List.{AllZip};
 ghost use Rattle.pep508_url.specs.Vars.{Variables};
 ghost use Rattle.pep508_evaluation.specs.Valuations.{valuation_of};
-ghost use Rattle.reqtable_answer.specs.Answer.{IsAnswerText};
 ghost use Rattle.reqtable_requirements.specs.Asks.{AreOfNodes, asks_of};
 ghost use Rattle.reqtable_requirements.specs.LineReading.{LineRecord};
 ghost use Rattle.reqtable_requirements.specs.Requirements.{StandsFor};
+ghost use Rattle.reqs_json.specs.Rows.{IsAnswerIn};
 ghost use Rattle.reqs_ends.specs.declared.fault.Input.TheVariants.{First, Second};
 ghost use Rattle.reqs_ends.specs.Faults.{IsPlain, IsOfTexts};
 ghost use Rattle.reqs_ends.specs.Inputs.{environment_from};
@@ -23,6 +23,7 @@ use reqs_ends::{
     Input, RunFault, Status, read_candidates, read_environment, read_extras, read_input,
     read_requirements, write_answer,
 };
+use reqs_json::Format;
 use reqtable_answer::Admission;
 use reqtable_requirements::Requirements;
 use reqtable_text::Candidates;
@@ -33,7 +34,8 @@ use std::io::{Read, Write};
 /// package that a line which applies asks for, with the extras that these lines ask for, the greatest
 /// candidate that all of them take, the first among equals, or `none`; or `direct` where one of them has
 /// a URL. A pre-release or a developmental release is a candidate only where a specifier of the package's
-/// lines that apply names one. Rows stand in the order of the names' bytes.
+/// lines that apply names one. Rows stand in the order of the names' bytes, a line for each, or as one object
+/// (`docs/JSON.md`).
 ///
 /// All inputs are read whole, in this order; then the extras are read as names, and then each
 /// input as what it is. The answer is made whole before the first write, by one call of
@@ -45,9 +47,10 @@ pub fn check<L: Read, E: Read, C: Read, W: Write>(
     candidates: &mut C,
     extras: &[&str],
     vars: &Vars,
+    format: Format,
     output: &mut W,
 ) -> Result<Status, RunFault>
-    ensures runs { RunsCheck vars.now (map (λ e. e.now) extras.now)
+    ensures runs { RunsCheck format vars.now (map (λ e. e.now) extras.now)
         (L.remaining requirements.old) (E.remaining environment.old) (C.remaining candidates.old)
         W.contents output.old output.new result }
     // A refused command has written nothing.
@@ -63,6 +66,7 @@ pub fn check<L: Read, E: Read, C: Read, W: Write>(
         &mut candidates,
         extras,
         vars,
+        format,
     )?;
     write_answer(output, text.as_str(), Status::Answered)
 }
@@ -75,8 +79,9 @@ fn check_text(
     candidates: &mut Vec<u8>,
     extras: &[&str],
     vars: &Vars,
+    format: Format,
 ) -> Result<String, RunFault>
-    ensures { AnswersText (IsOfTexts vars.now First requirements.old.items) result
+    ensures { AnswersText (IsOfTexts vars.now First requirements.old.items) format result
         (texts_of (environment_from Second 1) vars.now (map (λ e. e.now) extras.now)
         requirements.old.items environment.old.items candidates.old.items) }
 {
@@ -90,6 +95,7 @@ fn check_text(
         &extras,
         environment,
         candidates,
+        format,
     )
 }
 
@@ -101,11 +107,12 @@ fn text_behind(
     extras: &[ExtraName],
     environment: &mut Vec<u8>,
     candidates: &mut Vec<u8>,
+    format: Format,
 ) -> Result<String, RunFault>
     requires { AreOfNodes interner.now.nodes requirements.now }
     ensures { (vars : Variables) (said : List LineRecord) →
         AllZip (StandsFor vars interner.now.nodes) requirements.now said →
-        AnswersText IsPlain result (behind_lines (environment_from Second 1) extras.now said
+        AnswersText IsPlain format result (behind_lines (environment_from Second 1) extras.now said
         environment.old.items candidates.old.items) }
 {
     let environment = read_environment(alloc, Input::Second, 1, environment)?;
@@ -117,13 +124,14 @@ fn text_behind(
         &environment,
         extras,
         &candidates,
+        format,
     ) {
         Ok(text) => Ok(text),
         Err(_) => Err(RunFault::Memory),
     }
 }
 
-/// The text of what the requirements ask for in the environment with the extras.
+/// The text of what the requirements ask for in the environment with the extras, in a format.
 fn answer_text(
     alloc: Global,
     requirements: &Requirements,
@@ -131,14 +139,15 @@ fn answer_text(
     environment: &MarkerEnvironment,
     extras: &[ExtraName],
     candidates: &Candidates,
+    format: Format,
 ) -> Result<String, AllocError>
     requires { AreOfNodes interner.now.nodes requirements.now }
     ensures { IfOk result (λ text. (vars : Variables) (said : List LineRecord) →
         AllZip (StandsFor vars interner.now.nodes) requirements.now said →
-        IsAnswerText on_request (asks_of (valuation_of environment.now extras.now) said) candidates.now
+        IsAnswerIn format on_request (asks_of (valuation_of environment.now extras.now) said) candidates.now
         (string_bytes text)) }
 {
     let admission = Admission::new(|version, named| is_admitted(version, named));
     let answer = requirements.judge(alloc, interner, environment, extras, candidates, &admission)?;
-    answer.text(alloc, candidates)
+    reqs_json::answer_text(alloc, format, &answer, candidates)
 }

@@ -11,4 +11,5 @@ pub use checks::check;
 pub use matrices::matrix;
 pub use pep508_url::Vars;
 pub use reqs_ends::{Input, JsonShape, RefusedCause, RefusedWord, RunFault, Status};
+pub use reqs_json::Format;
 pub use reqs_lists::{conflicts, normal, same};

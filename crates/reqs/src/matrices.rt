@@ -1,6 +1,7 @@
 //! `matrix`: the answers for many environments, from one table of the requirements.
 
-ghost use Rattle.std.specs.Prelude.{◌≡◌, ◌≢◌, ◌++◌, ◌∷◌, [], List, map, IfErr, IfOk, OnOk};
+ghost use Rattle.std.specs.Prelude.{◌≡◌, ◌≢◌, ◌++◌, ◌∷◌, [], List, map, codes};
+ghost use Rattle.std.specs.Prelude.{IfErr, IfOk, OnOk, string_bytes};
 ghost use Rattle.std.specs.List.{AllZip, AllByRecursion};
 ghost use Rattle.pep508_url.specs.Vars.{Variables};
 ghost use Rattle.reqtable_answer.specs.Admission.{AnswersBy};
@@ -14,8 +15,9 @@ ghost use Rattle.reqs_ends.specs.declared.fault.Input.TheVariants.{First, Second
 ghost use Rattle.reqs_ends.specs.Faults.{IsPlain, IsOfTexts};
 ghost use Rattle.reqs_ends.specs.Inputs.{environments_from};
 ghost use Rattle.reqs.specs.Check.{on_request};
-ghost use Rattle.reqs.specs.Matrix.{environment_line, IsMatrixText, AreRead, AnswersAll, TablesAs};
-ghost use Rattle.reqs.specs.Matrix.{RunsMatrix, WritesText};
+ghost use Rattle.reqs_json.specs.declared.format.Format.TheVariants.{Json};
+ghost use Rattle.reqs.specs.Matrix.{environment_line, IsMatrixText, IsMatrixIn, AreRead, AnswersAll};
+ghost use Rattle.reqs.specs.Matrix.{TablesAs, RunsMatrix, WritesText};
 ghost use Rattle.reqs.specs.Texts.{behind_lines, texts_of};
 
 use crate::admitting::is_admitted;
@@ -28,6 +30,7 @@ use reqs_ends::{
     Input, RunFault, Status, read_candidates, read_environments, read_extras, read_input,
     read_requirements,
 };
+use reqs_json::{Format, environment_text};
 use reqs_pieces::Pieces;
 use reqs_rows::RowTexts;
 use reqtable_answer::Admission;
@@ -41,13 +44,14 @@ use std::io::{Read, Write};
 const WAITING_BYTES: usize = 65_536;
 
 /// Reads a list of requirements, a list of environments and a list of candidates, and writes for each
-/// environment its number, as `env 1`, on a line, and then what `check` writes for it.
+/// environment its number, as `env 1`, on a line, and then what `check` writes for it; or one object of the
+/// rows of all (`docs/JSON.md`).
 ///
 /// All inputs are read whole, in this order; then the extras are read as names, and then each input
 /// as what it is. Then one table of the requirements is made, from which all environments are answered, by
 /// `Table::build`. A package that has more cases than the limit is refused: the first by name, whatever the
 /// environments are. Before the first write all is decided, and all memory is there that writing takes: of
-/// the text each row is kept once, however many environments have it.
+/// the lines each row is kept once, however many environments have it; an object is kept whole.
 pub fn matrix<L: Read, E: Read, C: Read, W: Write>(
     alloc: Global,
     requirements: &mut L,
@@ -56,9 +60,10 @@ pub fn matrix<L: Read, E: Read, C: Read, W: Write>(
     extras: &[&str],
     vars: &Vars,
     limit: u64,
+    format: Format,
     output: &mut W,
 ) -> Result<Status, RunFault>
-    ensures runs { RunsMatrix limit vars.now (map (λ e. e.now) extras.now)
+    ensures runs { RunsMatrix format limit vars.now (map (λ e. e.now) extras.now)
         (L.remaining requirements.old) (E.remaining environments.old) (C.remaining candidates.old)
         W.contents output.old output.new result }
     // A refused command has written nothing.
@@ -75,6 +80,7 @@ pub fn matrix<L: Read, E: Read, C: Read, W: Write>(
         extras,
         vars,
         limit,
+        format,
     )?;
     write_text(alloc, &text, output)
 }
@@ -102,8 +108,9 @@ fn matrix_text(
     extras: &[&str],
     vars: &Vars,
     limit: u64,
+    format: Format,
 ) -> Result<Pieces, RunFault>
-    ensures { AnswersAll (IsOfTexts vars.now First requirements.old.items) limit result
+    ensures { AnswersAll (IsOfTexts vars.now First requirements.old.items) format limit result
         (texts_of (environments_from Second) vars.now (map (λ e. e.now) extras.now)
         requirements.old.items environments.old.items candidates.old.items) }
 {
@@ -118,6 +125,7 @@ fn matrix_text(
         environments,
         candidates,
         limit,
+        format,
     )
 }
 
@@ -130,11 +138,12 @@ fn matrix_behind(
     environments: &mut Vec<u8>,
     candidates: &mut Vec<u8>,
     limit: u64,
+    format: Format,
 ) -> Result<Pieces, RunFault>
     requires { AreRead interner.old.nodes requirements }
     ensures { (vars : Variables) (said : List LineRecord) →
         AllZip (StandsFor vars interner.old.nodes) requirements said →
-        AnswersAll IsPlain limit result (behind_lines (environments_from Second) extras.now said
+        AnswersAll IsPlain format limit result (behind_lines (environments_from Second) extras.now said
         environments.old.items candidates.old.items) }
 {
     let environments = read_environments(alloc, Input::Second, environments)?;
@@ -147,6 +156,7 @@ fn matrix_behind(
         &environments,
         extras,
         &candidates,
+        format,
     ) {
         Ok(text) => Ok(text),
         Err(_) => Err(RunFault::Memory),
@@ -176,7 +186,7 @@ fn table_of(
     }
 }
 
-/// The answers of a table for all environments with the extras, each behind its line.
+/// The answers of a table for all environments with the extras, in a format.
 fn answers_text(
     alloc: Global,
     table: &mut Table,
@@ -184,15 +194,16 @@ fn answers_text(
     environments: &[MarkerEnvironment],
     extras: &[ExtraName],
     candidates: &Candidates,
+    format: Format,
 ) -> Result<Pieces, AllocError>
     requires { AllByRecursion (HasItsCases interner.now.nodes) table.old }
     ensures { IfOk result (λ text. (said : List LineRecord) → KeepsAll interner.now.nodes table.old said →
-        IsMatrixText on_request extras.now said candidates.now 1 environments.now text.whole) }
+        IsMatrixIn format on_request extras.now said candidates.now environments.now text.whole) }
 {
     let ordered = candidates.in_order(alloc)?;
     let mut runs = table.runs(alloc, &ordered)?;
     let admission = Admission::new(|version, named| is_admitted(version, named));
-    answers_among(
+    answers_in(
         alloc,
         table,
         interner,
@@ -201,10 +212,111 @@ fn answers_text(
         &mut runs,
         &admission,
         candidates,
+        format,
     )
 }
 
 /// The same among the candidates of the table's packages.
+fn answers_in<F: Fn(&Version, bool) -> bool>(
+    alloc: Global,
+    table: &mut Table,
+    interner: &Interner,
+    environments: &[MarkerEnvironment],
+    extras: &[ExtraName],
+    runs: &mut Runs<'_, '_>,
+    admission: &Admission<F>,
+    candidates: &Candidates,
+    format: Format,
+) -> Result<Pieces, AllocError>
+    requires cases { AllByRecursion (HasItsCases interner.now.nodes) table.old }
+    requires callable { F.IsAlwaysCallable admission.now }
+    requires admits { AnswersBy (F.post admission.now) on_request }
+    requires runs { AreRunsOf table.old runs.old }
+    requires told { AreTold (F.post admission.now) table.old runs.old }
+    requires candidates { runs.old.candidates ≡ candidates.now }
+    ensures { IfOk result (λ text. (said : List LineRecord) → KeepsAll interner.now.nodes table.old said →
+        IsMatrixIn format on_request extras.now said candidates.now environments.now text.whole) }
+{
+    match format {
+        Format::Text => answers_among(
+            alloc,
+            table,
+            interner,
+            environments,
+            extras,
+            runs,
+            admission,
+            candidates,
+        ),
+        Format::Json => objects_among(
+            alloc,
+            table,
+            interner,
+            environments,
+            extras,
+            runs,
+            admission,
+            candidates,
+        ),
+    }
+}
+
+/// The object of these answers.
+fn objects_among<F: Fn(&Version, bool) -> bool>(
+    alloc: Global,
+    table: &mut Table,
+    interner: &Interner,
+    environments: &[MarkerEnvironment],
+    extras: &[ExtraName],
+    runs: &mut Runs<'_, '_>,
+    admission: &Admission<F>,
+    candidates: &Candidates,
+) -> Result<Pieces, AllocError>
+    requires cases { AllByRecursion (HasItsCases interner.now.nodes) table.old }
+    requires callable { F.IsAlwaysCallable admission.now }
+    requires admits { AnswersBy (F.post admission.now) on_request }
+    requires runs { AreRunsOf table.old runs.old }
+    requires told { AreTold (F.post admission.now) table.old runs.old }
+    requires candidates { runs.old.candidates ≡ candidates.now }
+    ensures { IfOk result (λ text. (said : List LineRecord) → KeepsAll interner.now.nodes table.old said →
+        IsMatrixIn Json on_request extras.now said candidates.now environments.now text.whole) }
+{
+    let mut text = Pieces::new(alloc);
+    open_object(alloc, &mut text)?;
+    for (place, environment) in environments.iter().enumerate() {
+        let answer = table.answer_among(alloc, interner, environment, extras, runs, admission)?;
+        let object = environment_text(alloc, place > 0, place + 1, &answer, candidates)?;
+        put(&mut text, object)?;
+    }
+    close_object(alloc, &mut text)?;
+    Ok(text)
+}
+
+/// Puts what stands before all environments behind a text.
+fn open_object(alloc: Global, text: &mut Pieces) -> Result<(), AllocError>
+    ensures { OnOk result (text.new.whole ≡ text.old.whole ++ codes "{\"environments\":[") }
+{
+    let piece = String::from_str(alloc, "{\"environments\":[")?;
+    put(text, piece)
+}
+
+/// Puts what stands behind all environments behind a text.
+fn close_object(alloc: Global, text: &mut Pieces) -> Result<(), AllocError>
+    ensures { OnOk result (text.new.whole ≡ text.old.whole ++ codes "]}\n") }
+{
+    let piece = String::from_str(alloc, "]}\n")?;
+    put(text, piece)
+}
+
+/// Puts a piece behind a text.
+fn put(text: &mut Pieces, piece: String) -> Result<(), AllocError>
+    ensures { OnOk result (text.new.whole ≡ text.old.whole ++ string_bytes piece) }
+{
+    let place = text.add(piece)?;
+    text.append(place)
+}
+
+/// The lines of these answers, behind their environments' lines.
 fn answers_among<F: Fn(&Version, bool) -> bool>(
     alloc: Global,
     table: &mut Table,

@@ -3,6 +3,8 @@ use Rattle.std.specs.Prelude.{◌≡◌, ◌≢◌, ◌<◌, ◌^◌, ℕ, List,
 use Rattle.std.specs.Str.Parse.{IsNumeral, digits_value, without_leading_plus}
 use Rattle.clap.specs.Words.{first_value, one_text}
 use Rattle.clap.specs.declared.parser.matches.Found.{Found}
+use Rattle.reqs_json.specs.declared.format.Format.{Format}
+use Rattle.reqs_json.specs.declared.format.Format.TheVariants.{Text, Json}
 use Rattle.reqs_cli.specs.declared.asked.Asked.{Asked}
 use Rattle.reqs_cli.specs.declared.asked.Asked.TheVariants.{Check, Matrix, Same, Conflicts, Normal}
 
@@ -70,3 +72,12 @@ abbrev pub NamesLimited : List ℕ → ℕ → Option Asked → Type 0
 NamesLimited name limit (Some asked) = (name ≡ name_of asked) × (limit_in asked ≡ Some limit)
 NamesLimited name limit None =
     (name ≢ codes "matrix") × (name ≢ codes "same") × (name ≢ codes "conflicts")
+
+-- a word names a format: `json` the one, and any other the other
+abbrev pub NamesFormat : List ℕ → Format → Type 0
+NamesFormat word Json = word ≡ codes "json"
+NamesFormat word Text = word ≢ codes "json"
+
+-- the format is the one that the words tell
+abbrev pub IsToldFormat : Found → Format → Type 0
+IsToldFormat found format = NamesFormat (text_at (first_value found (codes "format"))) format

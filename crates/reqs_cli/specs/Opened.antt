@@ -2,6 +2,7 @@
 use Rattle.std.specs.Prelude.{◌≡◌, ◌⊎◌, ℕ, List, [], ◌∷◌, map, Option, Result, Ok, Err}
 use Rattle.std.specs.List.{AllZip}
 use Rattle.pep508_url.specs.Vars.{Variables}
+use Rattle.reqs_json.specs.declared.format.Format.{Format}
 use Rattle.reqs_ends.specs.declared.fault.Input.{Input}
 use Rattle.reqs_ends.specs.declared.fault.Input.TheVariants.{First, Second, Third}
 use Rattle.reqs_ends.specs.declared.fault.RunFault.{RunFault}
@@ -20,13 +21,13 @@ use Rattle.reqs_cli.specs.declared.opened.Opened.TheVariants as opened
 
 -- ---- a command by the bytes of its inputs
 
--- what a command may answer
-abbrev pub answering : Asked → Variables → List (List ℕ) → Answering
-answering Check vars extras = ChecksAs vars extras
-answering (Matrix limit) vars extras = MatrixAnswersAs limit vars extras
-answering (Same limit) vars extras = SameAnswersAs limit vars
-answering (Conflicts limit) vars extras = ConflictsAnswerAs limit vars
-answering Normal vars extras = NormalAnswersAs vars
+-- what a command may answer in a format
+abbrev pub answering : Asked → Format → Variables → List (List ℕ) → Answering
+answering Check format vars extras = ChecksAs format vars extras
+answering (Matrix limit) format vars extras = MatrixAnswersAs format limit vars extras
+answering (Same limit) format vars extras = SameAnswersAs format limit vars
+answering (Conflicts limit) format vars extras = ConflictsAnswerAs format limit vars
+answering Normal format vars extras = NormalAnswersAs format vars
 
 -- for which faults it may refuse them
 abbrev pub refusing : Asked → Variables → List (List ℕ) → Refusing
@@ -37,10 +38,10 @@ refusing (Conflicts limit) vars extras = ConflictsRefuse limit vars
 refusing Normal vars extras = NormalRefuses vars
 
 -- the command that is asked for ends so, with what its readers tell of its inputs
-abbrev pub RunsAsked : {W : Type 0} → Asked → Variables → List (List ℕ) → List (Option (List ℕ))
+abbrev pub RunsAsked : {W : Type 0} → Asked → Format → Variables → List (List ℕ) → List (Option (List ℕ))
     → (W → Option (List ℕ)) → W → W → Result Status RunFault → Type 0
-RunsAsked asked vars extras told contents old new result =
-    Runs (answering asked vars extras) (refusing asked vars extras) told contents old new result
+RunsAsked asked format vars extras told contents old new result =
+    Runs (answering asked format vars extras) (refusing asked vars extras) told contents old new result
 
 -- ---- its inputs as they are opened
 
@@ -82,12 +83,13 @@ Opens asked gives (Err fault) = (input : Input) × gives input (Err fault)
 -- ---- and the command on them
 
 -- the inputs as they were opened, and the command ends so with them
-pub record RunsAll {S W : Type 0} (asked : Asked) (gives : Input → Result S RunFault → Type 0)
-    (remaining : S → Option (List ℕ)) (vars : Variables) (extras : List (List ℕ))
-    (contents : W → Option (List ℕ)) (old new : W) (result : Result Status RunFault) : Type 0 where
+pub record RunsAll {S W : Type 0} (asked : Asked) (format : Format)
+    (gives : Input → Result S RunFault → Type 0) (remaining : S → Option (List ℕ)) (vars : Variables)
+    (extras : List (List ℕ)) (contents : W → Option (List ℕ)) (old new : W)
+    (result : Result Status RunFault) : Type 0 where
   pub readers : List S
   pub opened : AreGiven gives (inputs_of asked) readers
-  pub runs : RunsAsked asked vars extras (map remaining readers) contents old new result
+  pub runs : RunsAsked asked format vars extras (map remaining readers) contents old new result
 
 -- an input wasn't opened, or there was no memory for the variables, and nothing was written
 abbrev pub IsRefusedBefore : {S W : Type 0} → (Input → Result S RunFault → Type 0) → W → W
@@ -97,8 +99,9 @@ IsRefusedBefore gives old new (Err fault) =
     (((input : Input) × gives input (Err fault)) ⊎ (fault ≡ Memory)) × (new ≡ old)
 
 -- how the command ends with the inputs that are opened
-abbrev pub RunsOpened : {S W : Type 0} → Asked → (Input → Result S RunFault → Type 0)
+abbrev pub RunsOpened : {S W : Type 0} → Asked → Format → (Input → Result S RunFault → Type 0)
     → (S → Option (List ℕ)) → Variables → List (List ℕ) → (W → Option (List ℕ)) → W → W
     → Result Status RunFault → Type 0
-RunsOpened asked gives remaining vars extras contents old new result =
-    RunsAll asked gives remaining vars extras contents old new result ⊎ IsRefusedBefore gives old new result
+RunsOpened asked format gives remaining vars extras contents old new result =
+    RunsAll asked format gives remaining vars extras contents old new result
+    ⊎ IsRefusedBefore gives old new result

@@ -3,9 +3,14 @@
 ghost use Rattle.std.specs.Prelude.{◌≡◌, map, codes, IfOk};
 ghost use Rattle.clap.specs.Words.{first_value, found_of, one_text};
 ghost use Rattle.reqs_cli.specs.Asked.{text_at, paths_in, LimitIs, AsksFor, NamesLimited};
+ghost use Rattle.reqs_cli.specs.Asked.{NamesFormat, IsToldFormat};
 
 use clap::{Arg, ArgMatches, Command, Error};
+use reqs::Format;
 use std::alloc::{AllocError, Global};
+
+/// The words for formats.
+static FORMATS: [&str; 2] = ["text", "json"];
 
 /// What `--version` says beside the program's name.
 const VERSION: &str = "0.1.0";
@@ -75,11 +80,28 @@ impl Asked {
     }
 }
 
-/// The path that stands for an argument of this name.
+/// The text that stands for an argument of this name.
 fn path_at<'a>(given: &ArgMatches<'a>, name: &str) -> &'a str
     ensures { result.now ≡ text_at (first_value (found_of given.now) name.now) }
 {
     given.get_str(name).unwrap_or("")
+}
+
+/// The format that the words name, or the usual one.
+pub fn format_of(given: &ArgMatches<'_>) -> Format
+    ensures { IsToldFormat (found_of given.now) result }
+{
+    format_named(path_at(given, "format"))
+}
+
+/// The format of a word.
+fn format_named(word: &str) -> Format
+    ensures { NamesFormat word.now result }
+{
+    match word {
+        "json" => Format::Json,
+        _ => Format::Text,
+    }
 }
 
 /// The limit that the words name, or the usual one.
@@ -107,9 +129,9 @@ fn check_command<'a>(alloc: Global) -> Result<Command<'a>, AllocError> {
     let environment = Arg::new(alloc, "ENV")
         .help("The environment, a JSON object in a file")
         .required(true);
-    let check = Command::new(alloc, "check").about(
-        "Prints the greatest candidate of each package that the lines ask for",
-    );
+    let check = Command::new(alloc, "check")
+        .about("Prints the greatest candidate of each package that the lines ask for")
+        .arg(format_argument(alloc))?;
     with_inputs(alloc, check, environment)
 }
 
@@ -119,7 +141,8 @@ fn matrix_command<'a>(alloc: Global) -> Result<Command<'a>, AllocError> {
         .required(true);
     let matrix = Command::new(alloc, "matrix")
         .about("Prints for each environment of a list what check prints for it")
-        .arg(limit_argument(alloc))?;
+        .arg(limit_argument(alloc))?
+        .arg(format_argument(alloc))?;
     with_inputs(alloc, matrix, environments)
 }
 
@@ -137,6 +160,7 @@ fn same_command<'a>(alloc: Global) -> Result<Command<'a>, AllocError> {
             "Prints yes where two lists require the same everywhere, or else where they first differ",
         )
         .arg(limit_argument(alloc))?
+        .arg(format_argument(alloc))?
         .arg(left)?
         .arg(right)
 }
@@ -147,12 +171,14 @@ fn conflicts_command<'a>(alloc: Global) -> Result<Command<'a>, AllocError> {
             "Prints each package with its lines that contradict each other, and pre where one names a pre-release",
         )
         .arg(limit_argument(alloc))?
+        .arg(format_argument(alloc))?
         .arg(list_argument(alloc))
 }
 
 fn normal_command<'a>(alloc: Global) -> Result<Command<'a>, AllocError> {
     Command::new(alloc, "normal")
         .about("Prints the lines in one normal form, without those that never apply")
+        .arg(format_argument(alloc))?
         .arg(list_argument(alloc))
 }
 
@@ -163,6 +189,15 @@ fn limit_argument<'a>(alloc: Global) -> Arg<'a> {
         .help("The most cases that the lines of a package may have")
         .value_parser(clap::value_parser!(u64).range(0..=1000000))
         .default_value("4096")
+}
+
+fn format_argument<'a>(alloc: Global) -> Arg<'a> {
+    Arg::new(alloc, "format")
+        .long("format")
+        .value_name("FORMAT")
+        .help("How answers and faults are told: as text, or as one JSON object (json)")
+        .value_parser(FORMATS.as_slice())
+        .default_value("text")
 }
 
 /// The argument of a command on one list.

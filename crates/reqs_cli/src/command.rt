@@ -2,18 +2,20 @@
 
 ghost use Rattle.std.specs.Prelude.{◌≡◌, map, string_bytes, Result, IfErr};
 ghost use Rattle.std.specs.Process.{exit_status};
+ghost use Rattle.reqs_ends.specs.Faults.{status_of};
 ghost use Rattle.reqs_cli.specs.Exits.{status_after};
 ghost use Rattle.reqs_cli.specs.Opened.{RunsOpened};
 ghost use Rattle.reqs_cli.specs.Variables.{variables_in};
 
-use crate::asked::{Asked, matches};
+use crate::asked::{Asked, format_of, matches};
 use crate::opened::{open_all, run_read};
 use crate::source::Source;
 use crate::variables::{entries, variables};
 use crate::words::{WordsFault, words};
 use clap::error::ErrorKind;
 use clap::{ArgMatches, Error};
-use reqs::{Input, RunFault, Status};
+use reqs::{Format, Input, RunFault, Status};
+use reqs_json::{fault_line, memory_line, usage_line};
 use std::alloc::Global;
 use std::fs::File;
 use std::io::{self, Read, Write};
@@ -48,7 +50,7 @@ pub fn run<R: Runtime + AllocGlobal>(rt: &R) -> ExitCode {
 /// Runs the command of this name.
 fn run_named<R: Runtime + AllocGlobal>(rt: &R, name: &str, given: &ArgMatches<'_>) -> ExitCode {
     match Asked::of_words(name, given) {
-        Some(asked) => run_asked(rt, asked, given),
+        Some(asked) => run_asked(rt, asked, format_of(given), given),
         None => ExitCode::from(USAGE_STATUS),
     }
 }
@@ -77,23 +79,25 @@ fn refuse_words<R: Runtime>(rt: &R, error: &Error) -> ExitCode {
 }
 
 /// Runs a command on the files that were named.
-fn run_asked<R: Runtime + AllocGlobal>(rt: &R, asked: Asked, given: &ArgMatches<'_>) -> ExitCode {
+fn run_asked<R: Runtime + AllocGlobal>(
+    rt: &R,
+    asked: Asked,
+    format: Format,
+    given: &ArgMatches<'_>,
+) -> ExitCode {
     let Ok(paths) = asked.paths(rt.alloc(), given) else {
-        return end(rt, MEMORY_STATUS, "out of memory");
+        return end_without_memory(rt, format, MEMORY_STATUS);
     };
     if paths.iter().filter(|path| **path == STANDARD_INPUT).count() > 1 {
-        return end(
-            rt,
-            USAGE_STATUS,
-            "standard input (-) can be one input alone",
-        );
+        return refuse_inputs(rt, format);
     }
     let Ok(entries) = entries(rt, rt.alloc()) else {
-        return end(rt, MEMORY_STATUS, "out of memory");
+        return end_without_memory(rt, format, MEMORY_STATUS);
     };
     end_asked(
         rt,
         asked,
+        format,
         &paths,
         given.get_strs("EXTRA").unwrap_or(&[]),
         &entries,
@@ -106,6 +110,7 @@ fn run_asked<R: Runtime + AllocGlobal>(rt: &R, asked: Asked, given: &ArgMatches<
 fn end_asked<R, S, F, W>(
     rt: &R,
     asked: Asked,
+    format: Format,
     paths: &[&str],
     extras: &[&str],
     entries: &[String],
@@ -118,12 +123,12 @@ where
     F: Fn(Input) -> Result<S, RunFault>,
     W: Write,
     requires { F.IsAlwaysCallable opener }
-    ensures { (ended : Result Status RunFault) × RunsOpened asked (F.post opener) S.remaining
+    ensures { (ended : Result Status RunFault) × RunsOpened asked format (F.post opener) S.remaining
         (variables_in (map string_bytes entries.now)) (map (λ e. e.now) extras.now)
         W.contents output.old output.new ended × (exit_status result ≡ status_after ended) }
 {
-    let ended = run_opened(rt.alloc(), asked, extras, entries, opener, output);
-    exit_after(rt, &ended, paths)
+    let ended = run_opened(rt.alloc(), asked, format, extras, entries, opener, output);
+    exit_after(rt, format, &ended, paths)
 }
 
 /// Opens all inputs, in the order of the command line, and runs a command on them with the variables that
@@ -131,6 +136,7 @@ where
 fn run_opened<S, F, W>(
     alloc: Global,
     asked: Asked,
+    format: Format,
     extras: &[&str],
     entries: &[String],
     opener: F,
@@ -141,17 +147,19 @@ where
     F: Fn(Input) -> Result<S, RunFault>,
     W: Write,
     requires { F.IsAlwaysCallable opener }
-    ensures { RunsOpened asked (F.post opener) S.remaining (variables_in (map string_bytes entries.now))
-        (map (λ e. e.now) extras.now) W.contents output.old output.new result }
+    ensures { RunsOpened asked format (F.post opener) S.remaining
+        (variables_in (map string_bytes entries.now)) (map (λ e. e.now) extras.now)
+        W.contents output.old output.new result }
 {
     let mut opened = open_all(asked, opener)?;
     let vars = variables(alloc, entries)?;
-    run_read(alloc, &mut opened, extras, &vars, output)
+    run_read(alloc, &mut opened, extras, &vars, format, output)
 }
 
 /// Ends the program as a command ended, and says why where it was refused.
 fn exit_after<R: Runtime + AllocGlobal>(
     rt: &R,
+    format: Format,
     ended: &Result<Status, RunFault>,
     paths: &[&str],
 ) -> ExitCode
@@ -159,10 +167,56 @@ fn exit_after<R: Runtime + AllocGlobal>(
 {
     match ended {
         Ok(status) => ExitCode::from(status.code()),
-        Err(fault) => match fault.text(rt.alloc(), paths) {
-            Ok(text) => end(rt, fault.status(), text.as_str()),
-            Err(_) => end(rt, fault.status(), "out of memory"),
+        Err(fault) => match format {
+            Format::Text => end_refused(rt, fault, paths),
+            Format::Json => end_refused_as_object(rt, fault, paths),
         },
+    }
+}
+
+/// Ends the program by a fault, and says why in a text.
+fn end_refused<R: Runtime + AllocGlobal>(rt: &R, fault: &RunFault, paths: &[&str]) -> ExitCode
+    ensures { exit_status result ≡ status_of fault.now }
+{
+    match fault.text(rt.alloc(), paths) {
+        Ok(text) => end(rt, fault.status(), text.as_str()),
+        Err(_) => end(rt, fault.status(), "out of memory"),
+    }
+}
+
+/// Ends the program by a fault, and says why in an object.
+fn end_refused_as_object<R: Runtime + AllocGlobal>(
+    rt: &R,
+    fault: &RunFault,
+    paths: &[&str],
+) -> ExitCode
+    ensures { exit_status result ≡ status_of fault.now }
+{
+    match fault_line(rt.alloc(), fault, paths) {
+        Ok(line) => end_with(rt, fault.status(), line.as_str()),
+        Err(_) => end_with(rt, fault.status(), memory_line()),
+    }
+}
+
+/// Ends the program where standard input is named as more than one input.
+fn refuse_inputs<R: Runtime + AllocGlobal>(rt: &R, format: Format) -> ExitCode {
+    let message = "standard input (-) can be one input alone";
+    match format {
+        Format::Text => end(rt, USAGE_STATUS, message),
+        Format::Json => match usage_line(rt.alloc(), message) {
+            Ok(line) => end_with(rt, USAGE_STATUS, line.as_str()),
+            Err(_) => end_with(rt, USAGE_STATUS, memory_line()),
+        },
+    }
+}
+
+/// Ends the program where there is no memory, with this status.
+fn end_without_memory<R: Eprint>(rt: &R, format: Format, status: u8) -> ExitCode
+    ensures { exit_status result ≡ status }
+{
+    match format {
+        Format::Text => end(rt, status, "out of memory"),
+        Format::Json => end_with(rt, status, memory_line()),
     }
 }
 
@@ -189,5 +243,14 @@ fn end<R: Eprint>(rt: &R, status: u8, text: &str) -> ExitCode
 {
     // Where not even this can be said, the status still tells.
     let _ = eprintln!(rt; "reqs: {text}");
+    ExitCode::from(status)
+}
+
+/// Says why the program ends by a line, and ends it with this status.
+fn end_with<R: Eprint>(rt: &R, status: u8, line: &str) -> ExitCode
+    ensures { exit_status result ≡ status }
+{
+    // Where not even this can be said, the status still tells.
+    let _ = eprint!(rt; "{line}");
     ExitCode::from(status)
 }

@@ -4,7 +4,7 @@ ghost use Rattle.std.specs.Prelude.{◌≡◌, map};
 ghost use Rattle.reqs_cli.specs.Opened.{asked_of, readers_of, Opens, RunsAsked};
 
 use crate::asked::Asked;
-use reqs::{Input, RunFault, Status, Vars, check, conflicts, matrix, normal, same};
+use reqs::{Format, Input, RunFault, Status, Vars, check, conflicts, matrix, normal, same};
 use std::alloc::Global;
 use std::io::{Read, Write};
 
@@ -72,15 +72,16 @@ where
     }
 }
 
-/// Runs a command on its inputs.
+/// Runs a command on its inputs, in a format.
 pub fn run_read<S: Read + Drop, W: Write>(
     alloc: Global,
     opened: &mut Opened<S>,
     extras: &[&str],
     vars: &Vars,
+    format: Format,
     output: &mut W,
 ) -> Result<Status, RunFault>
-    ensures { RunsAsked (asked_of opened.old) vars.now (map (λ e. e.now) extras.now)
+    ensures { RunsAsked (asked_of opened.old) format vars.now (map (λ e. e.now) extras.now)
         (map S.remaining (readers_of opened.old)) W.contents output.old output.new result }
 {
     match opened {
@@ -95,6 +96,7 @@ pub fn run_read<S: Read + Drop, W: Write>(
             candidates,
             extras,
             vars,
+            format,
             output,
         ),
         Opened::Matrix {
@@ -110,13 +112,16 @@ pub fn run_read<S: Read + Drop, W: Write>(
             extras,
             vars,
             *limit,
+            format,
             output,
         ),
-        Opened::Same { left, right, limit } => same(alloc, left, right, vars, *limit, output),
+        Opened::Same { left, right, limit } => same(
+            alloc, left, right, vars, *limit, format, output,
+        ),
         Opened::Conflicts {
             requirements,
             limit,
-        } => conflicts(alloc, requirements, vars, *limit, output),
-        Opened::Normal { requirements } => normal(alloc, requirements, vars, output),
+        } => conflicts(alloc, requirements, vars, *limit, format, output),
+        Opened::Normal { requirements } => normal(alloc, requirements, vars, format, output),
     }
 }

@@ -1,4 +1,5 @@
 pub mod Given
 pub mod Numbers
+pub mod Plain
 pub mod Told
 pub mod Trees

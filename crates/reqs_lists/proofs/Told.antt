@@ -10,6 +10,7 @@ use Rattle.reqtable_compare.specs.declared.sides.LineCause.TheVariants as cause
 use Rattle.reqtable_compare.specs.declared.sides.SameError.{SameError}
 use Rattle.reqtable_compare.specs.declared.sides.SameError.TheVariants as errors
 use Rattle.reqs_io.specs.Front.{AreAsTold}
+use Rattle.reqs_json.specs.declared.format.Format.{Format}
 use Rattle.reqs_ends.specs.declared.fault.Input.{Input}
 use Rattle.reqs_ends.specs.declared.fault.RunFault.{RunFault}
 use Rattle.reqs_ends.specs.Ends.{AreWithin, of_input, Answering, Runs}
@@ -56,7 +57,7 @@ module _ (vars : Variables) (inputs : List (List ℕ)) where
 -- a command whose inputs are read, and refused
 module _ {W : Type 0} (contents : W → Option (List ℕ)) (old new : W) (told : List (Option (List ℕ)))
     (inputs : List (List ℕ)) (are_told : AllZip AreAsTold told inputs) (within : AreWithin inputs)
-    (vars : Variables) (fault : RunFault) where
+    (vars : Variables) (fault : RunFault) (format : Format) where
   refused : (Answers : Answering) (Refuses : List (List ℕ) → RunFault → Type 0)
       → IsOfLists vars inputs fault → Refuses inputs fault
       → Runs Answers Refuses told contents old new (Err fault)
@@ -65,22 +66,22 @@ module _ {W : Type 0} (contents : W → Option (List ℕ)) (old new : W) (told :
       (λ input error. IsErrorIn vars (text_lines (of_input inputs input)) error) fault h r
 
   pub normal_refused : NormalRefuses vars inputs fault
-      → Runs (NormalAnswersAs vars) (NormalRefuses vars) told contents old new (Err fault)
+      → Runs (NormalAnswersAs format vars) (NormalRefuses vars) told contents old new (Err fault)
   normal_refused h =
-      refused (NormalAnswersAs vars) (NormalRefuses vars)
+      refused (NormalAnswersAs format vars) (NormalRefuses vars)
       (may_be_said (IsOfLists vars inputs) HasNoNormal (one_list vars inputs) fault
       (of_no_normal vars inputs fault) h) h
 
   pub conflicts_refused : (limit : ℕ) → ConflictsRefuse limit vars inputs fault
-      → Runs (ConflictsAnswerAs limit vars) (ConflictsRefuse limit vars) told contents old new (Err fault)
+      → Runs (ConflictsAnswerAs format limit vars) (ConflictsRefuse limit vars) told contents old new (Err fault)
   conflicts_refused limit h =
-      refused (ConflictsAnswerAs limit vars) (ConflictsRefuse limit vars)
+      refused (ConflictsAnswerAs format limit vars) (ConflictsRefuse limit vars)
       (may_be_said (IsOfLists vars inputs) (HasTooManyCases limit) (one_list vars inputs) fault
       (of_too_many vars inputs fault limit) h) h
 
   pub same_refused : (limit : ℕ) → SameRefuses limit vars inputs fault
-      → Runs (SameAnswersAs limit vars) (SameRefuses limit vars) told contents old new (Err fault)
+      → Runs (SameAnswersAs format limit vars) (SameRefuses limit vars) told contents old new (Err fault)
   same_refused limit h =
-      refused (SameAnswersAs limit vars) (SameRefuses limit vars)
+      refused (SameAnswersAs format limit vars) (SameRefuses limit vars)
       (may_be_said (IsOfLists vars inputs) (CantBeCompared limit) (two_lists vars inputs) fault
       (of_not_compared vars inputs fault limit) h) h

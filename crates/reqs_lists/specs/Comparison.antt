@@ -1,5 +1,7 @@
 -- What `same` does, from the bytes of two lists to those of its answer.
-use Rattle.std.specs.Prelude.{◌≡◌, ◌⊎◌, ℕ, List, [], ◌∷◌, ◌++◌, codes, unwrap_or, Option, Result, Err}
+use Rattle.std.specs.Prelude.{◌≡◌, ◌⊎◌, ℕ, true, false, List, [], ◌∷◌, ◌++◌, codes, unwrap_or, Option, Result}
+use Rattle.std.specs.Prelude.{Err}
+use Rattle.serde_json.specs.Data.{Data, boolean, string, object, no_members, member}
 use Rattle.pep508_url.specs.Vars.{Variables}
 use Rattle.pep508_diagram.specs.Diagram.{Diagram}
 use Rattle.pep508_diagram.specs.Question.{Question, Valuation, truth, IsCanonical}
@@ -16,6 +18,9 @@ use Rattle.reqtable_compare.specs.declared.sides.SameError.{SameError}
 use Rattle.reqtable_compare.specs.declared.sides.SameError.TheVariants as errors
 use Rattle.reqtable_compare.specs.declared.sides.Side.{Side}
 use Rattle.reqtable_compare.specs.declared.sides.Side.TheVariants.{Left, Right}
+use Rattle.reqs_json.specs.declared.format.Format.{Format}
+use Rattle.reqs_json.specs.declared.format.Format.TheVariants.{Text, Json}
+use Rattle.reqs_json.specs.Lines.{value_or_null, line_of}
 use Rattle.reqs_ends.specs.declared.fault.Input.{Input}
 use Rattle.reqs_ends.specs.declared.fault.Input.TheVariants.{First, Second}
 use Rattle.reqs_ends.specs.declared.fault.RefusedCause.TheVariants as refused
@@ -40,6 +45,25 @@ abbrev pub difference_text : List ℕ → Diagram Question → List ℕ
 difference_text name diagram =
     codes "no\n" ++ (name ++ (codes "\n" ++ (place_text diagram ++ codes "\n")))
 
+-- the same as objects; null is the marker of what is everywhere
+abbrev pub same_value : Data
+same_value = object (member (codes "same") (boolean true) no_members)
+
+abbrev pub difference_value : List ℕ → Diagram Question → Data
+difference_value name diagram = object (
+    member (codes "marker") (value_or_null string (marker_text diagram)) (
+    member (codes "package") (string name) (
+    member (codes "same") (boolean false) no_members)))
+
+-- and in a format
+abbrev pub same_in : Format → List ℕ
+same_in Text = codes "yes\n"
+same_in Json = line_of same_value
+
+abbrev pub difference_in : Format → List ℕ → Diagram Question → List ℕ
+difference_in Text name diagram = difference_text name diagram
+difference_in Json name diagram = line_of (difference_value name diagram)
+
 -- ---- what lists are answered with
 
 -- the first package that differs, and the one diagram that asks nothing in vain, has each version in its
@@ -53,12 +77,12 @@ pub record IsToldDifference (lists : Lists) (name : List ℕ) (diagram : Diagram
   pub means : (v : Valuation) → truth diagram v ≡ holds nodes tree v
 
 -- nothing is in the way of an answer, and both require the same, or differ first so
-abbrev pub IsSameAnswer : ℕ → Lists → Status → List ℕ → Type 0
-IsSameAnswer limit lists ended text =
+abbrev pub IsSameAnswer : Format → ℕ → Lists → Status → List ℕ → Type 0
+IsSameAnswer format limit lists ended text =
     MayCompare limit lists.0 lists.1
-    × (((ended ≡ status.Answered) × (text ≡ codes "yes\n") × RequireTheSame lists.0 lists.1)
+    × (((ended ≡ status.Answered) × (text ≡ same_in format) × RequireTheSame lists.0 lists.1)
     ⊎ ((ended ≡ status.Different) × ((name : List ℕ) × (diagram : Diagram Question)
-    × IsToldDifference lists name diagram × (text ≡ difference_text name diagram))))
+    × IsToldDifference lists name diagram × (text ≡ difference_in format name diagram))))
 
 -- ---- why they are refused
 
@@ -85,16 +109,17 @@ CantBeCompared limit lists fault =
 
 -- ---- the command
 
-abbrev pub SameAnswersAs : ℕ → Variables → List (List ℕ) → Status → List ℕ → Type 0
-SameAnswersAs limit vars inputs ended text =
-    IsRead (two_lists vars inputs) (λ lists. IsSameAnswer limit lists ended text)
+abbrev pub SameAnswersAs : Format → ℕ → Variables → List (List ℕ) → Status → List ℕ → Type 0
+SameAnswersAs format limit vars inputs ended text =
+    IsRead (two_lists vars inputs) (λ lists. IsSameAnswer format limit lists ended text)
 
 abbrev pub SameRefuses : ℕ → Variables → List (List ℕ) → RunFault → Type 0
 SameRefuses limit vars inputs fault =
     RefusesLists (IsOfLists vars inputs) (CantBeCompared limit) (two_lists vars inputs) fault
 
 -- `same` ends so, with what its readers tell of the left and the right list
-abbrev pub RunsSame : {W : Type 0} → ℕ → Variables → Option (List ℕ) → Option (List ℕ)
+abbrev pub RunsSame : {W : Type 0} → Format → ℕ → Variables → Option (List ℕ) → Option (List ℕ)
     → (W → Option (List ℕ)) → W → W → Result Status RunFault → Type 0
-RunsSame limit vars left right contents old new result =
-    Runs (SameAnswersAs limit vars) (SameRefuses limit vars) (left ∷ right ∷ []) contents old new result
+RunsSame format limit vars left right contents old new result =
+    Runs (SameAnswersAs format limit vars) (SameRefuses limit vars)
+    (left ∷ right ∷ []) contents old new result

@@ -1,10 +1,14 @@
 -- What `normal` does, from the bytes of a list to those of its normal text.
-use Rattle.std.specs.Prelude.{◌≡◌, ℕ, List, [], ◌∷◌, Option, Result}
+use Rattle.std.specs.Prelude.{◌≡◌, ℕ, List, [], ◌∷◌, codes, Option, Result}
+use Rattle.serde_json.specs.Data.{Data, object, no_members, member}
 use Rattle.pep508_url.specs.Vars.{Variables}
 use Rattle.reqtable_requirements.specs.LineReading.{LineRecord}
 use Rattle.reqtable_normal.specs.Normalized.{IsNormalText, IsFirstFault}
 use Rattle.reqtable_normal.specs.declared.error.NormalCause.{NormalCause}
 use Rattle.reqtable_normal.specs.declared.error.NormalCause.TheVariants as cause
+use Rattle.reqs_json.specs.declared.format.Format.{Format}
+use Rattle.reqs_json.specs.declared.format.Format.TheVariants.{Text, Json}
+use Rattle.reqs_json.specs.Lines.{lines_value, line_of}
 use Rattle.reqs_ends.specs.declared.fault.Input.TheVariants.{First}
 use Rattle.reqs_ends.specs.declared.fault.RefusedCause.{RefusedCause}
 use Rattle.reqs_ends.specs.declared.fault.RefusedCause.TheVariants as refused
@@ -22,9 +26,20 @@ refused_for cause.SingleQuote = refused.SingleQuote
 refused_for cause.DeprecatedKey = refused.DeprecatedKey
 refused_for cause.Bound = refused.Bound
 
--- the answer on lines is their normal text
-abbrev pub IsNormalAnswer : List LineRecord → Status → List ℕ → Type 0
-IsNormalAnswer lines ended text = (ended ≡ status.Answered) × IsNormalText lines text
+-- a normal text as an object, which has its lines
+abbrev pub normal_value : List ℕ → Data
+normal_value text = object (member (codes "requirements") (lines_value text) no_members)
+
+-- and in a format
+abbrev pub normal_in : Format → List ℕ → List ℕ
+normal_in Text text = text
+normal_in Json text = line_of (normal_value text)
+
+-- the answer on lines is their normal text in a format
+abbrev pub IsNormalAnswer : Format → List LineRecord → Status → List ℕ → Type 0
+IsNormalAnswer format lines ended text =
+    (ended ≡ status.Answered)
+    × ((normal : List ℕ) × IsNormalText lines normal × (text ≡ normal_in format normal))
 
 -- the fault names the first line that has none, and why
 abbrev pub HasNoNormal : List LineRecord → RunFault → Type 0
@@ -32,15 +47,15 @@ HasNoNormal lines fault =
     (number : ℕ) × (why : NormalCause) × (fault ≡ run.Refused First number (refused_for why))
     × IsFirstFault lines number why
 
-abbrev pub NormalAnswersAs : Variables → List (List ℕ) → Status → List ℕ → Type 0
-NormalAnswersAs vars inputs ended text =
-    IsRead (one_list vars inputs) (λ lines. IsNormalAnswer lines ended text)
+abbrev pub NormalAnswersAs : Format → Variables → List (List ℕ) → Status → List ℕ → Type 0
+NormalAnswersAs format vars inputs ended text =
+    IsRead (one_list vars inputs) (λ lines. IsNormalAnswer format lines ended text)
 
 abbrev pub NormalRefuses : Variables → List (List ℕ) → RunFault → Type 0
 NormalRefuses vars inputs = RefusesLists (IsOfLists vars inputs) HasNoNormal (one_list vars inputs)
 
 -- `normal` ends so, with what its reader tells of the requirements
-abbrev pub RunsNormal : {W : Type 0} → Variables → Option (List ℕ) → (W → Option (List ℕ)) → W → W
+abbrev pub RunsNormal : {W : Type 0} → Format → Variables → Option (List ℕ) → (W → Option (List ℕ)) → W → W
     → Result Status RunFault → Type 0
-RunsNormal vars requirements contents old new result =
-    Runs (NormalAnswersAs vars) (NormalRefuses vars) (requirements ∷ []) contents old new result
+RunsNormal format vars requirements contents old new result =
+    Runs (NormalAnswersAs format vars) (NormalRefuses vars) (requirements ∷ []) contents old new result

@@ -9,7 +9,12 @@ ghost use Rattle.pep508_tree.specs.Meaning.{IsTree, diagram_of};
 ghost use Rattle.reqtable_requirements.specs.LineReading.{LineRecord};
 ghost use Rattle.reqtable_requirements.specs.Requirements.{StandsFor};
 ghost use Rattle.reqs_lists.specs.Lists.{IsOfLists, AreBothRead, AnswersLists, Gives, two_lists};
+ghost use Rattle.serde_json.specs.View.{view};
+ghost use Rattle.serde_json.specs.Data.{string};
+ghost use Rattle.pep508_marker_text.specs.MarkerText.{marker_text};
+ghost use Rattle.reqs_json.specs.Lines.{line_of, value_or_null};
 ghost use Rattle.reqs_lists.specs.Comparison.{difference_text, IsSameAnswer, CantBeCompared};
+ghost use Rattle.reqs_lists.specs.Comparison.{same_value, difference_value, same_in, difference_in};
 ghost use Rattle.reqs_lists.specs.Comparison.{input_of, line_fault, fault_of, RunsSame};
 
 use crate::answer::Answer;
@@ -20,8 +25,10 @@ use pep508_url::Vars;
 use reqs_ends::{
     Input, RefusedCause, RunFault, Status, read_input, read_requirements, write_answer,
 };
+use reqs_json::{Format, line_of};
 use reqtable_compare::{LineCause, Same, SameError, Side};
 use reqtable_requirements::Requirements;
+use serde_json::{Value, json};
 use std::alloc::{AllocError, Global};
 use std::io::{Read, Write};
 
@@ -31,7 +38,7 @@ const EVERYWHERE: &str = "all environments";
 /// Reads two lists of requirements, and writes `yes` where they require the same of every package in every
 /// environment with any extras. Else it writes three lines, `no`, the first package that differs, and the
 /// marker of where its first difference is, or `all environments` where that always holds; and ends with
-/// `Status::Different`. By `reqtable_compare::same`.
+/// `Status::Different`. By `reqtable_compare::same`. Or it writes one object (`docs/JSON.md`).
 ///
 /// Both lists are read whole, the left one first, and then as what they are, the left one first. Lists are
 /// refused that have something which can't be compared, and then those with a package that has more cases
@@ -42,16 +49,17 @@ pub fn same<L: Read, R: Read, W: Write>(
     right: &mut R,
     vars: &Vars,
     limit: u64,
+    format: Format,
     output: &mut W,
 ) -> Result<Status, RunFault>
-    ensures runs { RunsSame limit vars.now (L.remaining left.old) (R.remaining right.old)
+    ensures runs { RunsSame format limit vars.now (L.remaining left.old) (R.remaining right.old)
         W.contents output.old output.new result }
     // A refused command has written nothing.
     ensures unwritten { IfErr result (λ fault. fault ≢ RunFault.Write → output.new ≡ output.old) }
 {
     let mut left = read_input(alloc, Input::First, left)?;
     let mut right = read_input(alloc, Input::Second, right)?;
-    let answer = same_answer(alloc, &mut left, &mut right, vars, limit)?;
+    let answer = same_answer(alloc, &mut left, &mut right, vars, limit, format)?;
     write_answer(output, answer.text.as_str(), answer.status)
 }
 
@@ -62,14 +70,16 @@ fn same_answer(
     right: &mut Vec<u8>,
     vars: &Vars,
     limit: u64,
+    format: Format,
 ) -> Result<Answer, RunFault>
-    ensures { AnswersLists (IsOfLists vars.now (left.old.items ∷ right.old.items ∷ [])) (IsSameAnswer limit)
-        (CantBeCompared limit) (two_lists vars.now (left.old.items ∷ right.old.items ∷ [])) result }
+    ensures { AnswersLists (IsOfLists vars.now (left.old.items ∷ right.old.items ∷ []))
+        (IsSameAnswer format limit) (CantBeCompared limit)
+        (two_lists vars.now (left.old.items ∷ right.old.items ∷ [])) result }
 {
     let mut interner = Interner::new(alloc);
     let left = read_requirements(alloc, Input::First, left, &mut interner, vars)?;
     let right = read_requirements(alloc, Input::Second, right, &mut interner, vars)?;
-    same_of(alloc, &left, &right, &mut interner, limit)
+    same_of(alloc, &left, &right, &mut interner, limit, format)
 }
 
 /// The answer on requirements.
@@ -79,28 +89,121 @@ fn same_of(
     right: &Requirements,
     interner: &mut Interner,
     limit: u64,
+    format: Format,
 ) -> Result<Answer, RunFault>
     requires { AreBothRead interner.old.nodes left.now right.now }
     ensures { (vars : Variables) (said others : List LineRecord) →
         AllZip (StandsFor vars interner.old.nodes) left.now said →
         AllZip (StandsFor vars interner.old.nodes) right.now others →
-        Gives (IsSameAnswer limit) (CantBeCompared limit) (said, others) result }
+        Gives (IsSameAnswer format limit) (CantBeCompared limit) (said, others) result }
 {
     match reqtable_compare::same(alloc, left, right, interner, limit) {
         Ok(Same::Yes) => Ok(Answer {
             status: Status::Answered,
-            text: String::from_str(alloc, "yes\n")?,
+            text: same_in(alloc, format)?,
         }),
         Ok(Same::No { package, tree }) => Ok(Answer {
             status: Status::Different,
-            text: difference_text(alloc, &package, tree, interner)?,
+            text: difference_in(alloc, format, &package, tree, interner)?,
         }),
         Err(error) => Err(fault_of(error, limit)),
     }
 }
 
-/// The text of a difference, which is where the tree holds.
+/// That two lists require the same, in a format.
+fn same_in(alloc: Global, format: Format) -> Result<String, AllocError>
+    ensures { IfOk result (λ text. string_bytes text ≡ same_in format) }
+{
+    match format {
+        Format::Text => Ok(String::from_str(alloc, "yes\n")?),
+        Format::Json => same_line(alloc),
+    }
+}
+
+/// The same as an object, on a line.
+fn same_line(alloc: Global) -> Result<String, AllocError>
+    ensures { IfOk result (λ text. string_bytes text ≡ line_of same_value) }
+{
+    let object = same_value(alloc)?;
+    line_of(alloc, &object)
+}
+
+/// The same as an object.
+fn same_value(alloc: Global) -> Result<Value, AllocError>
+    ensures { IfOk result (λ value. view value ≡ same_value) }
+{
+    json!(in alloc; {"same": true})
+}
+
+/// The text of a difference in a format, which is where the tree holds.
 #[tactic(auto, using(crate::proofs::Trees::canonical, crate::proofs::Trees::short))]
+fn difference_in(
+    alloc: Global,
+    format: Format,
+    name: &PackageName,
+    tree: MarkerTree,
+    interner: &Interner,
+) -> Result<String, AllocError>
+    requires { IsTree interner.now.nodes tree }
+    ensures text { IfOk result (λ text. string_bytes text
+        ≡ difference_in format name.now (diagram_of interner.now.nodes tree)) }
+    ensures canonical { IsCanonical (diagram_of interner.now.nodes tree) }
+    ensures short { HasShortVersions (diagram_of interner.now.nodes tree) }
+{
+    interner.are_sound();
+    match format {
+        Format::Text => difference_text(alloc, name, tree, interner),
+        Format::Json => difference_line(alloc, name, tree, interner),
+    }
+}
+
+/// A difference as an object, on a line.
+fn difference_line(
+    alloc: Global,
+    name: &PackageName,
+    tree: MarkerTree,
+    interner: &Interner,
+) -> Result<String, AllocError>
+    requires { IsTree interner.now.nodes tree }
+    ensures { IfOk result (λ text. string_bytes text
+        ≡ line_of (difference_value name.now (diagram_of interner.now.nodes tree))) }
+{
+    let object = difference_value(alloc, name, tree, interner)?;
+    line_of(alloc, &object)
+}
+
+/// A difference as an object.
+fn difference_value(
+    alloc: Global,
+    name: &PackageName,
+    tree: MarkerTree,
+    interner: &Interner,
+) -> Result<Value, AllocError>
+    requires { IsTree interner.now.nodes tree }
+    ensures { IfOk result (λ value.
+        view value ≡ difference_value name.now (diagram_of interner.now.nodes tree)) }
+{
+    let marker = marker_value(alloc, tree, interner)?;
+    json!(in alloc; {
+        "marker": marker,
+        "package": name.as_str(),
+        "same": false,
+    })
+}
+
+/// The text of where a tree holds, or null where that is everywhere.
+fn marker_value(alloc: Global, tree: MarkerTree, interner: &Interner) -> Result<Value, AllocError>
+    requires { IsTree interner.now.nodes tree }
+    ensures { IfOk result (λ value.
+        view value ≡ value_or_null string (marker_text (diagram_of interner.now.nodes tree))) }
+{
+    match tree.try_to_string(alloc, interner)? {
+        Some(marker) => Ok(Value::String(marker)),
+        None => Ok(Value::Null),
+    }
+}
+
+/// The text of a difference, as lines.
 fn difference_text(
     alloc: Global,
     name: &PackageName,
@@ -108,12 +211,9 @@ fn difference_text(
     interner: &Interner,
 ) -> Result<String, AllocError>
     requires { IsTree interner.now.nodes tree }
-    ensures text { IfOk result (λ text. string_bytes text
+    ensures { IfOk result (λ text. string_bytes text
         ≡ difference_text name.now (diagram_of interner.now.nodes tree)) }
-    ensures canonical { IsCanonical (diagram_of interner.now.nodes tree) }
-    ensures short { HasShortVersions (diagram_of interner.now.nodes tree) }
 {
-    interner.are_sound();
     match tree.try_to_string(alloc, interner)? {
         Some(marker) => difference_lines(alloc, name, marker.as_str()),
         None => difference_lines(alloc, name, EVERYWHERE),

@@ -7,6 +7,7 @@ use Rattle.reqs_ends.specs.declared.fault.RunFault.TheVariants.{TooLong}
 use Rattle.reqs_ends.specs.declared.fault.Status.{Status}
 use Rattle.reqs_ends.specs.declared.fault.Status.TheVariants as status
 use Rattle.reqs_ends.specs.Ends.{Answering, Refusing, AreWithin, place_of, of_input}
+use Rattle.reqs_json.specs.declared.format.Format.TheVariants as format
 use Rattle.reqs_lists.specs.Comparison.{SameAnswersAs, SameRefuses}
 use Rattle.reqs_lists.specs.Contradictions.{ConflictsAnswerAs, ConflictsRefuse}
 use Rattle.reqs_lists.specs.Normal.{NormalAnswersAs, NormalRefuses}
@@ -62,7 +63,7 @@ list_names = codes "requirements" ∷ []
 -- `reqs check`
 abbrev pub ChecksInputs : List (List ℕ) → List (List ℕ) → Ending → Type 0
 ChecksInputs inputs extras =
-    CommandEnds (ChecksAs no_variables extras) (CheckRefuses no_variables extras)
+    CommandEnds (ChecksAs format.Text no_variables extras) (CheckRefuses no_variables extras)
     (IsToldAt check_names 4) inputs
 
 abbrev pub CheckEnds : List ℕ → List ℕ → List ℕ → List ℕ → Ending → Type 0
@@ -72,7 +73,8 @@ CheckEnds requirements environment candidates =
 -- `reqs matrix`
 abbrev pub TablesInputs : ℕ → List (List ℕ) → List (List ℕ) → Ending → Type 0
 TablesInputs limit inputs extras =
-    CommandEnds (MatrixAnswersAs limit no_variables extras) (MatrixRefuses limit no_variables extras)
+    CommandEnds (MatrixAnswersAs format.Text limit no_variables extras)
+    (MatrixRefuses limit no_variables extras)
     (IsToldAt matrix_names 4) inputs
 
 abbrev pub MatrixEnds : ℕ → List ℕ → List ℕ → List ℕ → List ℕ → Ending → Type 0
@@ -82,20 +84,20 @@ MatrixEnds limit requirements environments candidates =
 -- `reqs same`
 abbrev pub SameEnds : ℕ → List ℕ → List ℕ → Ending → Type 0
 SameEnds limit left right =
-    CommandEnds (SameAnswersAs limit no_variables) (SameRefuses limit no_variables) (IsToldAt same_names 0)
-    (left ∷ right ∷ [])
+    CommandEnds (SameAnswersAs format.Text limit no_variables) (SameRefuses limit no_variables)
+    (IsToldAt same_names 0) (left ∷ right ∷ [])
 
 -- `reqs conflicts`
 abbrev pub ConflictsEnd : ℕ → List ℕ → Ending → Type 0
 ConflictsEnd limit requirements =
-    CommandEnds (ConflictsAnswerAs limit no_variables) (ConflictsRefuse limit no_variables)
+    CommandEnds (ConflictsAnswerAs format.Text limit no_variables) (ConflictsRefuse limit no_variables)
     (IsToldAt list_names 0) (requirements ∷ [])
 
 -- `reqs normal`
 abbrev pub NormalEnds : List ℕ → Ending → Type 0
 NormalEnds requirements =
-    CommandEnds (NormalAnswersAs no_variables) (NormalRefuses no_variables) (IsToldAt list_names 0)
-    (requirements ∷ [])
+    CommandEnds (NormalAnswersAs format.Text no_variables) (NormalRefuses no_variables)
+    (IsToldAt list_names 0) (requirements ∷ [])
 
 -- ---- what a command returned
 

@@ -10,6 +10,7 @@ ghost use Rattle.reqs_slices.specs.Refusals.{IsToldAt};
 
 use crate::ending::ended;
 use pep508_url::Vars;
+use reqs_json::Format;
 use reqs_markers::no_variables;
 use reqs_reply::{Ended, Reply, filled_lines, text_of};
 use std::alloc::Global;
@@ -71,7 +72,7 @@ fn checked_with(
     extras: &[&str],
     vars: &Vars,
 ) -> Ended
-    ensures { CommandEnds (ChecksAs vars.now (map (λ e. e.now) extras.now))
+    ensures { CommandEnds (ChecksAs Format.Text vars.now (map (λ e. e.now) extras.now))
         (CheckRefuses vars.now (map (λ e. e.now) extras.now)) (IsToldAt check_names 4)
         (requirements.now ∷ environment.now ∷ candidates.now ∷ []) (ending_of result) }
 {
@@ -88,6 +89,7 @@ fn checked_with(
         &mut candidates,
         extras,
         vars,
+        Format::Text,
         &mut text,
     );
     ended(alloc, ran, text, &CHECK_NAMES, EXTRAS)
@@ -153,7 +155,7 @@ fn tabled_with(
     vars: &Vars,
     limit: u64,
 ) -> Ended
-    ensures { CommandEnds (MatrixAnswersAs limit vars.now (map (λ e. e.now) extras.now))
+    ensures { CommandEnds (MatrixAnswersAs Format.Text limit vars.now (map (λ e. e.now) extras.now))
         (MatrixRefuses limit vars.now (map (λ e. e.now) extras.now)) (IsToldAt matrix_names 4)
         (requirements.now ∷ environments.now ∷ candidates.now ∷ []) (ending_of result) }
 {
@@ -171,6 +173,7 @@ fn tabled_with(
         extras,
         vars,
         limit,
+        Format::Text,
         &mut text,
     );
     ended(alloc, ran, text, &MATRIX_NAMES, EXTRAS)

@@ -11,6 +11,7 @@ ghost use Rattle.reqs_slices.specs.Refusals.{IsToldAt};
 
 use crate::ending::ended;
 use pep508_url::Vars;
+use reqs_json::Format;
 use reqs_markers::no_variables;
 use reqs_reply::{Ended, Reply};
 use std::alloc::Global;
@@ -44,12 +45,20 @@ fn compared(alloc: Global, left: &[u8], right: &[u8], limit: u64) -> Ended
 
 /// How `same` ends with these variables.
 fn compared_with(alloc: Global, left: &[u8], right: &[u8], limit: u64, vars: &Vars) -> Ended
-    ensures { CommandEnds (SameAnswersAs limit vars.now) (SameRefuses limit vars.now)
+    ensures { CommandEnds (SameAnswersAs Format.Text limit vars.now) (SameRefuses limit vars.now)
         (IsToldAt same_names 0) (left.now ∷ right.now ∷ []) (ending_of result) }
 {
     let (mut left, mut right) = (left, right);
     let mut text = Vec::new(alloc);
-    let ran = reqs_lists::same(alloc, &mut left, &mut right, vars, limit, &mut text);
+    let ran = reqs_lists::same(
+        alloc,
+        &mut left,
+        &mut right,
+        vars,
+        limit,
+        Format::Text,
+        &mut text,
+    );
     ended(alloc, ran, text, &SAME_NAMES, NO_EXTRAS)
 }
 
@@ -73,12 +82,19 @@ fn contradicted(alloc: Global, requirements: &[u8], limit: u64) -> Ended
 
 /// How `conflicts` ends with these variables.
 fn contradicted_with(alloc: Global, requirements: &[u8], limit: u64, vars: &Vars) -> Ended
-    ensures { CommandEnds (ConflictsAnswerAs limit vars.now) (ConflictsRefuse limit vars.now)
+    ensures { CommandEnds (ConflictsAnswerAs Format.Text limit vars.now) (ConflictsRefuse limit vars.now)
         (IsToldAt list_names 0) (requirements.now ∷ []) (ending_of result) }
 {
     let mut requirements = requirements;
     let mut text = Vec::new(alloc);
-    let ran = reqs_lists::conflicts(alloc, &mut requirements, vars, limit, &mut text);
+    let ran = reqs_lists::conflicts(
+        alloc,
+        &mut requirements,
+        vars,
+        limit,
+        Format::Text,
+        &mut text,
+    );
     ended(alloc, ran, text, &LIST_NAMES, NO_EXTRAS)
 }
 
@@ -101,11 +117,11 @@ fn normalized(alloc: Global, requirements: &[u8]) -> Ended
 
 /// How `normal` ends with these variables.
 fn normalized_with(alloc: Global, requirements: &[u8], vars: &Vars) -> Ended
-    ensures { CommandEnds (NormalAnswersAs vars.now) (NormalRefuses vars.now) (IsToldAt list_names 0)
-        (requirements.now ∷ []) (ending_of result) }
+    ensures { CommandEnds (NormalAnswersAs Format.Text vars.now) (NormalRefuses vars.now)
+        (IsToldAt list_names 0) (requirements.now ∷ []) (ending_of result) }
 {
     let mut requirements = requirements;
     let mut text = Vec::new(alloc);
-    let ran = reqs_lists::normal(alloc, &mut requirements, vars, &mut text);
+    let ran = reqs_lists::normal(alloc, &mut requirements, vars, Format::Text, &mut text);
     ended(alloc, ran, text, &LIST_NAMES, NO_EXTRAS)
 }

@@ -1,7 +1,7 @@
 //! Readers and writers that are interrupted, fail or never end, and the limits up to which they are
 //! borne with.
 
-use reqs::{RunFault, Status, Vars, check, matrix};
+use reqs::{Format, RunFault, Status, Vars, check, matrix};
 use reqs_io::{ASK_LIMIT, ReadFault, WriteFault, read_whole, write_whole};
 use std::alloc::{AllocError, Global};
 use std::io::{self, ErrorKind, Read, Write};
@@ -166,6 +166,7 @@ fn read_from<R: Read>(alloc: Global, requirements: &mut R) -> Result<String, All
         &mut candidates,
         &[],
         &vars,
+        Format::Text,
         &mut output,
     );
     told(alloc, &output, result)
@@ -205,6 +206,7 @@ fn run(
             &[],
             &vars,
             limit,
+            Format::Text,
             output,
         )
     } else {
@@ -215,6 +217,7 @@ fn run(
             &mut candidates,
             &[],
             &vars,
+            Format::Text,
             output,
         )
     }

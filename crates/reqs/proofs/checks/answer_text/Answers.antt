@@ -9,7 +9,7 @@ new-admission-requires-clause-lawful c = (on_request, λ version named answer h.
 
 pub returns : goal.returns
 returns c =
-    answer_is c.args.interner.now.nodes c.args.environment.now c.args.extras.now c.args.requirements.now
-    c.args.candidates.now (map row_seen c.in_ok-answer.answer.rows.items) c.text.result
+    answer_is c.args.format c.args.interner.now.nodes c.args.environment.now c.args.extras.now c.args.requirements.now
+    c.args.candidates.now (map row_seen c.in_ok-answer.answer.rows.items) c.answer_text.result
     (λ vars said stands. c.in_ok-answer.ensures.answered vars said on_request stands (λ version named answer h. search rules))
-    c.text.ensures
+    c.answer_text.ensures

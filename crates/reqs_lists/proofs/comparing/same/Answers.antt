@@ -26,7 +26,7 @@ returns-in_err-answer-clause-runs g c =
     let right = c.in_ok-right.ensures in
     rw (p.1, p.2)
     (same_refused _ _ _ _ (c.in_ok-left.left.items ∷ c.in_ok-right.right.items ∷ [])
-    (left.0, (right.0, tt)) (left.1, (right.1, tt)) c.args.vars.now _ c.args.limit c.in_err-answer.ensures)
+    (left.0, (right.0, tt)) (left.1, (right.1, tt)) c.args.vars.now _ c.args.format c.args.limit c.in_err-answer.ensures)
 
 pub returns-clause-runs : goal.returns-clause-runs
 returns-clause-runs g c =

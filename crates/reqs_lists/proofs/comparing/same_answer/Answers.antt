@@ -23,7 +23,7 @@ returns c =
     let left = c.in_ok-left.ensures.lines in
     let right = c.in_ok-right.ensures.lines in
     let kept = lines_kept vars _ _ c.in_ok-right.ensures.keeps _ _ left.2 in
-    given (IsOfLists vars inputs) tt (IsSameAnswer c.args.limit) (CantBeCompared c.args.limit)
+    given (IsOfLists vars inputs) tt (IsSameAnswer c.args.format c.args.limit) (CantBeCompared c.args.limit)
     (two_lists vars inputs)
     (left.0, right.0) (two_read vars _ _ left.0 right.0 left.1 right.1) c.same_of.result
     (c.same_of.ensures vars left.0 right.0 kept right.2)

@@ -17,7 +17,7 @@ returns-in_err-answer-clause-runs g c =
     let read = c.in_ok-requirements.ensures in
     rw (p.1, p.2)
     (conflicts_refused _ _ _ _ (c.in_ok-requirements.requirements.items ∷ []) (read.0, tt) (read.1, tt)
-    c.args.vars.now _ c.args.limit c.in_err-answer.ensures)
+    c.args.vars.now _ c.args.format c.args.limit c.in_err-answer.ensures)
 
 pub returns-clause-runs : goal.returns-clause-runs
 returns-clause-runs g c =

@@ -1,4 +1,5 @@
 use Rattle.std.proofs.Common.{◌∙◌, ◌∷◌, [], Bor, ℕ, List, ap, map}
+use Rattle.reqs_json.specs.declared.format.Format.TheVariants as format
 use Rattle.reqs.specs.Matrix.{MatrixAnswersAs, MatrixRefuses}
 use Rattle.reqs_reply.specs.Lines.{filled_lines}
 use Rattle.reqs_slices.specs.Commands.{CommandEnds, matrix_names}
@@ -10,7 +11,7 @@ pub returns : goal.returns
 returns c =
     let inputs = c.args.requirements.now ∷ c.args.environments.now ∷ c.args.candidates.now ∷ [] in
     let text = c.in-Ok.ensures in
-    with_extras 4 (λ vars extras. CommandEnds (MatrixAnswersAs c.args.limit vars extras) (MatrixRefuses c.args.limit vars extras) (IsToldAt matrix_names 4) inputs)
+    with_extras 4 (λ vars extras. CommandEnds (MatrixAnswersAs format.Text c.args.limit vars extras) (MatrixRefuses c.args.limit vars extras) (IsToldAt matrix_names 4) inputs)
     c.args.extras.now c.in-Ok-no_variables.vars _ _ text.is_text c.in-Ok-no_variables.ensures
     (ap (map (λ (e : Bor (List ℕ)). e.now)) c.deref.ensures.value ∙ c.in-Ok-filled_lines.ensures ∙ ap filled_lines text.text)
     c.tabled_with.ensures

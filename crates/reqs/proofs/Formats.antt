@@ -1,0 +1,51 @@
+-- The rows of an answer in both formats.
+use Rattle.std.proofs.Common.{◌≡◌, ◌∙◌, ◌∷◌, [], ℕ, List, Ok, map, ap, refl, sym, subst}
+use Rattle.std.specs.List.{AllZip}
+use Rattle.pep508_environment.specs.Environment.{EnvironmentRecord}
+use Rattle.pep508_evaluation.specs.Valuations.{valuation_of}
+use Rattle.reqtable_text.specs.declared.candidates.Candidate.{Candidate}
+use Rattle.reqtable_answer.specs.Answer.{RowRecord, IsAnswerText, answer_text}
+use Rattle.reqtable_answer.proofs.OneAnswer.{one_answer}
+use Rattle.reqtable_requirements.specs.Asks.{asks_of}
+use Rattle.reqtable_requirements.specs.LineReading.{LineRecord}
+use Rattle.reqs_json.specs.declared.format.Format.TheVariants.{Text, Json}
+use Rattle.reqs_json.specs.Lines.{line_of}
+use Rattle.reqs_json.specs.Rows.{answer_value, answers_value, IsAnswerIn}
+use Rattle.reqs.specs.Check.{on_request, CheckTexts, IsCheckText}
+use Rattle.reqs.specs.Matrix.{AreAnswers, IsMatrixIn, numbered}
+use Rattle.reqs.specs.Texts.{ReadTexts}
+use Rattle.reqs.proofs.Numbered.{as_check}
+
+pub same_rows : (texts : CheckTexts) (lines object : List ℕ) → IsCheckText Text texts lines → IsCheckText Json texts object
+    → (candidates : List Candidate) × (rows : List RowRecord)
+    × (lines ≡ answer_text candidates rows) × (object ≡ line_of (answer_value candidates rows))
+same_rows texts lines object a b =
+    let read : a.read ≡ b.read = cc (a.is_read, b.is_read) in
+    let other : IsAnswerIn Json on_request (asks_of (valuation_of a.read.second a.read.extras) a.read.lines) a.read.candidates object =
+    subst
+    (λ (r : ReadTexts EnvironmentRecord). IsAnswerIn Json on_request (asks_of (valuation_of r.second r.extras) r.lines) r.candidates object)
+    (sym read) b.is_text in
+    let rows : other.0 ≡ a.is_text.0 = one_answer _ _ _ _ _ other.1 a.is_text.1 in
+    (a.read.candidates, a.is_text.0, a.is_text.2, other.2 ∙ ap (λ r. line_of (answer_value a.read.candidates r)) rows)
+
+module _ (extras : List (List ℕ)) (lines : List LineRecord) (candidates : List Candidate) where
+  texts_of_rows : (environments : List EnvironmentRecord) (answers : List (List RowRecord))
+      → AreAnswers on_request extras lines candidates environments answers
+      → AllZip (λ environment answer. IsAnswerText on_request (asks_of (valuation_of environment extras) lines) candidates answer) environments
+      (map (answer_text candidates) answers)
+  texts_of_rows [] [] h = tt
+  texts_of_rows [] (rows ∷ answers) h = absurd h
+  texts_of_rows (environment ∷ environments) [] h = absurd h
+  texts_of_rows (environment ∷ environments) (rows ∷ answers) h =
+      ((rows, h.0, refl), texts_of_rows environments answers h.1)
+
+  pub same_rows_of_all : (environments : List EnvironmentRecord) (text object : List ℕ)
+      → IsMatrixIn Text on_request extras lines candidates environments text
+      → IsMatrixIn Json on_request extras lines candidates environments object
+      → (answers : List (List RowRecord)) × (text ≡ numbered 1 (map (answer_text candidates) answers))
+      × (object ≡ line_of (answers_value candidates answers))
+  same_rows_of_all environments text object a b = (
+    b.0,
+    as_check extras lines candidates 1 environments (map (answer_text candidates) b.0) text (texts_of_rows environments b.0 b.1) a,
+    b.2,
+  )

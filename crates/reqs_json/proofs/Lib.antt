@@ -1,0 +1,4 @@
+pub mod OneLine
+pub mod Plain
+pub mod Said
+pub mod Joined

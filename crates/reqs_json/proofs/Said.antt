@@ -1,0 +1,43 @@
+-- What is said of a fault, behind its place.
+use Rattle.std.proofs.Common.{◌≡◌, ◌∙◌, ◌++◌, List, ℕ, Option, Some, option_map, append_assoc, ap, refl}
+use Rattle.std.proofs.Common.{Result, Ok, Err, IfOk, IfSome, String, string_bytes}
+use Rattle.std.specs.Fmt.{◌++?◌}
+use Rattle.reqs_ends.specs.FaultText.{fault_text}
+use Rattle.reqs_ends.specs.declared.fault.Input.{Input}
+use Rattle.reqs_ends.specs.declared.fault.RunFault.{RunFault}
+use Rattle.reqs_ends.specs.declared.fault.RunFault.TheVariants.{Read, Write, Memory, TooLong, NotText, Extra}
+use Rattle.reqs_ends.specs.declared.fault.RunFault.TheVariants.{Requirement, NumberAtEnd, Json, Float, Shape}
+use Rattle.reqs_ends.specs.declared.fault.RunFault.TheVariants.{Member, Version, Candidate, TooManyCases}
+use Rattle.reqs_ends.specs.declared.fault.RunFault.TheVariants.{Refused}
+use Rattle.reqs_json.specs.Lines.{line_of}
+use Rattle.reqs_json.specs.Faults.{kind_of, input_in, place_in, message_of, place_text, error_value, IsFaultLine}
+use Rattle.reqs_json.specs.declared.faults.Place.{Place}
+
+pub behind_place : (said : Input → List ℕ) (fault : RunFault)
+    → fault_text said fault ≡ (Some (place_text said fault) ++? message_of fault)
+behind_place said (Read input) = refl
+behind_place said Write = refl
+behind_place said Memory = refl
+behind_place said (TooLong input) = simp append_assoc
+behind_place said (NotText input offset) = simp append_assoc
+behind_place said (Extra word) = refl
+behind_place said (Requirement input number error) = refl
+behind_place said (NumberAtEnd input number) = refl
+behind_place said (Refused input number cause) = refl
+behind_place said (Json input) = refl
+behind_place said (Float input) = refl
+behind_place said (Shape input wanted) = refl
+behind_place said (Member input index name) = simp append_assoc
+behind_place said (Version input index name) = simp append_assoc
+behind_place said (Candidate input number cause) = refl
+behind_place said (TooManyCases input limit name) = simp append_assoc
+
+-- a line that has what is told of a fault is its object
+pub told : {Y E : Type 0} (said : Input → List ℕ) (fault : RunFault) (line : Result (String Y) E)
+    (kind message shown : List ℕ) (path : Option (List ℕ)) (place : Place)
+    → kind ≡ kind_of fault → shown ≡ message → path ≡ option_map said (input_in fault) → place ≡ place_in fault
+    → IfSome (message_of fault) (λ wanted. message ≡ wanted)
+    → IfOk line (λ text. string_bytes text ≡ line_of (error_value kind shown path place))
+    → IfOk line (λ text. IsFaultLine said fault (string_bytes text))
+told said fault (Ok text) kind message shown path place k m p q s h = (message, s, h ∙ ap line_of (rw (k, m, p, q) refl))
+told said fault (Err error) kind message shown path place k m p q s h = tt

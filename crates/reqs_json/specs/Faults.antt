@@ -1,0 +1,163 @@
+-- A fault as a JSON object: of what kind it is, what is said of it, and where it is.
+use Rattle.std.specs.Prelude.{◌≡◌, ℕ, List, [], ◌++◌, codes, Option, Some, None, IfSome, option_map}
+use Rattle.std.specs.Fmt.{decimal}
+use Rattle.serde_json.specs.Data.{Data, string, object, no_members, member}
+use Rattle.pep508_environment.specs.Environment.{member_name}
+use Rattle.pep508_url.specs.UrlFaults.{url_error_text}
+use Rattle.pep508_error.specs.Errors.{error_text}
+use Rattle.reqtable_text.specs.Errors.{cause_text}
+use Rattle.reqs_ends.specs.declared.fault.Input.{Input}
+use Rattle.reqs_ends.specs.declared.fault.RunFault.{RunFault}
+use Rattle.reqs_ends.specs.declared.fault.RunFault.TheVariants.{Read, Write, Memory, TooLong, NotText, Extra}
+use Rattle.reqs_ends.specs.declared.fault.RunFault.TheVariants.{Requirement, NumberAtEnd, Json, Float, Shape}
+use Rattle.reqs_ends.specs.declared.fault.RunFault.TheVariants.{Member, Version, Candidate, TooManyCases}
+use Rattle.reqs_ends.specs.declared.fault.RunFault.TheVariants.{Refused}
+use Rattle.reqs_ends.specs.FaultText.{shape_text, refused_text, requirement_front}
+use Rattle.reqs_json.specs.declared.faults.Place.{Place}
+use Rattle.reqs_json.specs.Lines.{number_of, value_or_null, line_of}
+
+-- ---- what is told of a fault
+
+-- the kind of a fault, in a word
+abbrev pub kind_of : RunFault → List ℕ
+kind_of (Read input) = codes "read"
+kind_of Write = codes "write"
+kind_of Memory = codes "memory"
+kind_of (TooLong input) = codes "too-long"
+kind_of (NotText input offset) = codes "not-text"
+kind_of (Extra word) = codes "extra"
+kind_of (Requirement input number error) = codes "requirement"
+kind_of (NumberAtEnd input number) = codes "number-at-end"
+kind_of (Refused input number cause) = codes "refused"
+kind_of (Json input) = codes "json"
+kind_of (Float input) = codes "float"
+kind_of (Shape input wanted) = codes "shape"
+kind_of (Member input index name) = codes "member"
+kind_of (Version input index name) = codes "version"
+kind_of (Candidate input number cause) = codes "candidate"
+kind_of (TooManyCases input limit name) = codes "too-many-cases"
+
+-- the input that it is of
+abbrev pub input_in : RunFault → Option Input
+input_in (Read input) = Some input
+input_in Write = None
+input_in Memory = None
+input_in (TooLong input) = Some input
+input_in (NotText input offset) = Some input
+input_in (Extra word) = None
+input_in (Requirement input number error) = Some input
+input_in (NumberAtEnd input number) = Some input
+input_in (Refused input number cause) = Some input
+input_in (Json input) = Some input
+input_in (Float input) = Some input
+input_in (Shape input wanted) = Some input
+input_in (Member input index name) = Some input
+input_in (Version input index name) = Some input
+input_in (Candidate input number cause) = Some input
+input_in (TooManyCases input limit name) = Some input
+
+-- the line of that input
+abbrev pub line_in : RunFault → Option ℕ
+line_in (Requirement input number error) = Some number
+line_in (NumberAtEnd input number) = Some number
+line_in (Refused input number cause) = Some number
+line_in (Candidate input number cause) = Some number
+line_in fault = None
+
+-- the byte at which it begins, in what is read of the line, or in the input where no line is told
+abbrev pub start_in : RunFault → Option ℕ
+start_in (NotText input offset) = Some offset
+start_in (Requirement input number error) = Some error.excerpt.start
+start_in fault = None
+
+-- and of how many bytes it is
+abbrev pub length_in : RunFault → Option ℕ
+length_in (Requirement input number error) = Some error.excerpt.len
+length_in fault = None
+
+-- what is said of a member of an environment
+abbrev pub member_message : ℕ → List ℕ → List ℕ → List ℕ
+member_message index name what =
+    codes "environment " ++ decimal index ++ codes ": member " ++ name ++ codes " is " ++ what
+
+-- what is said of it, behind its place; where that is the text of the crate `url`, nothing is claimed here
+abbrev pub message_of : RunFault → Option (List ℕ)
+message_of (Read input) = Some (codes "read fault")
+message_of Write = Some (codes "write fault")
+message_of Memory = Some (codes "out of memory")
+message_of (TooLong input) = Some (codes "longer than 16777216 bytes")
+message_of (NotText input offset) = Some (codes "not UTF-8 at byte " ++ decimal offset)
+message_of (Extra word) = Some (codes "extra " ++ word ++ codes " is no name")
+message_of (Requirement input number error) = error_text url_error_text error
+message_of (NumberAtEnd input number) = Some (codes "a version number can't be raised")
+message_of (Refused input number cause) = Some (refused_text cause)
+message_of (Json input) = Some (codes "not JSON")
+message_of (Float input) = Some (codes "a number is a float")
+message_of (Shape input wanted) = Some (shape_text wanted)
+message_of (Member input index name) =
+    Some (member_message index (member_name name) (codes "missing or no text"))
+message_of (Version input index name) = Some (member_message index (member_name name) (codes "no version"))
+message_of (Candidate input number cause) = Some (cause_text cause)
+message_of (TooManyCases input limit name) =
+    Some (codes "more than " ++ decimal limit ++ codes " cases for " ++ name)
+
+-- what stands before that in a text
+abbrev pub line_place : List ℕ → ℕ → List ℕ
+line_place path number = path ++ codes ": line " ++ decimal number ++ codes ": "
+
+abbrev pub place_text : (Input → List ℕ) → RunFault → List ℕ
+place_text said (Read input) = said input ++ codes ": "
+place_text said Write = []
+place_text said Memory = []
+place_text said (TooLong input) = said input ++ codes ": "
+place_text said (NotText input offset) = said input ++ codes ": "
+place_text said (Extra word) = []
+place_text said (Requirement input number error) = requirement_front (said input) number error
+place_text said (NumberAtEnd input number) = line_place (said input) number
+place_text said (Refused input number cause) = line_place (said input) number
+place_text said (Json input) = said input ++ codes ": "
+place_text said (Float input) = said input ++ codes ": "
+place_text said (Shape input wanted) = said input ++ codes ": "
+place_text said (Member input index name) = said input ++ codes ": "
+place_text said (Version input index name) = said input ++ codes ": "
+place_text said (Candidate input number cause) = line_place (said input) number
+place_text said (TooManyCases input limit name) = said input ++ codes ": "
+
+-- ---- the object
+
+-- where a fault is in its input
+abbrev pub place_in : RunFault → Place
+place_in fault = record { line = line_in fault; start = start_in fault; len = length_in fault }
+
+-- that it is nowhere
+abbrev pub nowhere : Place
+nowhere = record { line = None; start = None; len = None }
+
+-- of what kind it is, what is said of it, and where it is; null is what it doesn't have
+abbrev pub error_members : List ℕ → List ℕ → Option (List ℕ) → Place → Data
+error_members kind message path place = object (
+    member (codes "kind") (string kind) (
+    member (codes "length") (value_or_null number_of place.len) (
+    member (codes "line") (value_or_null number_of place.line) (
+    member (codes "message") (string message) (
+    member (codes "path") (value_or_null string path) (
+    member (codes "start") (value_or_null number_of place.start) no_members))))))
+
+abbrev pub error_value : List ℕ → List ℕ → Option (List ℕ) → Place → Data
+error_value kind message path place =
+    object (member (codes "error") (error_members kind message path place) no_members)
+
+-- that of a fault, by the paths of the inputs and by its message
+abbrev pub fault_value : (Input → List ℕ) → RunFault → List ℕ → Data
+fault_value said fault message =
+    error_value (kind_of fault) message (option_map said (input_in fault)) (place_in fault)
+
+-- the text is that object, as a line
+abbrev pub IsFaultLine : (Input → List ℕ) → RunFault → List ℕ → Type 0
+IsFaultLine said fault text =
+    (message : List ℕ) × IfSome (message_of fault) (λ wanted. message ≡ wanted)
+    × (text ≡ line_of (fault_value said fault message))
+
+-- a command line that is refused for what isn't in its words, with this message
+abbrev pub usage_value : List ℕ → Data
+usage_value message = error_value (codes "command-line") message None nowhere

@@ -1,0 +1,181 @@
+//! The rows of an answer, as a text in a format.
+
+ghost use Rattle.std.specs.Prelude.{◌≡◌, ◌++◌, All, map, length, IfOk, string_bytes};
+ghost use Rattle.serde_json.specs.View.{view};
+ghost use Rattle.serde_json.specs.Written.{comma_if};
+ghost use Rattle.reqtable_answer.specs.Rows.{row_seen, IsTakenBelow};
+ghost use Rattle.reqs_json.specs.Lines.{line_of, value_text};
+ghost use Rattle.reqs_json.specs.Rows.{outcome_word, version_value, package_value, packages_value};
+ghost use Rattle.reqs_json.specs.Rows.{answer_value, environment_value, rows_text};
+
+use crate::format::Format;
+use crate::lines::{line_of, names_value, value_text};
+use reqtable_answer::{Answer, Outcome, Row};
+use reqtable_text::{Candidate, Candidates};
+use serde_json::{Value, json};
+use std::alloc::{AllocError, Global};
+
+/// The rows of an answer in a format: as lines, by `Answer::text`, or as an object with an array of them.
+///
+/// The candidates are those among which was chosen. Linear in the text; an object takes memory for the values
+/// that it is made of, beside its text.
+pub fn answer_text(
+    alloc: Global,
+    format: Format,
+    answer: &Answer,
+    candidates: &Candidates,
+) -> Result<String, AllocError>
+    requires { All (λ row. IsTakenBelow (length candidates.now) row.outcome) answer.now.rows.items }
+    ensures { IfOk result (λ text.
+        string_bytes text ≡ rows_text format candidates.now (map row_seen answer.now.rows.items)) }
+{
+    match format {
+        Format::Text => answer.text(alloc, candidates),
+        Format::Json => answer_line(alloc, &answer.rows, candidates.items()),
+    }
+}
+
+/// The object of rows, as a line.
+fn answer_line(alloc: Global, rows: &[Row], candidates: &[Candidate]) -> Result<String, AllocError>
+    requires { All (λ row. IsTakenBelow (length candidates.now) row.outcome) rows.now }
+    ensures { IfOk result (λ text.
+        string_bytes text ≡ line_of (answer_value candidates.now (map row_seen rows.now))) }
+{
+    let object = answer_value(alloc, rows, candidates)?;
+    line_of(alloc, &object)
+}
+
+/// The object of rows.
+fn answer_value(alloc: Global, rows: &[Row], candidates: &[Candidate]) -> Result<Value, AllocError>
+    requires { All (λ row. IsTakenBelow (length candidates.now) row.outcome) rows.now }
+    ensures { IfOk result (λ value. view value ≡ answer_value candidates.now (map row_seen rows.now)) }
+{
+    let packages = packages_value(alloc, rows, candidates)?;
+    json!(in alloc; {"packages": packages})
+}
+
+/// The object of an environment's answer, which has this number, behind a comma where it stands behind
+/// others.
+///
+/// The candidates are those among which was chosen. Linear in the text, with memory for its values.
+pub fn environment_text(
+    alloc: Global,
+    later: bool,
+    number: usize,
+    answer: &Answer,
+    candidates: &Candidates,
+) -> Result<String, AllocError>
+    requires { All (λ row. IsTakenBelow (length candidates.now) row.outcome) answer.now.rows.items }
+    ensures { IfOk result (λ text. string_bytes text ≡ comma_if later ++ value_text
+        (environment_value candidates.now number (map row_seen answer.now.rows.items))) }
+{
+    let object = environment_object(alloc, number, &answer.rows, candidates.items())?;
+    behind_comma(alloc, later, object.as_str())
+}
+
+/// A text, behind a comma where something stands before.
+fn behind_comma(alloc: Global, later: bool, shown: &str) -> Result<String, AllocError>
+    ensures { IfOk result (λ text. string_bytes text ≡ comma_if later ++ shown.now) }
+{
+    let mut text = String::from_str(alloc, comma_if(later))?;
+    text.push_str(shown)?;
+    Ok(text)
+}
+
+/// The object of rows and a number, as a text.
+fn environment_object(
+    alloc: Global,
+    number: usize,
+    rows: &[Row],
+    candidates: &[Candidate],
+) -> Result<String, AllocError>
+    requires { All (λ row. IsTakenBelow (length candidates.now) row.outcome) rows.now }
+    ensures { IfOk result (λ text. string_bytes text
+        ≡ value_text (environment_value candidates.now number (map row_seen rows.now))) }
+{
+    let object = environment_value(alloc, number, rows, candidates)?;
+    value_text(alloc, &object)
+}
+
+/// A comma, where something stands before.
+fn comma_if(later: bool) -> &'static str
+    ensures { result.now ≡ comma_if later }
+{
+    if later { "," } else { "" }
+}
+
+/// The object of rows and a number.
+fn environment_value(
+    alloc: Global,
+    number: usize,
+    rows: &[Row],
+    candidates: &[Candidate],
+) -> Result<Value, AllocError>
+    requires { All (λ row. IsTakenBelow (length candidates.now) row.outcome) rows.now }
+    ensures { IfOk result (λ value.
+        view value ≡ environment_value candidates.now number (map row_seen rows.now)) }
+{
+    let packages = packages_value(alloc, rows, candidates)?;
+    json!(in alloc; {"number": number, "packages": packages})
+}
+
+/// Rows as an array.
+fn packages_value(
+    alloc: Global,
+    rows: &[Row],
+    candidates: &[Candidate],
+) -> Result<Value, AllocError>
+    requires { All (λ row. IsTakenBelow (length candidates.now) row.outcome) rows.now }
+    ensures { IfOk result (λ value.
+        view value ≡ packages_value candidates.now (map row_seen rows.now)) }
+{
+    let mut values = Vec::with_capacity(alloc, rows.len())?;
+    for row in rows {
+        values.push(package_value(alloc, row, candidates)?)?;
+    }
+    Ok(Value::Array(values))
+}
+
+/// A row as an object.
+fn package_value(alloc: Global, row: &Row, candidates: &[Candidate]) -> Result<Value, AllocError>
+    requires { IsTakenBelow (length candidates.now) row.now.outcome }
+    ensures { IfOk result (λ value. view value ≡ package_value candidates.now (row_seen row.now)) }
+{
+    let extras = names_value(alloc, &row.extras)?;
+    let version = version_value(alloc, row.outcome, candidates)?;
+    json!(in alloc; {
+        "extras": extras,
+        "name": row.package.as_str(),
+        "outcome": outcome_word(row.outcome),
+        "version": version,
+    })
+}
+
+/// What becomes of a package, in a word.
+fn outcome_word(outcome: Outcome) -> &'static str
+    ensures { result.now ≡ outcome_word outcome }
+{
+    match outcome {
+        Outcome::Taken(_) => "version",
+        Outcome::Nothing => "none",
+        Outcome::Direct => "direct",
+    }
+}
+
+/// The version that is taken, as a text, or null.
+fn version_value(
+    alloc: Global,
+    outcome: Outcome,
+    candidates: &[Candidate],
+) -> Result<Value, AllocError>
+    requires { IsTakenBelow (length candidates.now) outcome }
+    ensures { IfOk result (λ value. view value ≡ version_value candidates.now outcome) }
+{
+    match outcome {
+        Outcome::Taken(place) => {
+            let text = candidates[place].version.to_string(alloc)?;
+            Ok(Value::String(text))
+        }
+        Outcome::Nothing | Outcome::Direct => Ok(Value::Null),
+    }
+}

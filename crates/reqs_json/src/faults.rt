@@ -1,0 +1,239 @@
+//! Faults as objects.
+
+ghost use Rattle.std.specs.Prelude.{◌≡◌, ◌++◌, map, codes, None, IfOk, option_map, string_bytes};
+ghost use Rattle.serde_json.specs.Data.{string};
+ghost use Rattle.serde_json.specs.View.{view};
+ghost use Rattle.reqs_ends.specs.Ends.{of_input};
+ghost use Rattle.reqs_ends.specs.declared.fault.RunFault.TheVariants.{Memory};
+ghost use Rattle.reqs_json.specs.Lines.{number_of, value_or_null, line_of};
+ghost use Rattle.reqs_json.specs.Faults.{kind_of, input_in, line_in, start_in, length_in, place_in};
+ghost use Rattle.reqs_json.specs.Faults.{nowhere, usage_value};
+ghost use Rattle.reqs_json.specs.Faults.{error_members, error_value, fault_value, IsFaultLine};
+
+use crate::lines::line_of;
+use crate::messages::message_of;
+use reqs_ends::{Input, RunFault};
+use serde_json::{Value, json};
+use std::alloc::{AllocError, Global};
+
+/// Where a fault is in its input.
+#[derive(Clone, Copy)]
+pub(crate) struct Place {
+    /// The number of the line, from 1.
+    pub(crate) line: Option<usize>,
+    /// The byte, from 0, in what is read of the line, or in the input.
+    pub(crate) start: Option<usize>,
+    /// How many bytes are at fault.
+    pub(crate) len: Option<usize>,
+}
+
+/// A fault as an object on a line: its kind, what is said of it, and its place, of which null is what it
+/// doesn't have. The paths are those of the inputs, in the order of the command line. Linear in the text.
+pub fn fault_line(alloc: Global, fault: &RunFault, paths: &[&str]) -> Result<String, AllocError>
+    ensures { IfOk result (λ text.
+        IsFaultLine (of_input (map (λ p. p.now) paths.now)) fault.now (string_bytes text)) }
+{
+    let message = message_of(alloc, fault)?;
+    let path = path_of(fault, paths);
+    error_line(
+        alloc,
+        kind_of(fault),
+        message.as_str(),
+        path,
+        place_in(fault),
+    )
+}
+
+/// A command line that is refused for what isn't in its words, as an object on a line, with this message.
+pub fn usage_line(alloc: Global, message: &str) -> Result<String, AllocError>
+    ensures { IfOk result (λ text. string_bytes text ≡ line_of (usage_value message.now)) }
+{
+    let place = Place {
+        line: None,
+        start: None,
+        len: None,
+    };
+    error_line(alloc, "command-line", message, None, place)
+}
+
+/// Want of memory as an object on a line, for which no memory is needed.
+pub fn memory_line() -> &'static str
+    ensures { result.now ≡ line_of (error_value (kind_of Memory) (codes "out of memory") None nowhere) }
+{
+    "{\"error\":{\"kind\":\"memory\",\"length\":null,\"line\":null,\"message\":\"out of memory\",\"path\":null,\"start\":null}}\n"
+}
+
+/// A fault of this kind, of which this is said, on a line.
+fn error_line(
+    alloc: Global,
+    kind: &str,
+    message: &str,
+    path: Option<&str>,
+    place: Place,
+) -> Result<String, AllocError>
+    ensures { IfOk result (λ text. string_bytes text
+        ≡ line_of (error_value kind.now message.now (option_map (λ p. p.now) path.entry) place)) }
+{
+    let object = error_value(alloc, kind, message, path, place)?;
+    line_of(alloc, &object)
+}
+
+/// The same as a value.
+fn error_value(
+    alloc: Global,
+    kind: &str,
+    message: &str,
+    path: Option<&str>,
+    place: Place,
+) -> Result<Value, AllocError>
+    ensures { IfOk result (λ value. view value
+        ≡ error_value kind.now message.now (option_map (λ p. p.now) path.entry) place) }
+{
+    let members = error_members(alloc, kind, message, path, place)?;
+    json!(in alloc; {"error": members})
+}
+
+/// What is told of it.
+fn error_members(
+    alloc: Global,
+    kind: &str,
+    message: &str,
+    path: Option<&str>,
+    place: Place,
+) -> Result<Value, AllocError>
+    ensures { IfOk result (λ value. view value
+        ≡ error_members kind.now message.now (option_map (λ p. p.now) path.entry) place) }
+{
+    let path = text_or_null(alloc, path)?;
+    json!(in alloc; {
+        "kind": kind,
+        "length": number_or_null(place.len),
+        "line": number_or_null(place.line),
+        "message": message,
+        "path": path,
+        "start": number_or_null(place.start),
+    })
+}
+
+/// A number, or null.
+fn number_or_null(number: Option<usize>) -> Value
+    ensures { view result ≡ value_or_null number_of number }
+{
+    match number {
+        Some(number) => Value::from(number),
+        None => Value::Null,
+    }
+}
+
+/// A text, or null.
+fn text_or_null(alloc: Global, text: Option<&str>) -> Result<Value, AllocError>
+    ensures { IfOk result (λ value.
+        view value ≡ value_or_null string (option_map (λ t. t.now) text.entry)) }
+{
+    match text {
+        Some(text) => Value::try_from_str(alloc, text),
+        None => Ok(Value::Null),
+    }
+}
+
+/// The path of the input that a fault is of.
+fn path_of<'a>(fault: &RunFault, paths: &[&'a str]) -> Option<&'a str>
+    ensures { option_map (λ p. p.now) result
+        ≡ option_map (of_input (map (λ p. p.now) paths.now)) (input_in fault.now) }
+{
+    match input_in(fault) {
+        Some(input) => Some(input.path(paths)),
+        None => None,
+    }
+}
+
+/// The input that a fault is of.
+fn input_in(fault: &RunFault) -> Option<Input>
+    ensures { result ≡ input_in fault.now }
+{
+    match fault {
+        RunFault::Write | RunFault::Memory | RunFault::Extra { .. } => None,
+        RunFault::Read { input }
+        | RunFault::TooLong { input }
+        | RunFault::NotText { input, .. }
+        | RunFault::Requirement { input, .. }
+        | RunFault::NumberAtEnd { input, .. }
+        | RunFault::Refused { input, .. }
+        | RunFault::Json { input }
+        | RunFault::Float { input }
+        | RunFault::Shape { input, .. }
+        | RunFault::Member { input, .. }
+        | RunFault::Version { input, .. }
+        | RunFault::Candidate { input, .. }
+        | RunFault::TooManyCases { input, .. } => Some(*input),
+    }
+}
+
+/// Where a fault is in its input.
+fn place_in(fault: &RunFault) -> Place
+    ensures { result ≡ place_in fault.now }
+{
+    Place {
+        line: line_in(fault),
+        start: start_in(fault),
+        len: length_in(fault),
+    }
+}
+
+/// The line that is at fault.
+fn line_in(fault: &RunFault) -> Option<usize>
+    ensures { result ≡ line_in fault.now }
+{
+    match fault {
+        RunFault::Requirement { number, .. }
+        | RunFault::NumberAtEnd { number, .. }
+        | RunFault::Refused { number, .. }
+        | RunFault::Candidate { number, .. } => Some(*number),
+        _ => None,
+    }
+}
+
+/// The byte at which a fault begins.
+fn start_in(fault: &RunFault) -> Option<usize>
+    ensures { result ≡ start_in fault.now }
+{
+    match fault {
+        RunFault::NotText { offset, .. } => Some(*offset),
+        RunFault::Requirement { error, .. } => Some(error.start()),
+        _ => None,
+    }
+}
+
+/// How many bytes are at fault.
+fn length_in(fault: &RunFault) -> Option<usize>
+    ensures { result ≡ length_in fault.now }
+{
+    match fault {
+        RunFault::Requirement { error, .. } => Some(error.len()),
+        _ => None,
+    }
+}
+
+/// The kind of a fault, in a word.
+fn kind_of(fault: &RunFault) -> &'static str
+    ensures { result.now ≡ kind_of fault.now }
+{
+    match fault {
+        RunFault::Read { .. } => "read",
+        RunFault::Write => "write",
+        RunFault::Memory => "memory",
+        RunFault::TooLong { .. } => "too-long",
+        RunFault::NotText { .. } => "not-text",
+        RunFault::Extra { .. } => "extra",
+        RunFault::Requirement { .. } => "requirement",
+        RunFault::NumberAtEnd { .. } => "number-at-end",
+        RunFault::Refused { .. } => "refused",
+        RunFault::Json { .. } => "json",
+        RunFault::Float { .. } => "float",
+        RunFault::Shape { .. } => "shape",
+        RunFault::Member { .. } => "member",
+        RunFault::Version { .. } => "version",
+        RunFault::Candidate { .. } => "candidate",
+        RunFault::TooManyCases { .. } => "too-many-cases",
+    }
+}

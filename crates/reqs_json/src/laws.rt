@@ -1,0 +1,14 @@
+//! Laws over the definitions. The functions do nothing: each one's contract is its law.
+
+ghost use Rattle.std.specs.Prelude.{◌≡◌, ℕ, List, Some};
+ghost use Rattle.std.specs.Fmt.{◌++?◌};
+ghost use Rattle.reqs_ends.specs.FaultText.{fault_text};
+ghost use Rattle.reqs_ends.specs.declared.fault.Input.{Input};
+ghost use Rattle.reqs_ends.specs.declared.fault.RunFault.{RunFault};
+ghost use Rattle.reqs_json.specs.Faults.{message_of, place_text};
+
+/// The text of a fault is its message behind its place.
+pub fn a_text_is_the_message_behind_a_place()
+    ensures { (said : Input → List ℕ) (fault : RunFault) →
+        fault_text said fault ≡ (Some (place_text said fault) ++? message_of fault) }
+{}

@@ -1,0 +1,9 @@
+use Rattle.reqs_json.proofs.OneLine.{line_is}
+use Rattle.reqs_lists.proofs.Plain.{plain_normal}
+use Rattle.reqs_lists.proofs.normalizing.normal_line.Goals as goal
+
+pub line_of-requires : goal.line_of-requires
+line_of-requires c = rw c.in_ok-object.ensures (plain_normal c.args.text.now)
+
+pub returns : goal.returns
+returns c = line_is c.line_of.result _ _ c.in_ok-object.ensures c.line_of.ensures
