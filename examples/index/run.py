@@ -98,10 +98,12 @@ def by_dask(workers: int, scheduler: Optional[str], work: Work, pieces: List[int
     from distributed import Client, LocalCluster, as_completed
 
     dask.config.set({"distributed.scheduler.allowed-failures": 0})
-    own = {"host": "127.0.0.1", "dashboard_address": None, "memory_limit": None, "silence_logs": logging.CRITICAL}
+    own: Dict[str, Any] = {"host": "127.0.0.1"}
+    own.update(dashboard_address="127.0.0.1:0", worker_dashboard_address="127.0.0.1:0")
+    own.update(n_workers=workers, threads_per_worker=1, memory_limit=None, silence_logs=logging.CRITICAL)
     with contextlib.ExitStack() as stack:
         if not scheduler:
-            cluster = stack.enter_context(LocalCluster(n_workers=workers, threads_per_worker=1, **own))
+            cluster = stack.enter_context(LocalCluster(**own))
         client = stack.enter_context(Client(scheduler or cluster))
         for _, result in as_completed(client.map(work, pieces, pure=False), with_results=True):
             yield result
@@ -120,21 +122,26 @@ def answered(work: Work, pieces: List[int], engine: Engine) -> Dict[int, List[in
             print(f"{NAME}: {count} of {len(pieces)} pieces, {time.monotonic() - began:.1f} s", file=sys.stderr, flush=True)
     if refused:
         raise Failed(min(refused)[3], 2)
+    if len(found) < len(pieces) or len({len(it) for it in found.values()}) != 1:
+        raise Failed("not all pieces were answered for the same environments", 3)
     return found
 
 
 def merge(folder: str, pieces: List[int], sizes: Dict[int, List[int]]) -> None:
     """Makes the file of each environment of the pieces' answers, which follow one another by name."""
-    ends = {it: 0 for it in pieces}
+    paths = {it: os.path.join(folder, f"{it}.answer") for it in pieces}
+    begins = dict.fromkeys(pieces, 0)
     for number in range(len(sizes[pieces[0]])):
         with open(os.path.join(folder, f"env-{number + 1}.txt"), "wb") as whole:
             for piece in pieces:
-                with open(os.path.join(folder, f"{piece}.answer"), "rb") as part:
-                    part.seek(ends[piece])
-                    whole.write(part.read(sizes[piece][number]))
-                ends[piece] += sizes[piece][number]
-    for piece in pieces:
-        os.remove(os.path.join(folder, f"{piece}.answer"))
+                size = sizes[piece][number]
+                with open(paths[piece], "rb") as part:
+                    part.seek(begins[piece])
+                    if whole.write(part.read(size)) != size:
+                        raise Failed(f"{paths[piece]} is too short", 3)
+                begins[piece] += size
+    for path in paths.values():
+        os.remove(path)
 
 
 def run(folder: str, environments: str, extras: List[str], limit: int, out: str, engine: Engine) -> None:
@@ -170,17 +177,25 @@ def engine_of(words: argparse.Namespace) -> Engine:
     return functools.partial(by_processes, words.workers) if words.workers else alone
 
 
+def number(word: str) -> int:
+    if not word.isdecimal():
+        raise argparse.ArgumentTypeError(f"{word} is no number")
+    return int(word)
+
+
 def words_of() -> argparse.Namespace:
-    words = argparse.ArgumentParser(prog=NAME, description=__doc__, formatter_class=argparse.RawDescriptionHelpFormatter)
+    how = argparse.RawDescriptionHelpFormatter
+    words = argparse.ArgumentParser(prog=NAME, description=__doc__, formatter_class=how)
     words.add_argument("pieces", metavar="PIECES", help="the folder that split.py made")
     words.add_argument("environments", metavar="ENVIRONMENTS", help="a JSON list of environments")
     words.add_argument("out", metavar="OUT", help="the folder of the answers")
     by = words.add_mutually_exclusive_group()
-    by.add_argument("--workers", type=int, default=0, metavar="N", help="so many processes on this machine")
+    by.add_argument("--workers", type=number, default=0, metavar="N", help="so many processes on this machine")
     by.add_argument("--scheduler", metavar="ADDRESS", help="a scheduler of Dask, as tcp://10.0.0.1:8786")
     words.add_argument("--without-dask", action="store_true", help="processes of concurrent.futures in any case")
-    words.add_argument("--extra", action="append", default=[], metavar="NAME", help="an extra that is asked for; may be repeated")
-    words.add_argument("--limit", type=int, default=4096, metavar="N", help="how many cases a package may have (%(default)s)")
+    of_extra, of_limit = "an extra that is asked for; may be repeated", "how many cases a package may have (%(default)s)"
+    words.add_argument("--extra", action="append", default=[], metavar="NAME", help=of_extra)
+    words.add_argument("--limit", type=number, default=4096, metavar="N", help=of_limit)
     return words.parse_args()
 
 

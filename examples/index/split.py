@@ -25,7 +25,7 @@ import re
 import shutil
 import sys
 import tempfile
-from typing import Callable, Dict, Iterator, List, Tuple
+from typing import Callable, Dict, Iterator, List, Tuple, cast
 
 NAME = "split.py"
 LISTS = ("requirements", "candidates")
@@ -36,19 +36,23 @@ WIDTH = 8
 
 # White space, as the library takes it, and behind it the name of a package, if one stands there.
 WHITE = rb"(?:[\t-\r ]|\xc2[\x85\xa0]|\xe1\x9a\x80|\xe2\x80[\x80-\x8a\xa8\xa9\xaf]|\xe2\x81\x9f|\xe3\x80\x80)*"
-FRONT = re.compile(WHITE + rb"([A-Za-z0-9._-]*)")
+front_of = cast(Callable[[bytes], "re.Match[bytes]"], re.compile(WHITE + rb"([A-Za-z0-9._-]*)").match)
+# A name's normal form but for runs of `-`.
+NORMAL = bytes.maketrans(b"ABCDEFGHIJKLMNOPQRSTUVWXYZ._", b"abcdefghijklmnopqrstuvwxyz--")
 
-# A line's number, the normal name of its package, and its bytes with the line's end.
-Line = Tuple[int, bytes, bytes]
+# A line's number, in WIDTH bytes; the normal name of its package; its bytes with the line's end.
+Line = Tuple[bytes, bytes, bytes]
 
 
 class Refused(Exception):
     """Why there are no pieces."""
 
 
-@functools.lru_cache(1 << 16)
 def normal_name(name: bytes) -> bytes:
-    return re.sub(rb"[-_.]+", b"-", name).lower()
+    found = name.translate(NORMAL)
+    while b"--" in found:
+        found = found.replace(b"--", b"-")
+    return found
 
 
 def lines_of(path: str) -> Iterator[Line]:
@@ -56,23 +60,23 @@ def lines_of(path: str) -> Iterator[Line]:
     one of these counts."""
     offset, is_refused = 0, False
     with open(path, "rb") as file:
-        for number, line in enumerate(iter(lambda: file.readline(LIMIT + 1), b""), 1):
-            if len(line) > LIMIT:
-                raise Refused(f"{path}: line {number}: longer than {LIMIT} bytes")
-            check_text(path, offset, line)
+        for number, line in enumerate(iter(functools.partial(file.readline, LIMIT + 1), b""), 1):
+            if not line.isascii() or len(line) > LIMIT:
+                check_line(path, number, offset, line)
             offset += len(line)
-            front = FRONT.match(line)
-            assert front is not None
+            front = front_of(line)
             if front[1]:
-                yield number, normal_name(front[1]), line
+                yield number.to_bytes(WIDTH, "little"), normal_name(front[1]), line
             elif not is_refused and line[front.end() : front.end() + 1] not in (b"", b"#"):
                 is_refused = True
-                yield number, b"", line
+                yield number.to_bytes(WIDTH, "little"), b"", line
 
 
-def check_text(path: str, offset: int, line: bytes) -> None:
+def check_line(path: str, number: int, offset: int, line: bytes) -> None:
+    if len(line) > LIMIT:
+        raise Refused(f"{path}: line {number}: longer than {LIMIT} bytes")
     try:
-        line.isascii() or line.decode()
+        line.decode()
     except UnicodeDecodeError as error:
         raise Refused(f"{path}: not UTF-8 at byte {offset + error.start}") from None
 
@@ -80,24 +84,20 @@ def check_text(path: str, offset: int, line: bytes) -> None:
 class Piece:
     """Some packages' lines of both lists, in files of a folder."""
 
-    def __init__(self, folder: str, number: int) -> None:
+    def __init__(self, folder: str, number: int, name: bytes) -> None:
         self.number = number
+        self.first = self.last = name
         self.paths = [os.path.join(folder, f"{number}.{it}") for it in LISTS]
         self.files = [(open(it, "wb"), open(f"{it}.lines", "wb")) for it in self.paths]
         self.sizes = [0, 0]
-        # the least and the greatest name
-        self.names = (b"", b"")
 
-    def add(self, kind: int, line: Line) -> None:
-        number, name, text = line
-        if not any(self.sizes):
-            self.names = (name, name)
-        elif not self.names[0] <= name <= self.names[1]:
-            self.names = (min(name, self.names[0]), max(name, self.names[1]))
+    def add(self, kind: int, number: bytes, name: bytes, text: bytes) -> None:
+        if not self.first <= name <= self.last:
+            self.first, self.last = min(name, self.first), max(name, self.last)
         self.sizes[kind] += len(text)
         texts, numbers = self.files[kind]
         texts.write(text)
-        numbers.write(number.to_bytes(WIDTH, "little"))
+        numbers.write(number)
 
     def close(self) -> None:
         for file in (it for pair in self.files for it in pair):
@@ -111,14 +111,12 @@ class Piece:
     def lines(self, kind: int) -> Iterator[Line]:
         with open(self.paths[kind], "rb") as texts, open(f"{self.paths[kind]}.lines", "rb") as numbers:
             for text in texts:
-                front = FRONT.match(text)
-                assert front is not None
-                yield int.from_bytes(numbers.read(WIDTH), "little"), normal_name(front[1]), text
+                yield numbers.read(WIDTH), normal_name(front_of(text)[1]), text
 
     def told(self) -> Dict[str, object]:
         """What the index says of it."""
-        first, last = (it.decode() for it in self.names)
-        return {"piece": self.number, "first": first, "last": last, **dict(zip(LISTS, self.sizes))}
+        names = {"first": self.first.decode(), "last": self.last.decode()}
+        return {"piece": self.number, **names, **dict(zip(LISTS, self.sizes))}
 
 
 class Splitter:
@@ -127,22 +125,22 @@ class Splitter:
     def __init__(self, folder: str, most: int) -> None:
         self.folder, self.most, self.made = folder, most, 0
 
-    def new_piece(self) -> Piece:
+    def new_piece(self, name: bytes = b"") -> Piece:
+        """A piece for lines of this name, and of more."""
         self.made += 1
-        return Piece(self.folder, self.made)
+        return Piece(self.folder, self.made, name)
 
     def pieces(self, lines: Callable[[int], Iterator[Line]], letters: int) -> Iterator[Piece]:
         """The pieces of two lists, by name. All names in these have all but the last of so many letters in common."""
         parts = self.parts(lines, letters)
         for piece in (parts[it] for it in sorted(parts)):
-            first, last = piece.names
             if max(piece.sizes) <= self.most:
                 yield piece
-            elif first == last:
+            elif piece.first == piece.last:
                 check_size(piece)
                 yield piece
             else:
-                yield from self.pieces(piece.lines, len(os.path.commonprefix((first, last))) + 1)
+                yield from self.pieces(piece.lines, len(os.path.commonprefix((piece.first, piece.last))) + 1)
                 piece.remove()
 
     def parts(self, lines: Callable[[int], Iterator[Line]], letters: int) -> Dict[bytes, Piece]:
@@ -150,11 +148,11 @@ class Splitter:
         found: Dict[bytes, Piece] = {}
         try:
             for kind in range(len(LISTS)):
-                for line in lines(kind):
-                    key = line[1][:letters]
+                for number, name, text in lines(kind):
+                    key = name[:letters]
                     if key not in found:
-                        found[key] = self.new_piece()
-                    found[key].add(kind, line)
+                        found[key] = self.new_piece(name)
+                    found[key].add(kind, number, name, text)
         finally:
             for piece in found.values():
                 piece.close()
@@ -169,7 +167,7 @@ class Splitter:
 def check_size(piece: Piece) -> None:
     for kind, size in zip(LISTS, piece.sizes):
         if size > LIMIT:
-            raise Refused(f"{kind}: the lines of {piece.names[0].decode()} have {size} bytes, and more than {LIMIT}")
+            raise Refused(f"{kind}: the lines of {piece.first.decode()} have {size} bytes, and more than {LIMIT}")
 
 
 def split(paths: List[str], folder: str, most: int) -> int:
