@@ -56,6 +56,7 @@ def parts(more):
     of_pack = ("LICENSE-APACHE", "LICENSE-BSD", "build", "examples", "include", "pack", "tools")
     of_python = (*of_pack, "docs/PYTHON.md", "pyproject.toml", "python", "tests/python.sh")
     of_deb = (*of_pack, "install", "share", "tests/deb.sh")
+    of_index = ("bench/workload.py", "build", "examples/index", "python", "tests/index.py", "tools")
     asked = [f"crates/{it}/{of}" for it in QUESTIONS for of in ("data", "stdout")]
     return [
         Part("layout", [*python, "gate/layout.py"]),
@@ -73,6 +74,7 @@ def parts(more):
         Part("refused memory", ["bash", "tests/refused.sh"], ["reqs_cli", *QUESTIONS], [*of_reqs, *asked]),
         Part("library for C", ["bash", "tests/c.sh"], ["reqs_c"], [*of_c, "examples", *(f"tests/{it}" for it in OF_C)]),
         Part("Python package", ["bash", "tests/python.sh"], ["reqs_c"], of_python),
+        Part("lists in pieces", [*python, "tests/index.py"], ["reqs_c", "reqs_cli"], of_index),
         Part("Debian package", ["bash", "tests/deb.sh"], ["reqs_c", "reqs_cli"], of_deb),
         Part("Rust crate", ["bash", "tests/rust.sh"], ["reqs_c"], [*of_c, "rust", "tests/rust.sh", "tests/rust"]),
         Part("faults", [*python, "gate/faults.py"], ["underline"], ["gate"]),

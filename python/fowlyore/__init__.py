@@ -9,7 +9,7 @@
 
 from .errors import Refused
 from .distributions import installed
-from .lists import Comparison, Conflict, InvalidInput, Row, check, conflicts, matrix, normal, same
+from .lists import Comparison, Conflict, InvalidInput, Row, check, conflicts, matrix, matrix_texts, normal, same
 from .markers import InvalidMarker, Marker, UndefinedComparison, UndefinedEnvironmentName, default_environment
 from .requirements import InvalidRequirement, Requirement
 from .specifiers import InvalidSpecifier, Specifier, SpecifierSet
@@ -38,6 +38,7 @@ __all__ = [
     "default_environment",
     "installed",
     "matrix",
+    "matrix_texts",
     "normal",
     "parse",
     "same",

@@ -14,6 +14,8 @@ ANSWERED, DIFFERENT, REFUSED, MEMORY = 0, 1, 2, 3
 KEY_REFUSED = -2
 # The bytes of a buffer, which nearly every answer about one text fits.
 ROOM = 4096
+# How much more is given for an answer about many environments before its length is known.
+MOST_ROOM = 1 << 26
 
 
 class Reply(ctypes.Structure):
@@ -208,7 +210,8 @@ def check(requirements: bytes, environment: bytes, candidates: bytes, extras: by
 
 def matrix(requirements: bytes, environments: bytes, candidates: bytes, extras: bytes, limit: int) -> str:
     """What `reqs matrix` prints."""
-    size = _size_for(requirements, environments)
+    # (each environment has this member, and a row is seldom longer than the line that asks for it)
+    size = ROOM + min(len(requirements) * environments.count(b'"sys_platform"'), MOST_ROOM)
     return _answer(_matrix, requirements, environments, candidates, extras, limit=limit, size=size).decode()
 
 

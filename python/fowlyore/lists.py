@@ -4,6 +4,7 @@ A list is given in one of three ways: a str or bytes is its text, a path (`pathl
 iterable has its lines: texts, or `Requirement`s.
 """
 
+import json
 import os
 import re
 from dataclasses import dataclass
@@ -17,7 +18,7 @@ from .requirements import Requirement
 from .version import Version
 
 __all__ = [
-    "Comparison", "Conflict", "InvalidInput", "Row", "check", "conflicts", "matrix", "normal", "same",
+    "Comparison", "Conflict", "InvalidInput", "Row", "check", "conflicts", "matrix", "matrix_texts", "normal", "same",
 ]  # fmt: skip
 
 LIMIT = 4096
@@ -236,12 +237,42 @@ def matrix(
     >>> matrix("colorama ; sys_platform == 'win32'", [linux, windows], {"colorama": ["0.4.6"]})
     [[], [Row(name='colorama', extras=(), outcome='0.4.6')]]
     """
+    return [rows_of(it) for it in matrix_texts(requirements, environments, candidates, extras, limit)]
+
+
+def matrix_texts(
+    requirements: Requirements,
+    environments: Environments,
+    candidates: Candidates = None,
+    extras: Extras = (),
+    limit: int = LIMIT,
+) -> List[str]:
+    """The rows of `matrix` as one text for each environment, which is what `reqs check` prints for it.
+
+    Of large answers that takes a small part of the time and of the memory.
+
+    >>> environment = environment_json(completed(None)).decode()
+    >>> matrix_texts("b>=1\\na", f"[{environment}, {environment}]", {"a": ["1"], "b": []})
+    ['a 1\\nb none\\n', 'a 1\\nb none\\n']
+    """
     inputs = (
         requirements_input(requirements), environments_input(environments), candidates_input(candidates),
         extras_input(extras),
     )  # fmt: skip
-    answer = answered(_native.matrix, *inputs, limit=limit)
-    return [rows_of(it) for it in re.split(r"^env [0-9]+\n", answer, flags=re.M)[1:]]
+    texts = texts_of(answered(_native.matrix, *inputs, limit=limit))
+    listed = json.loads(inputs[1].text)
+    if len(texts) == len(listed):
+        return texts
+    # (a row of the package `env` may look like the line before an environment's rows)
+    each = (Input("environments", json.dumps(it).encode()) for it in listed)
+    return [answered(_native.check, inputs[0], it, *inputs[2:]) for it in each]
+
+
+def texts_of(answer: str) -> List[str]:
+    """What stands behind each line of `env` with a number."""
+    found = [it.span() for it in re.finditer(r"\nenv [0-9]+(?=\n)", f"\n{answer}")]
+    ends = [*(begin for begin, _ in found[1:]), len(answer)]
+    return [answer[begin:end] for (_, begin), end in zip(found, ends)]
 
 
 def same(left: Requirements, right: Requirements, limit: int = LIMIT) -> Comparison:

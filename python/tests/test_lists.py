@@ -71,6 +71,27 @@ class Answers(unittest.TestCase):
         self.assertEqual([printed(it) for it in answers], ["", "a 1\n"])
         self.assertEqual(fowlyore.matrix(["a"], [], {"a": ["1"]}), [])
 
+    def test_matrix_of_env(self):
+        """Rows of the package `env` that look like the line before an environment's rows."""
+        environments = json.loads((EXAMPLES / "first" / "environments.json").read_text())
+        lines = ["env", "ENV<2 ; sys_platform == 'win32'", "f ; sys_platform == 'linux'"]
+        for versions, wanted in ((["1", "2"], ["env 2\nf none\n", "env 1\n"]), (["1.0"], ["env 1.0\nf none\n", "env 1.0\n"])):
+            self.assertEqual(fowlyore.matrix_texts(lines, environments, {"env": versions}), wanted)
+            self.assertEqual([printed(it) for it in fowlyore.matrix(lines, environments, {"env": versions})], wanted)
+
+    def test_matrix_texts(self):
+        folder = EXAMPLES / "matrix"
+        inputs = [folder / it for it in ("requirements.txt", "environments.json", "candidates.txt")]
+        for extras in ((), ("test",)):
+            wanted = [printed(it) for it in fowlyore.matrix(*inputs, extras)]
+            self.assertEqual(fowlyore.matrix_texts(*inputs, extras), wanted)
+        self.assertEqual(fowlyore.matrix_texts("a", "[]", ""), [])
+        # an answer that is longer than its inputs
+        names = [f"p{it}" for it in range(100, 200)]
+        environment = json.loads((EXAMPLES / "first" / "environment.json").read_text())
+        wanted = "".join(f"{it} none\n" for it in names)
+        self.assertEqual(fowlyore.matrix_texts(names, [environment] * 300, ""), [wanted] * 300)
+
     def test_same(self):
         before, after, rewritten = (EXAMPLES / "lock" / f"{it}.txt" for it in ("before", "after", "rewritten"))
         self.assertTrue(fowlyore.same(before, rewritten))
