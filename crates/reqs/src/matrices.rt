@@ -281,7 +281,7 @@ fn objects_among<F: Fn(&Version, bool) -> bool>(
     ensures { IfOk result (λ text. (said : List LineRecord) → KeepsAll interner.now.nodes table.old said →
         IsMatrixIn Json on_request extras.now said candidates.now environments.now text.whole) }
 {
-    let mut text = Pieces::new(alloc);
+    let mut text = Pieces::new(alloc, environments.len().saturating_add(2));
     open_object(alloc, &mut text)?;
     for (place, environment) in environments.iter().enumerate() {
         let answer = table.answer_among(alloc, interner, environment, extras, runs, admission)?;
