@@ -646,7 +646,7 @@ wants "--version" 0 "reqs 0.1.0$n" ""
 built=$top/crates/reqs_cli/out/reqs_cli
 (exec -a /else/where "$built" check --help) 2>err </dev/null | sed -n 's/^Usage: //p' >out
 status=${PIPESTATUS[0]}
-wants "help under another name" 0 "reqs check <REQS> <ENV> <CANDIDATES> [EXTRA]...$n" ""
+wants "help under another name" 0 "reqs check [OPTIONS] <REQS> <ENV> <CANDIDATES> [EXTRA]...$n" ""
 run check R E $'caf\xe9'
 wants "a path that isn't UTF-8" 2 "" "reqs: argument caf"$'\xef\xbf\xbd'" is not UTF-8$n"
 run check R E "$(printf 'x%.0s' {1..3000})"

@@ -11,7 +11,7 @@ for itself. Where an input is refused and its text can't be made, the text of wa
 the refusal. The last run gives the answer with ample memory.
 
 The commands are `reqs check` on each example and on lists that are refused, `reqs matrix`, `reqs same`, `reqs conflicts`
-and `reqs normal`, the program's help, and the questions of crates/pep440_vectors and crates/pep508_vectors and every eighth of crates/pep508_marker_vectors, one a
+and `reqs normal`, each of these asked for an object too, the program's help, and the questions of crates/pep440_vectors and crates/pep508_vectors and every eighth of crates/pep508_marker_vectors, one a
 run; each stands with the answer that it has with ample memory. To questions of KEPT the program goes on: it makes a call
 that was refused memory again, and answers by it and by the trees that it made before. There some run has to give the
 whole answer after a refusal. tests/least.txt says how many commands and questions there are at least. The last line is
@@ -26,12 +26,16 @@ import subprocess
 import sys
 import tempfile
 
+import objects
+
 TOP = os.path.dirname(os.path.dirname(os.path.abspath(__file__)))
 REQS = os.path.join(TOP, "crates", "reqs_cli", "out", "reqs_cli")
 # Of the questions of each program every so many-th is asked: those on markers are many, and much alike.
 VECTORS = {"pep440_vectors": 1, "pep508_vectors": 1, "pep508_marker_vectors": 8}
 # Questions that are always asked, of a call that is made again where it was refused memory.
 KEPT = "keeps"
+# What is said where there is no memory and an object is asked for.
+NO_MEMORY = objects.line_of({"error": objects.object_of_fault("reqs: out of memory\n")}).encode()
 # Every request after the first that is refused.
 ALL = 2 ** 62
 # A command that asks more often than this doesn't end.
@@ -45,6 +49,11 @@ def program(name):
 
 # How each program ends where memory is refused.
 WANT = {REQS: (3, b"reqs: out of memory\n"), **{program(it): (1, b"Error: Kind(OutOfMemory)\n") for it in VECTORS}}
+
+
+def fault_line(text):
+    """The object of a fault, by its text."""
+    return objects.line_of({"error": objects.object_of_fault(text.decode())}).encode()
 
 
 # What is said of some of the commands below.
@@ -101,9 +110,10 @@ def try_command(library, kind, words, folder, wanted):
         tally.faults.append(f"{label}: with ample memory: {ample}, not {wanted}")
         return tally
     status, text = WANT[words[0]]
-    lacking, refused = [(status, b"", text)], 0
+    texts = [text, NO_MEMORY] if "json" in words else [text]
+    lacking, refused = [(status, b"", it) for it in texts], 0
     if wanted[0] == INPUT_REFUSED:
-        lacking.append((INPUT_REFUSED, b"", text))
+        lacking += [(INPUT_REFUSED, b"", it) for it in texts]
     for number in range(1, MOST_REQUESTS):
         is_met = False
         for last in (number, ALL):
@@ -160,6 +170,7 @@ def commands(room):
     yield "too many cases:", ["matrix", *environments, "--limit", "0"], room, (2, b"", cases)
     yield "no list of environments:", ["matrix", *files], room, (2, b"", b"reqs: environment.json: not a list\n")
     yield from commands_on_lists(room)
+    yield from commands_for_objects(room, files)
     yield "a line that is no requirement:", ["check", "unread", *files[1:]], room, (2, b"", UNREAD)
     yield "a candidate's name:", ["check", *files[:2], "name"], room, (2, b"", b"reqs: name: line 2: name\n")
     yield "a candidate's version:", ["check", *files[:2], "version"], room, (2, b"", b"reqs: version: line 2: version\n")
@@ -201,6 +212,26 @@ def commands_on_lists(room):
               b"x==1 ; extra == 'dev' or os_name == 'nt'\n")
     yield "normal:", ["normal", "LEFT"], room, (0, normal, b"")
     yield "normal, a URL:", ["normal", "URL"], room, (2, b"", b"reqs: URL: line 1: URL\n")
+
+
+def commands_for_objects(room, files):
+    """Commands that are asked for objects, in the same form; they stand on the files of the others."""
+    packages = b'"packages":[{"extras":[],"name":"foo-bar","outcome":"version","version":"1.19"}]}'
+    environments, asked = [files[0], "environments", files[2]], ["--format", "json"]
+    yield "an object:", ["check", *files, *asked], room, (0, b"{" + packages + b"\n", b"")
+    numbered = b'{"number":1,' + packages + b',{"number":2,' + packages
+    yield "matrix, an object:", ["matrix", *environments, *asked], room, (0, b'{"environments":[' + numbered + b"]}\n", b"")
+    yield "same, an object:", ["same", "APART", "RIGHT", *asked], room, (
+        1, b'{"marker":null,"package":"bar","same":false}\n', b"")
+    yield "conflicts, an object:", ["conflicts", "APART", *asked], room, (
+        0, b'{"conflicts":[{"lines":[2],"package":"bar","prerelease":true},'
+           b'{"lines":[1,3],"package":"foo","prerelease":false}]}\n', b"")
+    yield "normal, an object:", ["normal", "OTHER", *asked], room, (
+        0, b'{"requirements":["foo-bar>=1,<2 ; python_full_version >= \'3.8\'"]}\n', b"")
+    yield "an object of a line:", ["check", "unread", *files[1:], *asked], room, (2, b"", fault_line(UNREAD))
+    yield "an object of no file:", ["normal", "absent", *asked], room, (3, b"", fault_line(b"reqs: absent: read fault\n"))
+    twice = fault_line(b"reqs: standard input (-) can be one input alone\n")
+    yield "an object of standard input:", ["same", "-", "-", *asked], room, (2, b"", twice)
 
 
 def tasks(library, room):
