@@ -6,6 +6,7 @@ one is never taken; what was not taken for longest goes first once all is more t
 decides what a gate that reads it takes for proved.
 """
 
+import errno
 import os
 import shutil
 import tarfile
@@ -16,6 +17,7 @@ import zlib
 MOST_BYTES = 6_000_000_000
 # A file that was being written for longer than this was left by a run that was killed.
 LEFT_OVER = 6 * 3600
+FULL = (errno.ENOSPC, errno.EDQUOT)
 
 
 def default_folder():
@@ -59,8 +61,10 @@ class Store:
                     os.rename(os.path.join(room, it), os.path.join(folder, it))
             os.utime(path)
             return True
-        except (OSError, EOFError, tarfile.TarError, zlib.error):
-            remove(path)
+        except (OSError, EOFError, tarfile.TarError, zlib.error) as error:
+            # (a full disk says nothing of the entry)
+            if getattr(error, "errno", None) not in FULL:
+                remove(path)
             return False
 
     def keep(self, name, folder, parts):
