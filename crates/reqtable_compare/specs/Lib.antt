@@ -8,3 +8,4 @@ pub mod Totals
 pub mod Pairs
 pub mod Differences
 pub mod Answered
+pub mod Errors

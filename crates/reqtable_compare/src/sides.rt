@@ -1,5 +1,8 @@
 //! What comes of comparing two lists.
 
+ghost use Rattle.std.specs.Prelude.{◌≡◌};
+ghost use Rattle.reqtable_compare.specs.Errors.{cause_text, side_text};
+
 use pep508_name::PackageName;
 use pep508_tree::MarkerTree;
 use std::alloc::{AllocError, AllocFailed};
@@ -28,7 +31,9 @@ pub enum LineCause {
 
 impl LineCause {
     /// The words for it.
-    pub fn as_str(self) -> &'static str {
+    pub fn as_str(self) -> &'static str
+        ensures { result.now ≡ cause_text self }
+    {
         match self {
             LineCause::Url => "URL",
             LineCause::ExactEqual => "===",
@@ -39,9 +44,13 @@ impl LineCause {
 }
 
 impl fmt::Display for LineCause {
+    ghost use Rattle.std.specs.Prelude.{Some};
+    ghost use Rattle.reqtable_compare.specs.Errors.{cause_text};
+
+    ghost output = { λ cause. Some (cause_text cause) };
+
     fn fmt<W: fmt::Write>(&self, f: &mut fmt::Formatter<W>) -> fmt::Result {
-        let words = self.as_str();
-        write!(f, "{words}")
+        write!(f, "{}", self.as_str())
     }
 }
 
@@ -100,6 +109,11 @@ impl<T: Drop> From<AllocFailed<T>> for SameError {
 }
 
 impl fmt::Display for SameError {
+    ghost use Rattle.std.specs.Prelude.{Some};
+    ghost use Rattle.reqtable_compare.specs.Errors.{same_error_text};
+
+    ghost output = { λ error. Some (same_error_text error) };
+
     fn fmt<W: fmt::Write>(&self, f: &mut fmt::Formatter<W>) -> fmt::Result {
         match self {
             SameError::Line {
@@ -108,8 +122,7 @@ impl fmt::Display for SameError {
                 cause,
             } => {
                 let side = side_name(*side);
-                write!(f, "{side} list: line {number}: ")?;
-                write!(f, "{cause}")
+                write!(f, "{side} list: line {number}: {cause}")
             }
             SameError::TooManyCases { side, package } => {
                 let side = side_name(*side);
@@ -120,7 +133,9 @@ impl fmt::Display for SameError {
     }
 }
 
-fn side_name(side: Side) -> &'static str {
+fn side_name(side: Side) -> &'static str
+    ensures { result.now ≡ side_text side }
+{
     match side {
         Side::Left => "left",
         Side::Right => "right",
