@@ -97,7 +97,8 @@ def by_dask(workers: int, scheduler: Optional[str], work: Work, pieces: List[int
     import dask
     from distributed import Client, LocalCluster, as_completed
 
-    dask.config.set({"distributed.scheduler.allowed-failures": 0})
+    # (the nanny would have its workers give back memory at once, which costs a fifth of their time)
+    dask.config.set({"distributed.scheduler.allowed-failures": 0, "distributed.nanny.pre-spawn-environ": {}})
     own: Dict[str, Any] = {"host": "127.0.0.1"}
     own.update(dashboard_address="127.0.0.1:0", worker_dashboard_address="127.0.0.1:0")
     own.update(n_workers=workers, threads_per_worker=1, memory_limit=None, silence_logs=logging.CRITICAL)
