@@ -1,2 +1,3 @@
 pub mod Meets
 pub mod Sources
+pub mod Orders

@@ -9,6 +9,7 @@ ghost use Rattle.pep508_tree.specs.Meaning.{IsTree, Extends, holds};
 ghost use Rattle.pep508_conjunctions.specs.Sources.{AreMeet, all_hold};
 
 use crate::meet::{Truths, meet_all};
+use crate::order::in_order;
 use crate::owned::{constant, constants, owned};
 use crate::source::{text_sources, turned, version_sources};
 use pep440_version::Version;
@@ -161,13 +162,46 @@ fn of_one(interner: &Interner, trees: &[MarkerTree], negated: bool) -> MarkerTre
     }
 }
 
-/// The tree that holds where all of the trees do, or where all their negations do if the flag is set; without
-/// trees the one that always holds. The only refusal is want of memory, and earlier trees mean what they
-/// meant, refused or not. Counts nothing.
-///
-/// Where all ask for one key alone, n boundaries take O(n log n) comparisons, and one node is made. Else the
-/// conjunctions of both halves are made, and then theirs.
-pub fn conjunction_of_all(
+/// Whether each tree asks for one flag alone.
+fn are_flags(interner: &Interner, trees: &[MarkerTree]) -> bool
+    requires { AllByRecursion (IsTree interner.now.nodes) trees.now }
+{
+    for tree in trees {
+        match tree.node(interner) {
+            TreeNode::Flagged(_, set, unset) if set.place() == 0 && unset.place() == 0 => {}
+            _ => return false,
+        }
+    }
+    true
+}
+
+/// The tree that holds where all of the trees do: the last with the one before it, and so on up to the first.
+fn from_behind(
+    alloc: Global,
+    interner: &mut Interner,
+    trees: &[MarkerTree],
+    negated: bool,
+) -> Result<MarkerTree, AllocError>
+    requires { AllByRecursion (IsTree interner.old.nodes) trees.now }
+    ensures made { IfOk result (IsTree interner.new.nodes) }
+    ensures truth { IfOk result (λ tree. (v : Valuation) →
+        holds interner.new.nodes tree v ≡ all_hold interner.old.nodes negated trees.now v) }
+    ensures keeps { Extends interner.old.nodes interner.new.nodes }
+    ensures counts { interner.new.conjunctions ≡ interner.old.conjunctions }
+{
+    let mut whole = MarkerTree::TRUE;
+    let mut left = trees;
+    while let Some((last, front)) = left.split_last() {
+        whole = uncounted_conjunction(alloc, interner, turned(*last, negated), whole)?;
+        left = front;
+    }
+    Ok(whole)
+}
+
+/// The tree that holds where all of the trees do. Those of one key become one node. Where each asks for one
+/// flag, the last are joined first, so that n flags in their order make n nodes. Else the conjunctions of both
+/// halves are made, and then theirs.
+fn by_halves(
     alloc: Global,
     interner: &mut Interner,
     trees: &[MarkerTree],
@@ -186,8 +220,44 @@ pub fn conjunction_of_all(
     if let Some(tree) = of_one_key(alloc, interner, trees, negated)? {
         return Ok(tree);
     }
+    if are_flags(interner, trees) {
+        return from_behind(alloc, interner, trees, negated);
+    }
     let (front, back) = trees.split_at(trees.len() / 2);
-    let first = conjunction_of_all(alloc, interner, front, negated)?;
-    let second = conjunction_of_all(alloc, interner, back, negated)?;
+    let first = by_halves(alloc, interner, front, negated)?;
+    let second = by_halves(alloc, interner, back, negated)?;
     uncounted_conjunction(alloc, interner, first, second)
+}
+
+/// How many trees are joined in the order in which they stand.
+const FEW: usize = 4;
+
+/// The tree that holds where all of the trees do, or where all their negations do if the flag is set; without
+/// trees the one that always holds. The only refusal is want of memory, and earlier trees mean what they
+/// meant, refused or not. Counts nothing.
+///
+/// Where all ask for one key alone, n boundaries take O(n log n) comparisons, and one node is made. Else the
+/// trees are put in the order of the variables that they ask first, and of those that ask for one key, or for
+/// one flag each, one node a variable is made; of others the conjunctions of both halves, and then theirs.
+pub fn conjunction_of_all(
+    alloc: Global,
+    interner: &mut Interner,
+    trees: &[MarkerTree],
+    negated: bool,
+) -> Result<MarkerTree, AllocError>
+    requires { AllByRecursion (IsTree interner.old.nodes) trees.now }
+    ensures made { IfOk result (IsTree interner.new.nodes) }
+    ensures truth { IfOk result (λ tree. (v : Valuation) →
+        holds interner.new.nodes tree v ≡ all_hold interner.old.nodes negated trees.now v) }
+    ensures keeps { Extends interner.old.nodes interner.new.nodes }
+    ensures counts { interner.new.conjunctions ≡ interner.old.conjunctions }
+{
+    if trees.len() <= FEW {
+        return by_halves(alloc, interner, trees, negated);
+    }
+    if let Some(tree) = of_one_key(alloc, interner, trees, negated)? {
+        return Ok(tree);
+    }
+    let sorted = in_order(alloc, interner, trees)?;
+    by_halves(alloc, interner, &sorted, negated)
 }

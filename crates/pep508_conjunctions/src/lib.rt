@@ -5,6 +5,7 @@
 mod all;
 mod lent;
 mod meet;
+mod order;
 mod owned;
 mod source;
 
