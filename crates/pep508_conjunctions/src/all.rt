@@ -175,7 +175,7 @@ fn are_flags(interner: &Interner, trees: &[MarkerTree]) -> bool
     true
 }
 
-/// The tree that holds where all of the trees do: the last with the one before it, and so on up to the first.
+/// The tree that holds where all of the trees do: the last with the one before it, and so on to the first.
 fn from_behind(
     alloc: Global,
     interner: &mut Interner,
