@@ -8,8 +8,8 @@ use Rattle.pep508_diagram.specs.declared.branch.Branch.{Branch}
 use Rattle.pep508_tags.specs.Tags.{mixed, text_tag, version_tag}
 use Rattle.pep508_tree.specs.Tree.{Tree}
 use Rattle.pep508_tree.specs.Meaning.{NodeRecord}
-use Rattle.pep508_tree.specs.Nodes.{node_rank, node_text, first_child, second_child, version_branches, text_branches}
-use Rattle.pep508_tree.specs.Nodes.{node_cmp}
+use Rattle.pep508_tree.specs.Nodes.{node_rank, node_text, first_child, second_child, node_cmp}
+use Rattle.pep508_tree.specs.Nodes.{version_branches, text_branches}
 
 -- the number of a boundary's value
 abbrev pub boundary_tag : {T : Type 0} → (T → ℕ) → Boundary T → ℕ
