@@ -13,6 +13,7 @@ pub mod Disjoint
 pub mod Equal
 pub mod Splitting
 pub mod Storing
+pub mod Tags
 pub mod Placing
 pub mod Conjoining
 pub mod Roots

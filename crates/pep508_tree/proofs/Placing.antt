@@ -1,6 +1,5 @@
 -- One more node in the table.
 use Rattle.std.proofs.Common.{◌≡◌, ℕ, ◌+◌, ◌<◌, Bool, true, false, cond, List, [], ◌∷◌, ◌++◌, Option, Some, None, length, MatchOption, refl, ap, sym, subst, ◌∙◌, inl, inr, arith, length-append, Equal, is_eq, true≢false}
-use Rattle.std.specs.Ordering.{on}
 use Rattle.std.specs.Cmp.{tied_itself}
 use Rattle.std.specs.BTreeMap.{BTreeMap, get, is_at}
 use Rattle.std.specs.Map.{lookup}
@@ -10,8 +9,10 @@ use Rattle.pep508_tree.specs.Meaning.{NodeRecord}
 use Rattle.pep508_tree.specs.Nodes.{AreSound, IsSoundNode, IsPlaced, node_at, node_cmp}
 use Rattle.pep508_tree.specs.NodeLaws.{nodes_total}
 use Rattle.pep508_tree.specs.Places.{nodes_of, StandAt}
+use Rattle.pep508_tree.specs.Tags.{tagged_cmp}
 use Rattle.pep508_tree.proofs.Storing.{at_end, in_front, in_or_last, sound_pushed}
 use Rattle.pep508_tree.proofs.Splitting.{length_nodes}
+use Rattle.pep508_tree.proofs.Tags.{tagged_ties}
 
 -- what an answer of the map says
 abbrev pub StandsAs : List NodeRecord → NodeRecord → Option ℕ → Type 0
@@ -38,59 +39,54 @@ module _ (nodes : List NodeRecord) (n : NodeRecord) (k : ℕ) (here : k ≡ leng
     ap (λ m. node_cmp m q) (in_front nodes n j stands.0) ∙ stands.1,
   )
 
+abbrev pub place_in : BTreeMap NodeRecord ℕ → NodeRecord → Option ℕ
+place_in places node = get tagged_cmp places node
+
+pub stand_answer : (nodes : List NodeRecord) (places : BTreeMap NodeRecord ℕ) (node : NodeRecord) (answer : Option ℕ) →
+    StandAt nodes places → answer ≡ place_in places node → StandsAs nodes node answer
+stand_answer nodes places node answer stand e = subst (StandsAs nodes node) (sym e) (stand node)
+
+pub stand_same : (nodes : List NodeRecord) (old new : BTreeMap NodeRecord ℕ) → new.entries ≡ old.entries →
+    StandAt nodes old → StandAt nodes new
+stand_same nodes old new e stand node =
+    subst (StandsAs nodes node) (ap (lookup (is_at (tagged_cmp node))) (sym e)) (stand node)
+
+module _ (nodes : List NodeRecord) (n : NodeRecord) (k : ℕ) (here : k ≡ length nodes) where
+  pub stand_pushed : (key : NodeRecord) (old new : BTreeMap NodeRecord ℕ) → key ≡ n →
+      ((q : NodeRecord) → place_in new q ≡ cond (is_eq (tagged_cmp key q)) (Some k) (place_in old q)) →
+      StandAt nodes old → StandAt (nodes ++ n ∷ []) new
+  stand_pushed key old new e updates stand q =
+      subst (StandsAs (nodes ++ n ∷ []) q)
+      (sym (updates q ∙ ap (λ m. cond (is_eq (tagged_cmp m q)) (Some k) (place_in old q)) e
+      ∙ ap (λ t. cond t (Some k) (place_in old q)) (tagged_ties n q)))
+      (stands_by nodes n k here q (is_eq (node_cmp n q)) (place_in old q) refl (stand q))
+
 module _ {A : Type 0} where
-  abbrev pub place_in : BTreeMap (Rc NodeRecord A) ℕ → Rc NodeRecord A → Option ℕ
-  place_in places node = get (on (λ owner. owner.value) node_cmp) places node
-
-  pub stand_answer : (nodes : List NodeRecord) (places : BTreeMap (Rc NodeRecord A) ℕ)
-      (node : Rc NodeRecord A)
-      (answer : Option ℕ) → StandAt nodes places → answer ≡ place_in places node →
-      StandsAs nodes node.value answer
-  stand_answer nodes places node answer stand e = subst (StandsAs nodes node.value) (sym e) (stand node)
-
-  pub stand_same : (nodes : List NodeRecord) (old new : BTreeMap (Rc NodeRecord A) ℕ) →
-      new.entries ≡ old.entries → StandAt nodes old → StandAt nodes new
-  stand_same nodes old new e stand node =
-      subst (StandsAs nodes node.value)
-      (ap (lookup (is_at (on (λ owner. owner.value) node_cmp node))) (sym e))
-      (stand node)
-
   pub nodes_push : (owners : List (Rc NodeRecord A)) (owner : Rc NodeRecord A) →
       nodes_of (owners ++ owner ∷ []) ≡ nodes_of owners ++ owner.value ∷ []
   nodes_push [] owner = refl
   nodes_push (o ∷ owners) owner = ap (λ ns. o.value ∷ ns) (nodes_push owners owner)
 
-  module _ (nodes : List NodeRecord) (n : NodeRecord) (k : ℕ) (here : k ≡ length nodes) where
-    pub stand_pushed : (key : Rc NodeRecord A) (old new : BTreeMap (Rc NodeRecord A) ℕ) → key.value ≡ n →
-        ((q : Rc NodeRecord A) → place_in new q ≡ cond (is_eq (node_cmp key.value q.value)) (Some k)
-        (place_in old q)) →
-        StandAt nodes old → StandAt (nodes ++ n ∷ []) new
-    stand_pushed key old new e updates stand q =
-        subst (StandsAs (nodes ++ n ∷ []) q.value)
-        (sym (updates q ∙ ap (λ m. cond (is_eq (node_cmp m q.value)) (Some k) (place_in old q)) e))
-        (stands_by nodes n k here q.value (is_eq (node_cmp n q.value)) (place_in old q) refl (stand q))
-
   -- a node put in
-  pub record IsPut (items new : List (Rc NodeRecord A)) (new_places : BTreeMap (Rc NodeRecord A) ℕ)
-      (n : NodeRecord) (k : ℕ) : Type 0 where
+  pub record IsPut (items new : List (Rc NodeRecord A)) (new_places : BTreeMap NodeRecord ℕ) (n : NodeRecord)
+      (k : ℕ) : Type 0 where
     pub nodes_are : nodes_of new ≡ nodes_of items ++ n ∷ []
     pub right : AreSound (nodes_of new) × StandAt (nodes_of new) new_places
     pub placed : IsPlaced (nodes_of new) n (k + 1)
 
-  pub put_in : (items new : List (Rc NodeRecord A)) (places new_places : BTreeMap (Rc NodeRecord A) ℕ)
-      (node key : Rc NodeRecord A) (n : NodeRecord) (k : ℕ) → new ≡ items ++ node ∷ [] → node.value ≡ n →
-      key.value ≡ node.value → k ≡ length items →
+  pub put_in : (items new : List (Rc NodeRecord A)) (places new_places : BTreeMap NodeRecord ℕ)
+      (node : Rc NodeRecord A) (key n : NodeRecord) (k : ℕ) → new ≡ items ++ node ∷ [] → node.value ≡ n →
+      key ≡ node.value → k ≡ length items →
       AreSound (nodes_of items) × StandAt (nodes_of items) places →
-      IsSoundNode (nodes_of items) (length (nodes_of items)) n → None ≡ place_in places node →
-      ((q : Rc NodeRecord A) → place_in new_places q
-      ≡ cond (is_eq (node_cmp key.value q.value)) (Some k) (place_in places q)) →
+      IsSoundNode (nodes_of items) (length (nodes_of items)) n → None ≡ place_in places key →
+      ((q : NodeRecord) → place_in new_places q ≡ cond (is_eq (tagged_cmp key q)) (Some k) (place_in places q)) →
       IsPut items new new_places n k
   put_in items new places new_places node key n k pushed is copy here right fits absent updates =
       let nodes = nodes_of items in
       let all : nodes_of new ≡ nodes ++ n ∷ [] =
       ap nodes_of pushed ∙ nodes_push items node ∙ ap (λ m. nodes ++ m ∷ []) is in
       let none : (j : ℕ) → j < length nodes → node_cmp (node_at nodes j) n ≡ Equal → ⊥ =
-      subst (λ m. StandsAs nodes m None) is (stand_answer nodes places node None right.1 absent) in
+      subst (λ m. StandsAs nodes m None) (copy ∙ is) (stand_answer nodes places key None right.1 absent) in
       let sound = sound_pushed nodes n right.0 fits none in
       let place : k ≡ length nodes = here ∙ sym (length_nodes items) in
       record {

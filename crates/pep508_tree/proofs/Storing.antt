@@ -140,7 +140,7 @@ pub record AreAlike (n m : NodeRecord) : Type 0 where
   pub first : first_child n ≡ first_child m
   pub second : second_child n ≡ second_child m
 
-alike_parts : (n m : NodeRecord) → node_cmp n m ≡ Equal → AreAlike n m
+pub alike_parts : (n m : NodeRecord) → node_cmp n m ≡ Equal → AreAlike n m
 unfolding node_cmp
 alike_parts n m e =
     let first = tree_cmp (first_child n) (first_child m) in

@@ -5,6 +5,7 @@ pub mod Forms
 pub mod Roots
 pub mod Leaves
 pub mod Nodes
+pub mod Tags
 pub mod Conjunctions
 pub mod Disjoint
 pub mod Places

@@ -6,6 +6,7 @@ use Rattle.version_ranges.specs.OrderLaws.{boundaries_total}
 use Rattle.pep440_version.specs.OrderLaws.{version_cmp_total}
 use Rattle.pep508_tree.specs.Nodes.{tree_cmp, branch_cmp, node_cmp, node_place, version_branches}
 use Rattle.pep508_tree.specs.Nodes.{text_branches, first_child, second_child}
+use Rattle.pep508_tree.specs.Tags.{node_tag, tagged_cmp}
 
 pub trees_total : IsTotalOrder tree_cmp
 trees_total = then_total (on_total (λ tree. tree.place) nat_cmp_total)
@@ -24,3 +25,7 @@ nodes_total =
     (then_total (on_total node_place nat_list_cmp_total)
     (then_total (on_total version_branches (lists_total (branches_total version_cmp_total)))
     (on_total text_branches (lists_total (branches_total nat_list_cmp_total))))))
+
+pub tagged_total : IsTotalOrder tagged_cmp
+unfolding tagged_cmp
+tagged_total = then_total (on_total node_tag nat_cmp_total) nodes_total

@@ -13,15 +13,19 @@ ghost use Rattle.pep508_tree.specs.Nodes.{first_child, second_child, counterpart
 ghost use Rattle.pep508_tree.specs.Nodes.{branch_cmp, node_cmp};
 ghost use Rattle.pep508_tree.specs.Roots.{shown};
 ghost use Rattle.pep508_tree.specs.NodeLaws.{nodes_total};
+ghost use Rattle.pep508_tree.specs.Tags.{node_tag, branches_tag};
+ghost use Rattle.pep508_tags.specs.Tags.{text_tag, version_tag};
 
 use crate::root::{Children, TreeNode};
 use crate::tree::MarkerTree;
 use pep440_version::Version;
 use pep508_diagram::{Branch, Flag, MarkerText, NodeValue, VersionVariable, paired, text_rank};
 use pep508_marker::MarkerValueString;
+use pep508_tags::{mixed, text_tag, version_tag};
 use std::alloc::{AllocError, Global};
 use std::cmp::Ordering;
 use std::marker::Model;
+use version_ranges::Boundary;
 
 /// What stands in two trees for one answer.
 pub(crate) type Pair = (MarkerTree, MarkerTree);
@@ -161,6 +165,41 @@ fn cmp_branches<T: NodeValue>(a: &[Branch<T, MarkerTree>], b: &[Branch<T, Marker
     }
 }
 
+fn place_number(tree: MarkerTree) -> u64
+    ensures { result ≡ tree.place }
+{
+    tree.place() as u64
+}
+
+/// The number of what stands from the first boundary on.
+fn versions_tag(later: &[Branch<Version, MarkerTree>]) -> u64
+    ensures { result ≡ branches_tag version_tag later.now }
+{
+    match later.split_first() {
+        None => 0,
+        Some((branch, _)) => match &branch.boundary {
+            Boundary::At(value) => mixed(place_number(branch.child), version_tag(value)),
+            Boundary::JustAbove(value) => mixed(place_number(branch.child), version_tag(value)),
+        },
+    }
+}
+
+/// The same between texts.
+fn texts_tag(later: &[Branch<MarkerText, MarkerTree>]) -> u64
+    ensures { result ≡ branches_tag text_tag later.now }
+{
+    match later.split_first() {
+        None => 0,
+        Some((branch, _)) => match &branch.boundary {
+            Boundary::At(value) => mixed(place_number(branch.child), text_tag(value.as_str())),
+            Boundary::JustAbove(value) => mixed(
+                place_number(branch.child),
+                text_tag(value.as_str()),
+            ),
+        },
+    }
+}
+
 impl Node {
     pub fn new(form: Form<MarkerTree>) -> Node
         ensures { result ≡ record_of form }
@@ -217,6 +256,20 @@ impl Node {
                 unset.turned(negated),
             ),
         }
+    }
+
+    /// A number by which nodes are told apart: that of the variable, of the children, and of what stands from
+    /// the first boundary on.
+    pub fn tag(&self) -> u64
+        ensures { result ≡ node_tag self.now }
+    {
+        let variable = mixed(text_tag(self.text()), u64::from(self.rank()));
+        let first = mixed(variable, place_number(self.first()));
+        let second = mixed(first, place_number(self.second()));
+        mixed(
+            mixed(second, versions_tag(self.versions())),
+            texts_tag(self.texts()),
+        )
     }
 
     /// By the variables alone.

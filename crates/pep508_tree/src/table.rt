@@ -1,7 +1,10 @@
 //! What keeps the nodes of marker trees, each once.
 
-ghost use Rattle.std.specs.Prelude.{◌≡◌, ◌⊎◌, ◌-◌, ◌<◌, false, [], length, map, IfOk, IsTrue, ◌↔◌};
-ghost use Rattle.std.specs.Ordering.{is_gt};
+ghost use Rattle.std.specs.Prelude.{◌≡◌, ◌⊎◌, ◌-◌, ◌<◌, false, [], length, map, IfOk, IsTrue, ◌↔◌, refl};
+ghost use Rattle.std.specs.Cmp.{eq_by_cmp_equiv, partial_equiv_from_equiv, partial_order_from_agreeing_total};
+ghost use Rattle.std.specs.Ordering.{is_gt, eq_by_cmp, as_partial_cmp};
+ghost use Rattle.pep508_tree.specs.Tags.{tagged_cmp};
+ghost use Rattle.pep508_tree.specs.NodeLaws.{tagged_total};
 ghost use Rattle.pep508_diagram.specs.Text.{text_cmp};
 ghost use Rattle.pep508_tree.specs.Meaning.{IsTree, Extends};
 ghost use Rattle.pep508_tree.specs.Forms.{record_of};
@@ -24,8 +27,78 @@ use std::rc::Rc;
 #[derive(Drop)]
 pub(crate) struct NodeTable {
     nodes: Vec<Rc<Node>>,
-    places: BTreeMap<Rc<Node>, usize>,
+    places: BTreeMap<Tagged, usize>,
     alloc: Global,
+}
+
+/// A node with its number, which comes first in the order, so that two nodes are mostly told apart by it.
+#[derive(Drop)]
+struct Tagged {
+    tag: u64,
+    node: Rc<Node>,
+}
+
+impl Model for Tagged {
+    ghost use Rattle.std.specs.Prelude.{◌≡◌};
+    ghost use Rattle.pep508_tree.specs.Meaning.{NodeRecord};
+    ghost use Rattle.pep508_tree.specs.Tags.{node_tag};
+
+    ghost Value = { NodeRecord };
+
+    ghost view = { λ tagged. tagged.node.value };
+
+    ghost invariant = { λ tagged. tagged.tag ≡ node_tag tagged.node.value };
+}
+
+impl Tagged {
+    fn new(node: Rc<Node>) -> Tagged
+        ensures { result ≡ node.value }
+    {
+        let tag = node.tag();
+        Tagged { tag, node }
+    }
+}
+
+impl PartialEq for Tagged {
+    ghost eq = { eq_by_cmp tagged_cmp };
+
+    ghost laws = { partial_equiv_from_equiv (eq_by_cmp_equiv tagged_total) };
+
+    fn eq(&self, other: &Tagged) -> bool {
+        self.cmp(other).is_eq()
+    }
+}
+
+impl Eq for Tagged {
+    ghost laws = { eq_by_cmp_equiv tagged_total };
+}
+
+impl PartialOrd for Tagged {
+    ghost partial_cmp = { as_partial_cmp tagged_cmp };
+
+    ghost laws = { partial_order_from_agreeing_total tagged_cmp tagged_total (λ x y. refl) (λ x y. refl) };
+
+    fn partial_cmp(&self, other: &Tagged) -> Option<Ordering> {
+        Some(self.cmp(other))
+    }
+}
+
+impl Ord for Tagged {
+    ghost cmp = { tagged_cmp };
+
+    ghost total = { tagged_total };
+
+    ghost matches_partial_cmp = { λ x y. refl };
+
+    ghost matches_eq = { λ x y. refl };
+
+    fn cmp(&self, other: &Tagged) -> Ordering {
+        match self.tag.cmp(&other.tag) {
+            Ordering::Less => Ordering::Less,
+            Ordering::Equal => self.node.cmp(&other.node),
+            Ordering::Greater => Ordering::Greater,
+        }
+    }
 }
 
 impl Model for NodeTable {
@@ -184,10 +257,11 @@ impl NodeTable {
         ensures keeps { Extends self.old self.new }
     {
         let node = Rc::new(self.alloc, Node::new(form))?;
-        if let Some(place) = self.places.get(&node) {
+        let owner = node.clone()?;
+        let key = Tagged::new(owner);
+        if let Some(place) = self.places.get(&key) {
             return Ok(*place + 1);
         }
-        let key = node.clone()?;
         self.nodes.reserve(1)?;
         let place = self.nodes.len();
         self.places.insert(key, place)?;

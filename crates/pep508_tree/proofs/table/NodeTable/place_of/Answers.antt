@@ -9,16 +9,17 @@ use Rattle.pep508_tree.proofs.table.NodeTable.place_of.Goals as goal
 pub overflow_add-result : goal.overflow_add-result
 overflow_add-result c =
     let items = c.self.inside.nodes.items in
-    let found = stand_answer (nodes_of items) c.self.inside.places c.in_ok-node.node _ c.self.invariant.1
+    let found = stand_answer (nodes_of items) c.self.inside.places c.new-key.result _ c.self.invariant.1
     c.in-Some.ensures.value in
     omega (arith, found.0, length_nodes items, c.self.inside.nodes.small, c.self.inside.nodes.ok)
 
 pub returns-in-Some-clause-found : goal.returns-in-Some-clause-found
 returns-in-Some-clause-found c =
     let items = c.self.inside.nodes.items in
-    let found = stand_answer (nodes_of items) c.self.inside.places c.in_ok-node.node _ c.self.invariant.1
+    let found = stand_answer (nodes_of items) c.self.inside.places c.new-key.result _ c.self.invariant.1
     c.in-Some.ensures.value in
-    let is : c.in_ok-node.node.value ≡ record_of c.args.form = c.in_ok-node.ensures.ok ∙ c.new.ensures in
+    let is : c.new-key.result ≡ record_of c.args.form =
+    c.new-key.ensures ∙ c.in_ok-owner.ensures.cases ∙ c.in_ok-node.ensures.ok ∙ c.new.ensures in
     subst (λ nodes. IsPlaced nodes (record_of c.args.form) (c.in-Some.place.now + 1)) c.self.view_is
     (record {
       index = c.in-Some.place.now;
@@ -47,11 +48,11 @@ put : (c : goal.In-Ok) → IsPut c.self.inside.nodes.items c.push.new.self.items
 put c =
     let items = c.self.inside.nodes.items in
     put_in items c.push.new.self.items c.self.inside.places c.insert.new.self c.in_ok-node.node
-    c.in_ok-key.key
+    c.new-key.result
     (record_of c.args.form) c.len-place.result
     (c.in-Ok.ensures.items ∙ ap (λ xs. xs ++ c.in_ok-node.node ∷ []) c.in_ok-reserve.ensures.items)
     (c.in_ok-node.ensures.ok ∙ c.new.ensures)
-    c.in_ok-key.ensures.cases
+    (c.new-key.ensures ∙ c.in_ok-owner.ensures.cases)
     (omega (arith, c.len-place.ensures, ap length c.in_ok-reserve.ensures.items))
     c.self.invariant
     (subst (λ nodes. IsSoundNode nodes (length nodes) (record_of c.args.form)) (sym c.self.view_is)
