@@ -1,16 +1,16 @@
 -- The rows of an answer in both formats.
-use Rattle.std.proofs.Common.{◌≡◌, ◌∙◌, ◌∷◌, [], ℕ, List, Ok, map, ap, refl, sym, subst}
+use Rattle.std.proofs.Common.{◌≡◌, ◌∷◌, [], ℕ, List, Ok, map, refl, sym, subst}
 use Rattle.std.specs.List.{AllZip}
 use Rattle.pep508_environment.specs.Environment.{EnvironmentRecord}
 use Rattle.pep508_evaluation.specs.Valuations.{valuation_of}
 use Rattle.reqtable_text.specs.declared.candidates.Candidate.{Candidate}
 use Rattle.reqtable_answer.specs.Answer.{RowRecord, IsAnswerText, answer_text}
-use Rattle.reqtable_answer.proofs.OneAnswer.{one_answer}
 use Rattle.reqtable_requirements.specs.Asks.{asks_of}
 use Rattle.reqtable_requirements.specs.LineReading.{LineRecord}
 use Rattle.reqs_json.specs.declared.format.Format.TheVariants.{Text, Json}
 use Rattle.reqs_json.specs.Lines.{line_of}
 use Rattle.reqs_json.specs.Rows.{answer_value, answers_value, IsAnswerIn}
+use Rattle.reqs_json.proofs.OneObject.{object_is}
 use Rattle.reqs.specs.Check.{on_request, CheckTexts, IsCheckText}
 use Rattle.reqs.specs.Matrix.{AreAnswers, IsMatrixIn, numbered}
 use Rattle.reqs.specs.Texts.{ReadTexts}
@@ -21,12 +21,14 @@ pub same_rows : (texts : CheckTexts) (lines object : List ℕ) → IsCheckText T
     × (lines ≡ answer_text candidates rows) × (object ≡ line_of (answer_value candidates rows))
 same_rows texts lines object a b =
     let read : a.read ≡ b.read = cc (a.is_read, b.is_read) in
-    let other : IsAnswerIn Json on_request (asks_of (valuation_of a.read.second a.read.extras) a.read.lines) a.read.candidates object =
-    subst
-    (λ (r : ReadTexts EnvironmentRecord). IsAnswerIn Json on_request (asks_of (valuation_of r.second r.extras) r.lines) r.candidates object)
-    (sym read) b.is_text in
-    let rows : other.0 ≡ a.is_text.0 = one_answer _ _ _ _ _ other.1 a.is_text.1 in
-    (a.read.candidates, a.is_text.0, a.is_text.2, other.2 ∙ ap (λ r. line_of (answer_value a.read.candidates r)) rows)
+    let P : ReadTexts EnvironmentRecord → Type 0 =
+    λ r. IsAnswerIn Json on_request (asks_of (valuation_of r.second r.extras) r.lines) r.candidates object in (
+      a.read.candidates,
+      a.is_text.0,
+      a.is_text.2,
+      object_is on_request (asks_of (valuation_of a.read.second a.read.extras) a.read.lines) a.read.candidates a.is_text.0 object a.is_text.1
+          (subst P (sym read) b.is_text),
+    )
 
 module _ (extras : List (List ℕ)) (lines : List LineRecord) (candidates : List Candidate) where
   texts_of_rows : (environments : List EnvironmentRecord) (answers : List (List RowRecord))
