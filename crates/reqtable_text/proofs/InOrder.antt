@@ -12,7 +12,7 @@ use Rattle.version_ranges.specs.HashingLaws.{then_equal}
 use Rattle.pep440_version.specs.OrderLaws.{version_cmp_total}
 use Rattle.pep508_name.specs.Name.{name_cmp}
 use Rattle.reqtable_text.specs.declared.candidates.Candidate.{Candidate}
-use Rattle.reqtable_text.specs.declared.ordered.Placed.{Placed}
+use Rattle.reqtable_text.specs.declared.fronted.Fronted.{Fronted}
 use Rattle.reqtable_text.specs.Ordered.{placed_seen, order_cmp, AreInOrder}
 use Rattle.reqtable_text.proofs.Places.{HasEachOnce, LackPlace, each_once, once_behind, others_behind}
 
@@ -21,11 +21,14 @@ order_total =
     then_total (on_total (λ c. c.1.name) nat_list_cmp_total)
     (then_total (on_total (λ c. c.1.version) (back_total version_cmp_total)) (on_total (λ c. c.0) nat_cmp_total))
 
-abbrev pub stands_before : Placed → Placed → Bool
-stands_before a b = is_lt (order_cmp (placed_seen a) (placed_seen b))
+abbrev pub fronted_seen : Fronted → ℕ × Candidate
+fronted_seen fronted = placed_seen fronted.placed
+
+abbrev pub stands_before : Fronted → Fronted → Bool
+stands_before a b = is_lt (order_cmp (fronted_seen a) (fronted_seen b))
 
 pub stands_weakly : IsStrictWeakOrder stands_before
-stands_weakly = ranks_by order_total placed_seen
+stands_weakly = ranks_by order_total fronted_seen
 
 -- ---- two of different places
 
@@ -48,35 +51,35 @@ less_by a b Greater e h apart = refl
 less_of : (a b : ℕ × Candidate) → is_lt (order_cmp b a) ≡ false → (b.0 == a.0) ≡ false → order_cmp a b ≡ Less
 less_of a b h apart = order_total.antisymm a b ∙ less_by a b (order_cmp b a) refl h apart
 
-before_all : (x : Placed) (xs : List Placed) → ((k : ℕ) → k < length xs → stands_before (get_or xs k x) x ≡ false)
-    → LackPlace x.place (map placed_seen xs)
-    → AllByRecursion (λ c. order_cmp (placed_seen x) c ≡ Less) (map placed_seen xs)
+before_all : (x : Fronted) (xs : List Fronted) → ((k : ℕ) → k < length xs → stands_before (get_or xs k x) x ≡ false)
+    → LackPlace x.placed.place (map fronted_seen xs)
+    → AllByRecursion (λ c. order_cmp (fronted_seen x) c ≡ Less) (map fronted_seen xs)
 before_all x [] h apart = tt
 before_all x (y ∷ ys) h apart = (
-  less_of (placed_seen x) (placed_seen y) (h 0 (omega arith)) apart.0,
+  less_of (fronted_seen x) (fronted_seen y) (h 0 (omega arith)) apart.0,
   before_all x ys (λ k l. h (suc k) (omega arith)) apart.1,
 )
 
 -- ---- all of a list
 
-abbrev NoneBehind : List Placed → Type 0
-NoneBehind xs = (i j : ℕ) (d : Placed) → i ≤ j → j < length xs → stands_before (get_or xs j d) (get_or xs i d) ≡ false
+abbrev NoneBehind : List Fronted → Type 0
+NoneBehind xs = (i j : ℕ) (d : Fronted) → i ≤ j → j < length xs → stands_before (get_or xs j d) (get_or xs i d) ≡ false
 
-rise : (xs : List Placed) → NoneBehind xs → HasEachOnce (map placed_seen xs) → IsStrictlySortedBy order_cmp (map placed_seen xs)
+rise : (xs : List Fronted) → NoneBehind xs → HasEachOnce (map fronted_seen xs) → IsStrictlySortedBy order_cmp (map fronted_seen xs)
 unfolding IsStrictlySortedBy
 rise [] h once = tt
 rise (x ∷ xs) h once = (
-  before_all x xs (λ k l. h 0 (suc k) x (omega arith) (omega arith)) (others_behind (placed_seen x) (map placed_seen xs) once),
-  rise xs (λ i j d p q. h (suc i) (suc j) d (omega arith) (omega arith)) (once_behind (placed_seen x) (map placed_seen xs) once),
+  before_all x xs (λ k l. h 0 (suc k) x (omega arith) (omega arith)) (others_behind (fronted_seen x) (map fronted_seen xs) once),
+  rise xs (λ i j d p q. h (suc i) (suc j) d (omega arith) (omega arith)) (once_behind (fronted_seen x) (map fronted_seen xs) once),
 )
 
-pub sorted_in_order : (candidates : List Candidate) (xs ys : List Placed) → map placed_seen xs ≡ enumerate_from 0 candidates
-    → IsPermutation xs ys → IsSortedBy stands_before ys → AreInOrder candidates (map placed_seen ys)
+pub sorted_in_order : (candidates : List Candidate) (xs ys : List Fronted) → map fronted_seen xs ≡ enumerate_from 0 candidates
+    → IsPermutation xs ys → IsSortedBy stands_before ys → AreInOrder candidates (map fronted_seen ys)
 sorted_in_order candidates xs ys e h up =
-    let seen : IsPermutation (map placed_seen ys) (enumerate_from 0 candidates) =
-    subst (IsPermutation (map placed_seen ys)) e
-    (IsPermutation-sym (map placed_seen xs) (map placed_seen ys) (IsPermutation-map placed_seen xs ys h)) in
+    let seen : IsPermutation (map fronted_seen ys) (enumerate_from 0 candidates) =
+    subst (IsPermutation (map fronted_seen ys)) e
+    (IsPermutation-sym (map fronted_seen xs) (map fronted_seen ys) (IsPermutation-map fronted_seen xs ys h)) in
     record {
       each = seen;
-      rising = rise ys (sorted_far stands_before stands_weakly ys up) (each_once candidates (map placed_seen ys) seen);
+      rising = rise ys (sorted_far stands_before stands_weakly ys up) (each_once candidates (map fronted_seen ys) seen);
     }

@@ -9,4 +9,5 @@ pub mod Utf8Lines
 pub mod WholeCandidates
 pub mod Places
 pub mod InOrder
+pub mod Fronts
 pub mod Runs

@@ -2,5 +2,6 @@ pub mod TextLines
 pub mod CandidateLine
 pub mod CandidateText
 pub mod Candidates
+pub mod Fronts
 pub mod Ordered
 pub mod Errors

@@ -2,9 +2,11 @@
 #![tactic(auto)]
 
 pub mod candidates;
+mod fronted;
 pub mod laws;
 pub mod ordered;
 pub mod pieces;
+mod sorting;
 pub mod text_lines;
 
 pub use candidates::{Candidate, CandidateFault, Candidates, CandidatesError};

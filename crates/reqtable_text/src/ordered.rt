@@ -1,7 +1,6 @@
 //! Candidates by package, from the greatest version down.
 
 ghost use Rattle.std.specs.Prelude.{◌≡◌, map, filter, IfOk};
-ghost use Rattle.std.specs.List.{enumerate_from};
 ghost use Rattle.std.specs.List.Sorted.{IsStrictlySortedBy};
 ghost use Rattle.std.specs.Str.{bytes_eq};
 ghost use Rattle.pep508_name.specs.Name.{name_cmp};
@@ -9,6 +8,7 @@ ghost use Rattle.reqtable_text.specs.Candidates.{HavePrintableVersions};
 ghost use Rattle.reqtable_text.specs.Ordered.{placed_seen, order_cmp, AreInOrder};
 
 use crate::candidates::{Candidate, Candidates};
+use crate::sorting::{compare_fronted, with_fronts, without_fronts};
 use pep508_name::PackageName;
 use std::alloc::{AllocError, Global};
 use std::cmp::Ordering;
@@ -45,12 +45,13 @@ impl<'a> Model for Ordered<'a> {
 
 impl Candidates {
     /// The candidates in order. Comparisons grow with their number times its logarithm, memory with their
-    /// number.
+    /// number. Names that differ in their first eight bytes are compared by these as one number each.
     pub fn in_order(&self, alloc: Global) -> Result<Ordered<'_>, AllocError>
         ensures { IfOk result (λ ordered. ordered.candidates ≡ self.now) }
     {
-        let mut placed = with_places(alloc, self.items())?;
-        placed.sort_unstable_by(|a, b| compare(a, b));
+        let mut fronted = with_fronts(alloc, self.items())?;
+        fronted.sort_unstable_by(|a, b| compare_fronted(a, b));
+        let placed = without_fronts(alloc, fronted)?;
         Ok(Ordered {
             candidates: self,
             placed,
@@ -85,19 +86,8 @@ impl<'a> Ordered<'a> {
     }
 }
 
-/// The candidates with their places, as in the list.
-fn with_places(alloc: Global, candidates: &[Candidate]) -> Result<Vec<Placed<'_>>, AllocError>
-    ensures { IfOk result (λ placed. map placed_seen placed.items ≡ enumerate_from 0 candidates.now) }
-{
-    let mut placed = Vec::with_capacity(alloc, candidates.len())?;
-    for (place, candidate) in candidates.iter().enumerate() {
-        placed.push(Placed { place, candidate })?;
-    }
-    Ok(placed)
-}
-
 /// Which of two candidates stands first. Versions are compared only where names are equal.
-fn compare(a: &Placed<'_>, b: &Placed<'_>) -> Ordering
+pub(crate) fn compare(a: &Placed<'_>, b: &Placed<'_>) -> Ordering
     ensures { result ≡ order_cmp (placed_seen a.now) (placed_seen b.now) }
 {
     let name = compare_name(a, &b.candidate.name);
