@@ -167,21 +167,26 @@ impl Version {
         compare_releases(self.release(), other.release())
     }
 
-    /// Compares all but the local parts, in one walk over both versions (PEP 440, "Local version
-    /// identifiers").
+    /// Compares all but the local parts (PEP 440, "Local version identifiers"). Suffixes are looked at only
+    /// where epochs and releases are equal.
     #[tactic(auto, unfolding(crate::specs::Order::key_of))]
     pub fn cmp_public(&self, other: &Version) -> Ordering
         ensures { result ≡ version_cmp (without_local self.now) (without_local other.now) }
     {
+        let epoch = compare_numbers(self.epoch, other.epoch);
+        if epoch.is_ne() {
+            return epoch;
+        }
         let release = compare_releases(self.release(), other.release());
+        if release.is_ne() {
+            return release;
+        }
         let class = compare_numbers(self.class(), other.class());
         let pre = compare_pre(self.pre(), other.pre());
         let post = compare_post(self.post(), self.max(), other.post(), other.max());
         let least = compare_absent_first(self.min(), other.min());
         let dev = compare_absent_last(self.dev(), other.dev());
-        compare_numbers(self.epoch, other.epoch).then(release.then(class.then(pre.then(post.then(
-            least.then(dev),
-        )))))
+        class.then(pre.then(post.then(least.then(dev))))
     }
 }
 
