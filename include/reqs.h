@@ -13,7 +13,7 @@
  * Threads. Calls share nothing: any threads may call at any time, with buffers that no other call writes. Don't call
  * from a signal handler, nor in the child of a fork of a process with threads.
  *
- * Stack. A thread needs 2 MiB, of which a marker in 256 brackets takes nearly one; docs/C.md says what was tried.
+ * Stack. A thread needs 512 KiB; docs/C.md says what was tried.
  *
  * No call ends the process, throws, blocks, reads or writes a file or looks at the process's environment. `${NAME}` in a
  * URL stays as it is written; a relative path in a URL's place stands at `/`.

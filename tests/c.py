@@ -31,7 +31,7 @@ ALL, MOST_REQUESTS = 2 ** 62, 5000
 # What is given back counts as given back at once.
 AT_ONCE = {"GLIBC_TUNABLES": "glibc.malloc.tcache_count=0"}
 # How many extras the deepest trees have: one that is asked, and one that is printed; and the threads' stack in KiB.
-DEEP = ("100000", "1000", "1536")
+DEEP = ("100000", "1000", "512")
 
 passed, failed = 0, []
 
