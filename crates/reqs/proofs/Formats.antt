@@ -4,7 +4,7 @@ use Rattle.std.specs.List.{AllZip}
 use Rattle.pep508_environment.specs.Environment.{EnvironmentRecord}
 use Rattle.pep508_evaluation.specs.Valuations.{valuation_of}
 use Rattle.reqtable_text.specs.declared.candidates.Candidate.{Candidate}
-use Rattle.reqtable_answer.specs.Answer.{RowRecord, IsAnswerText, answer_text}
+use Rattle.reqtable_answer.specs.Answer.{RowRecord, IsAnswer, IsAnswerText, answer_text}
 use Rattle.reqtable_requirements.specs.Asks.{asks_of}
 use Rattle.reqtable_requirements.specs.LineReading.{LineRecord}
 use Rattle.reqs_json.specs.declared.format.Format.TheVariants.{Text, Json}
@@ -17,14 +17,18 @@ use Rattle.reqs.specs.Texts.{ReadTexts}
 use Rattle.reqs.proofs.Numbered.{as_check}
 
 pub same_rows : (texts : CheckTexts) (lines object : List ℕ) → IsCheckText Text texts lines → IsCheckText Json texts object
-    → (candidates : List Candidate) × (rows : List RowRecord)
-    × (lines ≡ answer_text candidates rows) × (object ≡ line_of (answer_value candidates rows))
+    → (read : ReadTexts EnvironmentRecord) × (rows : List RowRecord) × (texts ≡ Ok read)
+    × IsAnswer on_request (asks_of (valuation_of read.second read.extras) read.lines) read.candidates rows
+    × (lines ≡ answer_text read.candidates rows)
+    × (object ≡ line_of (answer_value read.candidates rows))
 same_rows texts lines object a b =
     let read : a.read ≡ b.read = cc (a.is_read, b.is_read) in
     let P : ReadTexts EnvironmentRecord → Type 0 =
     λ r. IsAnswerIn Json on_request (asks_of (valuation_of r.second r.extras) r.lines) r.candidates object in (
-      a.read.candidates,
+      a.read,
       a.is_text.0,
+      a.is_read,
+      a.is_text.1,
       a.is_text.2,
       object_is on_request (asks_of (valuation_of a.read.second a.read.extras) a.read.lines) a.read.candidates a.is_text.0 object a.is_text.1
           (subst P (sym read) b.is_text),
@@ -44,10 +48,12 @@ module _ (extras : List (List ℕ)) (lines : List LineRecord) (candidates : List
   pub same_rows_of_all : (environments : List EnvironmentRecord) (text object : List ℕ)
       → IsMatrixIn Text on_request extras lines candidates environments text
       → IsMatrixIn Json on_request extras lines candidates environments object
-      → (answers : List (List RowRecord)) × (text ≡ numbered 1 (map (answer_text candidates) answers))
+      → (answers : List (List RowRecord)) × AreAnswers on_request extras lines candidates environments answers
+      × (text ≡ numbered 1 (map (answer_text candidates) answers))
       × (object ≡ line_of (answers_value candidates answers))
   same_rows_of_all environments text object a b = (
     b.0,
+    b.1,
     as_check extras lines candidates 1 environments (map (answer_text candidates) b.0) text (texts_of_rows environments b.0 b.1) a,
     b.2,
   )
