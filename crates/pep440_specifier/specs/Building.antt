@@ -6,9 +6,11 @@ use Rattle.pep440_version.specs.Changes.{has_local}
 use Rattle.pep440_operator.specs.declared.operator.Operator.{Operator}
 use Rattle.pep440_operator.specs.declared.operator.Operator.TheVariants.{EqualStar}
 use Rattle.pep440_specifier.specs.declared.build_error.VersionSpecifierBuildError.{VersionSpecifierBuildError}
-use Rattle.pep440_specifier.specs.declared.build_error.VersionSpecifierBuildError.TheVariants.{OperatorLocalCombo}
-use Rattle.pep440_specifier.specs.declared.build_error.VersionSpecifierBuildError.TheVariants.{OperatorWithStar}
-use Rattle.pep440_specifier.specs.declared.build_error.VersionSpecifierBuildError.TheVariants.{CompatibleRelease}
+use Rattle.pep440_specifier.specs.declared.build_error.VersionSpecifierBuildError.TheVariants.{
+  OperatorLocalCombo,
+  OperatorWithStar,
+  CompatibleRelease,
+}
 use Rattle.pep440_operator.specs.Operators.{is_star, takes_local, is_tilde, starred}
 use Rattle.pep440_specifier.specs.Matching.{SpecifierRecord}
 

@@ -199,8 +199,8 @@ fn from_behind(
 }
 
 /// The tree that holds where all of the trees do. Those of one key become one node. Where each asks for one
-/// flag, the last are joined first, so that n flags in their order make n nodes. Else the conjunctions of both
-/// halves are made, and then theirs.
+/// flag, the last are joined first, so that n flags in their order make n nodes. Else the conjunctions of
+/// both halves are made, and then theirs.
 fn by_halves(
     alloc: Global,
     interner: &mut Interner,

@@ -132,7 +132,8 @@ pub(crate) fn version_sources<'a>(
 ) -> Result<Option<Vec<Source<'a, Version>>>, AllocError>
     requires { AllByRecursion (IsTree interner.now.nodes) trees.now }
     ensures { IfOk result (λ found. IfSome found (λ sources.
-        Meet (IsSource version_cmp (λ v. v.version key) interner.now.nodes negated) trees.now sources.items)) }
+        Meet (IsSource version_cmp (λ v. v.version key) interner.now.nodes negated) trees.now
+        sources.items)) }
 {
     let mut sources = Vec::new(alloc);
     for tree in trees {
