@@ -9,9 +9,10 @@ as a JSON text a line on standard input. Chains are `os_name == 'x0' or os_name 
 `extra == 'x0' and extra == 'x1' ..`; the many are drawn from the real markers among the questions of
 crates/pep508_marker_vectors. What is printed are those, clauses of ten comparisons, which differ in the first,
 in the last or in all, and 1,024 clauses of the same eleven extras; reading these alone is timed beside. There the
-native program is called by `dnf` and `tree`. Processor seconds and peak memory are those of the whole process, the least of several runs. The exit status is 1
-where an answer is wrong, or where chains of 10,000 take more than 7 times as long as those of 2,000 (of extras 9 times:
-n of them make n log n nodes, each of which is looked for among all).
+native program is called by `dnf` and `tree`. Processor seconds and peak memory are those of the whole process,
+the least of several runs. The exit status is 1 where an answer is wrong, or where chains of 10,000 take more than
+7 times as long as those of 2,000 (of extras 9 times: n of them make n nodes, each of which is looked for in an
+ordered table).
 """
 
 import argparse
