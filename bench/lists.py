@@ -80,6 +80,14 @@ class Measured:
         return ended.ru_utime + ended.ru_stime - began.ru_utime - began.ru_stime
 
 
+def print_aims(reading, alike, differing, contradicting):
+    """What is aimed at for 10,000 lines, and what was measured."""
+    for what, value, most in (("`same` of equal lines takes the time of reading both lists", alike / reading / 2, 2),
+                              ("`same` of lists that differ takes the time of equal ones", differing / alike, 1.5),
+                              ("`conflicts` takes the time of reading the list", contradicting / reading, 2)):
+        print(f"  {what} {value:.2f} times, and {most} times at most are aimed at{'' if value <= most else ': MISSED'}", flush=True)
+
+
 def many_packages(words, folder, size):
     lines = compared_lines(size, words.seed, words.full)
     turned = random.Random(words.seed).sample(lines, len(lines))
@@ -93,6 +101,8 @@ def many_packages(words, folder, size):
              it.seconds(f"no\nzzz-last\n{EVERYWHERE}\n", "same", "LIST", "OTHER"), it.seconds(None, "conflicts", "LIST"),
              it.seconds(None, "normal", "LIST")]
     print(f"| {size:,} | " + " | ".join(f"{seconds:.3f} | {mib:.0f}" for seconds, mib in times) + " |", flush=True)
+    if size == 10000:
+        print_aims(*(seconds for seconds, _ in times[:4]))
     slow = size == 10000 and times[1][0] > 6 * times[0][0]
     if slow:
         print("  missed: same takes more than three times as long as reading both lists")

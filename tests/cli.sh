@@ -325,9 +325,9 @@ run conflicts "$top/examples/apart/requirements.txt"
 wants "examples/apart: two lines that contradict each other" 0 \
     "$(cat "$top/examples/apart/expected_conflicts.txt")$n" ""
 # Each list without its URLs, beside itself turned round and beside its normal text.
-for example in "$top"/examples/*/requirements.txt; do
-    name=${example%/*}
-    name=${name##*/}
+for example in "$top"/examples/*/requirements.txt "$top"/examples/lock/{before,rewritten,after}.txt; do
+    name=${example#"$top/examples/"}
+    name=${name%/requirements.txt}
     grep -v ' @ ' "$example" >one
     tac one >turned
     run same one turned
