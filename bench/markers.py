@@ -8,11 +8,11 @@ PROGRAM is crates/pep508_marker_vectors/out/pep508_marker_vectors where none is 
 as a JSON text a line on standard input. Chains are `os_name == 'x0' or os_name == 'x1' ..` and the same of extras, and
 `extra == 'x0' and extra == 'x1' ..`; the many are drawn from the real markers among the questions of
 crates/pep508_marker_vectors. What is printed are those, clauses of ten comparisons, which differ in the first,
-in the last or in all, and 1,024 clauses of the same eleven extras; reading these alone is timed beside. There the
-native program is called by `dnf` and `tree`. Processor seconds and peak memory are those of the whole process,
-the least of several runs. The exit status is 1 where an answer is wrong, or where chains of 10,000 take more than
-7 times as long as those of 2,000 (of extras 9 times: n of them make n nodes, each of which is looked for in an
-ordered table).
+in the last or in all, 1,024 clauses of the same eleven extras, an `or` of some flags, and one of 10,000 versions;
+reading these alone is timed beside. There the native program is called by `dnf` and `tree`. Processor seconds and peak
+memory are those of the whole process, the least of several runs. The exit status is 1 where an answer is wrong, where
+chains of 10,000 take more than 7 times as long as those of 2,000 (of extras 9 times: n of them make n nodes, each of
+which is looked for in an ordered table), or where a chain of 300,000 texts or versions takes more than 3 seconds.
 """
 
 import argparse
@@ -29,7 +29,10 @@ CRATE = os.path.join(HERE, "..", "crates", "pep508_marker_vectors")
 PROGRAM = os.path.join(CRATE, "out", "pep508_marker_vectors")
 LEAST, MOST = 2000, 10000
 LIMITS = {"os_name": 7, "extra": 9}
+LONG, LONGEST_SECONDS = 300000, 3
 CLAUSES, FLAGS = 1000, 11
+# How many flags an `or` has, and up to how many the native program is asked too.
+JOINED_FLAGS, MOST_NATIVE_FLAGS = (100, 300, 1000), 300
 KEYS = ["implementation_name", "os_name", "platform_machine", "platform.machine", "platform_python_implementation",
         "python_implementation", "platform_release", "platform_system", "platform_version", "sys_platform"]
 
@@ -45,7 +48,8 @@ def read_words():
 
 def chain(key, word, size):
     """A chain of comparisons, in no order."""
-    members = [f"{key} == 'x{number}'" for number in range(size)]
+    value = "{1}.{0}" if key.endswith("version") else "x{0}"
+    members = [f"{key} == '{value.format(number, number % 1000)}'" for number in range(size)]
     random.Random(7).shuffle(members)
     return f" {word} ".join(members)
 
@@ -124,12 +128,19 @@ def workloads(lines):
             # (the native program takes the square of a chain's length, and prints what it has read)
             command = "marker" if (key, size) == ("os_name", LEAST) else None
             yield f"{key} {word} {size}", "marker", command, [chain(key, word, size)]
+    for key in ("os_name", "python_full_version"):
+        yield f"{key} or {LONG}", "marker", None, [chain(key, "or", LONG)]
     yield f"real markers {lines}", "marker", "marker", real_markers(lines)
     for which, at in (("first", 0), ("last", -1), ("all", None)):
         for question, command in (("marker", "tree"), ("text", "dnf")):
             yield f"{CLAUSES} clauses, {which} terms differ: {question}", question, command, [clauses(CLAUSES, at)]
     for question, command in (("marker", "tree"), ("text", "dnf")):
         yield f"clauses of {FLAGS} flags: {question}", question, command, [flag_clauses(FLAGS)]
+    for flags in JOINED_FLAGS:
+        command = "dnf" if flags <= MOST_NATIVE_FLAGS else None
+        yield f"an or of {flags} flags: text", "text", command, [chain("extra", "or", flags)]
+    for question in ("marker", "text"):
+        yield f"an or of {MOST} versions: {question}", question, None, [chain("python_full_version", "or", MOST)]
     yield f"real markers {lines}: text", "text", "dnf", real_markers(lines)
 
 
@@ -148,7 +159,10 @@ def main():
     slow = [it for it in took if it.endswith(f" {MOST}") and is_slow(it, took)]
     for it in slow:
         print(f"markers: {it} takes more than {LIMITS[it.split()[0]]} times as long as {LEAST}", file=sys.stderr)
-    return 1 if slow else 0
+    long = [it for it in took if it.endswith(f" {LONG}") and took[it][0] > LONGEST_SECONDS]
+    for it in long:
+        print(f"markers: {it} takes more than {LONGEST_SECONDS} s", file=sys.stderr)
+    return 1 if slow or long else 0
 
 
 def is_slow(chain, took):

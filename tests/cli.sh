@@ -153,7 +153,7 @@ wants "comparisons that mean nothing" 0 "bar none${n}baz none${n}foo 1.0$n" ""
 run check R E C dev Other_Extra
 wants "two extras" 0 "foo-bar 1.19$n" ""
 # A path as long as its line has extras, in no order, with the stack that systems mostly give.
-extras=50000
+extras=400000
 awk -v n=$extras 'BEGIN { printf "foo ; extra == \"x0\""; for (i = 1; i < n; i++) printf " and extra == \"x%d\"", i * 7919 % n }' >deep
 awk -v n=$extras 'BEGIN { for (i = 0; i < n; i++) print "extra == '"'"'x" i "'"'"'" }' | sort |
     awk '{ printf "%s%s", NR == 1 ? "foo ; " : " and ", $0 } END { print "" }' >in_order
