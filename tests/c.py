@@ -123,27 +123,26 @@ PATHS = {"R": 0, "E": 1, "C": 2, "LEFT": 0, "RIGHT": 1, "REQS": 0}
 def of_runs():
     """The stored runs of the command."""
     told = json.loads(read("tests", "runs.json"))
-    usual = json.loads(told["environment"])
     as_bytes = lambda text: text.encode("utf-8", "surrogateescape")
-    for run in told["runs"]:
-        call, texts = call_of(run, usual, told["environment"])
-        yield run, (call, [as_bytes(it) for it in texts], run.get("limit", LIMIT), ROOM)
+    for kind in ("runs", "worked", "matrix", "lists"):
+        for run in told[kind]:
+            call, texts = call_of(kind, run, told["environment"])
+            yield run, (call, [as_bytes(it) for it in texts], run.get("limit", LIMIT), ROOM)
 
 
-def call_of(run, usual, environment):
+def call_of(kind, run, environment):
     """A run's call and its texts."""
-    if "left" in run:
-        return "same", [run["left"], run["right"]]
+    if kind == "lists":
+        return run["command"], [run["left"], run["right"]] if run["command"] == "same" else [run["requirements"]]
+    call, where = "check", run.get("environment", environment)
+    if kind == "matrix":
+        call = kind
+        if "environments" in run:
+            usual = json.loads(environment)
+            each = [{**usual, **it} for it in run["environments"]]
+            where = json.dumps([{name: it for name, it in one.items() if it is not None} for one in each])
     extras = "".join(f"{it}\n" for it in run.get("extras", []))
-    command = run.get("command", "check")
-    if command in ("conflicts", "normal"):
-        return command, [run["requirements"]]
-    if command == "matrix" or "environments" in run:
-        where = run.get("environment")
-        if where is None:
-            where = json.dumps([None if it is None else {**usual, **it} for it in run["environments"]])
-        return "matrix", [run["requirements"], where, run["candidates"], extras]
-    return command, [run["requirements"], run.get("environment", environment), run["candidates"], extras]
+    return call, [run["requirements"], where, run["candidates"], extras]
 
 
 # Normal texts (PEP 440, "Normalization"; PEP 508), and texts that are none.

@@ -162,40 +162,23 @@ def differs(program, command, written):
     return [] if done.stdout + done.stderr == written else [f"it writes {done.stdout + done.stderr!r}"]
 
 
-def stored_runs():
-    with open(os.path.join(TOP, "tests", "runs.json"), encoding="utf-8") as file:
-        return json.load(file)
-
-
 def count():
     """How many runs and examples there are."""
-    return sum(1 for _ in runs.runs_of(stored_runs())) + sum(1 for _ in examples())
+    return sum(1 for _ in runs.runs_of(runs.stored_runs())) + sum(1 for _ in examples())
 
 
-def main():
-    if len(sys.argv) != 2:
-        sys.exit(__doc__)
-    program = os.path.abspath(sys.argv[1])
-    passed = failed = 0
-    for turn, (name, words, texts, wanted) in enumerate(runs.runs_of(stored_runs())):
+def tried(program):
+    """What each run and each example is, and what is wrong with it."""
+    for turn, (name, words, texts, wanted) in enumerate(runs.runs_of(runs.stored_runs())):
         try:
             found = faults_of(words[0], wanted, runs.ended(program, with_format(words, "json", turn), texts))
         except (OSError, subprocess.TimeoutExpired) as error:
             found = [str(error)]
         found += runs.differences(program, with_format(words, "text", turn), texts, wanted)
-        passed += not found
-        failed += bool(found)
-        if found:
-            print(f"FAILED: object of {name}: {'; '.join(found)}")
+        yield f"object of {name}", found
     for command, written in examples():
-        found = differs(program, command, written)
-        passed += not found
-        failed += bool(found)
-        if found:
-            print(f"FAILED: example of docs/JSON.md: {command}: {'; '.join(found)}")
-    print(f"objects: {passed} passed, {failed} failed")
-    return 1 if failed else 0
+        yield f"example of docs/JSON.md: {command}", differs(program, command, written)
 
 
 if __name__ == "__main__":
-    sys.exit(main())
+    sys.exit(runs.command(__doc__, "objects", tried))

@@ -85,23 +85,35 @@ def end_of(run):
     return run["status"], to_bytes(run["stdout"]), to_bytes(run["stderr"])
 
 
-def main():
-    if len(sys.argv) != 2:
-        sys.exit(__doc__)
-    program = os.path.abspath(sys.argv[1])
+def stored_runs():
+    """What runs.json holds."""
     here = os.path.dirname(os.path.abspath(__file__))
     with open(os.path.join(here, "runs.json"), encoding="utf-8") as file:
-        stored = json.load(file)
+        return json.load(file)
+
+
+def tried(program):
+    """What each run is, and how it differs."""
+    for name, words, texts, wanted in runs_of(stored_runs()):
+        yield f"stored run {name}", differences(program, words, texts, wanted)
+
+
+def command(text, name, tries):
+    """Does what a script is asked for whose one word is a program: tries it, and prints what fails. Returns the exit status.
+
+    `text` tells of the script, whose name is `name`; `tries` gives of a program what was tried, and what is wrong with that.
+    """
+    if len(sys.argv) != 2:
+        sys.exit(text)
     passed = failed = 0
-    for name, words, texts, wanted in runs_of(stored):
-        found = differences(program, words, texts, wanted)
+    for what, found in tries(os.path.abspath(sys.argv[1])):
         passed += not found
         failed += bool(found)
         if found:
-            print(f"FAILED: stored run {name}: {'; '.join(found)}")
-    print(f"runs: {passed} passed, {failed} failed")
+            print(f"FAILED: {what}: {'; '.join(found)}")
+    print(f"{name}: {passed} passed, {failed} failed")
     return 1 if failed else 0
 
 
 if __name__ == "__main__":
-    sys.exit(main())
+    sys.exit(command(__doc__, "runs", tried))

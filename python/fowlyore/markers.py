@@ -4,12 +4,16 @@ import json
 import os
 import platform
 import sys
-from typing import Any, Dict, List, Mapping, Optional
+from typing import Any, Dict, List, Literal, Mapping, Optional
 
 from . import _native
 from .errors import Refused, on_one_line, refusal
 
-__all__ = ["InvalidMarker", "Marker", "UndefinedComparison", "UndefinedEnvironmentName", "default_environment"]
+__all__ = [
+    "EvaluateContext", "InvalidMarker", "Marker", "UndefinedComparison", "UndefinedEnvironmentName", "default_environment",
+]  # fmt: skip
+
+EvaluateContext = Literal["metadata", "lock_file", "requirement"]
 
 # What is printed for a marker that holds everywhere, whose normal text is empty: what never holds is `python_version < '0'`.
 _ALWAYS = "python_version >= '0'"
@@ -121,7 +125,7 @@ class Marker:
             return NotImplemented
         return self._text == other._text
 
-    def evaluate(self, environment: Optional[Mapping[str, Any]] = None, context: str = "metadata") -> bool:
+    def evaluate(self, environment: Optional[Mapping[str, Any]] = None, context: EvaluateContext = "metadata") -> bool:
         """Whether the marker holds for the running interpreter, with the values of `environment` in place of its own. There
         `extra` is the one extra that is asked for, none where it is empty. `context` is taken as packaging has it, and says
         nothing here.

@@ -1,10 +1,14 @@
 //! Markers (PEP 508, "Environment markers").
 
+use crate::refused::on_one_line;
 use crate::{native, Refused};
 use std::fmt;
+use std::hash::{Hash, Hasher};
+use std::iter::once;
 use std::str::FromStr;
 
-/// A marker, in its normal text. Two markers that hold in the same environments with the same extras are equal.
+/// A marker of one line, which prints its normal text. Two markers that hold in the same environments with the same extras are
+/// equal.
 ///
 /// ```
 /// use fowlyore::MarkerTree;
@@ -14,16 +18,29 @@ use std::str::FromStr;
 /// assert!(!marker.is_true());
 /// # Ok::<(), fowlyore::Refused>(())
 /// ```
-#[derive(Clone, Debug, Default, PartialEq, Eq, Hash)]
+#[derive(Clone, Debug, Default)]
 pub struct MarkerTree {
     text: String,
+    /// A text that it can be read from. The normal text puts single quotes around a text that has one in it, and then
+    /// can't be read.
+    readable: String,
 }
 
 impl MarkerTree {
-    /// The marker of a normal text that the library wrote, which is empty where it always holds.
-    pub(crate) fn of_normal(text: &str) -> MarkerTree {
-        let text = text.to_owned();
-        MarkerTree { text }
+    /// The marker of this normal text, which the library wrote of a requirement's text; empty where it always holds. It is read
+    /// from the normal text, or else from behind a `;` of the requirement's text, where it says the same.
+    pub(crate) fn of_requirement(normal: &str, requirement: &str) -> MarkerTree {
+        if normal.is_empty() {
+            return MarkerTree::default();
+        }
+        let behind = requirement
+            .match_indices(';')
+            .map(|(at, _)| &requirement[at + 1..]);
+        once(normal)
+            .chain(behind)
+            .filter_map(|it| it.parse::<MarkerTree>().ok())
+            .find(|it| it.text == normal)
+            .expect("a requirement's marker stands behind a `;` of its text")
     }
 
     /// Whether it holds in every environment.
@@ -37,11 +54,26 @@ impl MarkerTree {
     }
 
     /// Whether it holds in an environment, which is JSON as of `reqs check`, with extras.
+    ///
+    /// ```
+    /// use fowlyore::{MarkerTree, Requirement};
+    ///
+    /// let environment = r#"{"implementation_name": "cpython", "implementation_version": "3.11.7", "os_name": "posix",
+    ///     "platform_machine": "x86_64", "platform_python_implementation": "CPython", "platform_release": "6.1",
+    ///     "platform_system": "Linux", "platform_version": "it's", "python_full_version": "3.11.7",
+    ///     "python_version": "3.11", "sys_platform": "linux"}"#;
+    /// let marker: MarkerTree = "python_version >= '3.8' and extra == 'socks'".parse()?;
+    /// assert_eq!((marker.evaluate(environment, &["Socks"])?, marker.evaluate(environment, &[])?), (true, false));
+    /// let line: Requirement = "foo @ https://example.org/;x ; platform_version == \"it's\"".parse()?;
+    /// assert!(line.marker.evaluate(environment, &[])?);
+    /// assert!("os_name ==\n'posix'".parse::<MarkerTree>().is_err());
+    /// # Ok::<(), fowlyore::Refused>(())
+    /// ```
     pub fn evaluate(&self, environment: &str, extras: &[&str]) -> Result<bool, Refused> {
         if self.is_true() {
             return Ok(true);
         }
-        Ok(native::markers_hold(&self.text, environment, extras)? == "1")
+        Ok(native::markers_hold(&self.readable, environment, extras)? == "1")
     }
 }
 
@@ -49,13 +81,29 @@ impl FromStr for MarkerTree {
     type Err = Refused;
 
     fn from_str(text: &str) -> Result<MarkerTree, Refused> {
+        on_one_line(text)?;
+        let readable = text.trim().to_owned();
         let text = native::marker(text)?;
-        Ok(MarkerTree { text })
+        Ok(MarkerTree { text, readable })
     }
 }
 
 impl fmt::Display for MarkerTree {
     fn fmt(&self, f: &mut fmt::Formatter<'_>) -> fmt::Result {
         f.pad(&self.text)
+    }
+}
+
+impl PartialEq for MarkerTree {
+    fn eq(&self, other: &MarkerTree) -> bool {
+        self.text == other.text
+    }
+}
+
+impl Eq for MarkerTree {}
+
+impl Hash for MarkerTree {
+    fn hash<H: Hasher>(&self, state: &mut H) {
+        self.text.hash(state);
     }
 }

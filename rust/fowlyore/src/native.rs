@@ -107,25 +107,25 @@ pub(crate) fn is_known() -> bool {
     abi() == ABI
 }
 
-type OnText = unsafe extern "C" fn(*const u8, usize, *mut u8, usize) -> Reply;
-
-fn on_text(call: OnText, text: &[u8], room: usize) -> Result<String, Refused> {
-    // SAFETY: the pointers and lengths are those of slices that live until the call is over, and `out` is of its own.
-    answered(room, |out, len| unsafe {
-        call(text.as_ptr(), text.len(), out, len)
-    })
-    .map(|it| it.text)
+/// What a function answers about texts, each of which it takes as a pointer and a length, and perhaps with a limit.
+macro_rules! asked {
+    ($call:ident, $room:expr, $($text:ident),+ $(; $limit:ident)?) => {
+        // SAFETY: the pointers and lengths are those of slices that live until the call is over, and `out` is of its own.
+        answered($room, |out, len| unsafe {
+            $call($($text.as_ptr(), $text.len(),)+ $($limit,)? out, len)
+        })
+    };
 }
 
 pub(crate) fn version(text: &str) -> Result<String, Refused> {
-    on_text(reqs_version, text.as_bytes(), ROOM)
+    asked!(reqs_version, ROOM, text).map(|it| it.text)
 }
 
 /// The key of a text's version, or nothing where it is none.
 pub(crate) fn version_key(text: &str) -> Option<Vec<u8>> {
     let mut out = vec![0; ROOM];
     loop {
-        // SAFETY: as in `on_text`.
+        // SAFETY: as in `asked`.
         let length =
             unsafe { reqs_version_key(text.as_ptr(), text.len(), out.as_mut_ptr(), out.len()) };
         match usize::try_from(length) {
@@ -141,31 +141,20 @@ pub(crate) fn version_key(text: &str) -> Option<Vec<u8>> {
 }
 
 pub(crate) fn specifiers(text: &str) -> Result<String, Refused> {
-    on_text(reqs_specifiers, text.as_bytes(), ROOM)
+    asked!(reqs_specifiers, ROOM, text).map(|it| it.text)
 }
 
 /// A byte for each line: `1` where the list takes the version, `0` where it doesn't, `?` where it is none.
 pub(crate) fn specifiers_take(list: &str, versions: &str) -> Result<String, Refused> {
-    // SAFETY: as in `on_text`.
-    let call = |out, len| unsafe {
-        reqs_specifiers_take(
-            list.as_ptr(),
-            list.len(),
-            versions.as_ptr(),
-            versions.len(),
-            out,
-            len,
-        )
-    };
-    answered(ROOM, call).map(|it| it.text)
+    asked!(reqs_specifiers_take, ROOM, list, versions).map(|it| it.text)
 }
 
 pub(crate) fn requirement(text: &str) -> Result<String, Refused> {
-    on_text(reqs_requirement, text.as_bytes(), ROOM)
+    asked!(reqs_requirement, ROOM, text).map(|it| it.text)
 }
 
 pub(crate) fn marker(text: &str) -> Result<String, Refused> {
-    on_text(reqs_marker, text.as_bytes(), ROOM)
+    asked!(reqs_marker, ROOM, text).map(|it| it.text)
 }
 
 /// A byte for each line: `1` where the marker holds, `0` where it doesn't, `?` where it is none.
@@ -175,88 +164,38 @@ pub(crate) fn markers_hold(
     extras: &[&str],
 ) -> Result<String, Refused> {
     let extras = extras.join("\n");
-    // SAFETY: as in `on_text`.
-    let call = |out, len| unsafe {
-        reqs_markers_hold(
-            markers.as_ptr(),
-            markers.len(),
-            environment.as_ptr(),
-            environment.len(),
-            extras.as_ptr(),
-            extras.len(),
-            out,
-            len,
-        )
-    };
-    answered(ROOM, call).map(|it| it.text)
+    asked!(reqs_markers_hold, ROOM, markers, environment, extras).map(|it| it.text)
 }
 
 pub(crate) fn check(lists: [&[u8]; 3], extras: &[&str]) -> Result<String, Refused> {
     let [requirements, environment, candidates] = lists;
-    let extras = extras.join("\n");
-    // SAFETY: as in `on_text`.
-    let call = |out, len| unsafe {
-        reqs_check(
-            requirements.as_ptr(),
-            requirements.len(),
-            environment.as_ptr(),
-            environment.len(),
-            candidates.as_ptr(),
-            candidates.len(),
-            extras.as_ptr(),
-            extras.len(),
-            out,
-            len,
-        )
-    };
-    answered(ROOM + requirements.len(), call).map(|it| it.text)
+    let (extras, room) = (extras.join("\n"), ROOM + requirements.len());
+    asked!(
+        reqs_check,
+        room,
+        requirements,
+        environment,
+        candidates,
+        extras
+    )
+    .map(|it| it.text)
 }
 
 pub(crate) fn matrix(lists: [&[u8]; 3], extras: &[&str], limit: u64) -> Result<String, Refused> {
     let [requirements, environments, candidates] = lists;
-    let extras = extras.join("\n");
-    // SAFETY: as in `on_text`.
-    let call = |out, len| unsafe {
-        reqs_matrix(
-            requirements.as_ptr(),
-            requirements.len(),
-            environments.as_ptr(),
-            environments.len(),
-            candidates.as_ptr(),
-            candidates.len(),
-            extras.as_ptr(),
-            extras.len(),
-            limit,
-            out,
-            len,
-        )
-    };
-    answered(ROOM + requirements.len(), call).map(|it| it.text)
+    let (extras, room) = (extras.join("\n"), ROOM + requirements.len());
+    asked!(reqs_matrix, room, requirements, environments, candidates, extras; limit)
+        .map(|it| it.text)
 }
 
 pub(crate) fn same(left: &[u8], right: &[u8], limit: u64) -> Result<Answer, Refused> {
-    // SAFETY: as in `on_text`.
-    answered(ROOM, |out, len| unsafe {
-        reqs_same(
-            left.as_ptr(),
-            left.len(),
-            right.as_ptr(),
-            right.len(),
-            limit,
-            out,
-            len,
-        )
-    })
+    asked!(reqs_same, ROOM, left, right; limit)
 }
 
 pub(crate) fn conflicts(requirements: &[u8], limit: u64) -> Result<String, Refused> {
-    // SAFETY: as in `on_text`.
-    let call = |out, len| unsafe {
-        reqs_conflicts(requirements.as_ptr(), requirements.len(), limit, out, len)
-    };
-    answered(ROOM, call).map(|it| it.text)
+    asked!(reqs_conflicts, ROOM, requirements; limit).map(|it| it.text)
 }
 
 pub(crate) fn normal(requirements: &[u8]) -> Result<String, Refused> {
-    on_text(reqs_normal, requirements, ROOM + requirements.len())
+    asked!(reqs_normal, ROOM + requirements.len(), requirements).map(|it| it.text)
 }

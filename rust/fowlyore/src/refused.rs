@@ -30,3 +30,18 @@ impl fmt::Display for Refused {
 }
 
 impl Error for Refused {}
+
+/// Refuses a text that goes over more than one line: PEP 508 has no line feed, and the library's batches have lines.
+pub(crate) fn on_one_line(text: &str) -> Result<(), Refused> {
+    let blanks = text.len() - text.trim_start().len();
+    match text.trim().find('\n') {
+        None => Ok(()),
+        Some(at) => Err(Refused {
+            message: format!("{text:?} goes over more than one line"),
+            input: 1,
+            line: 0,
+            start: blanks + at,
+            len: 1,
+        }),
+    }
+}

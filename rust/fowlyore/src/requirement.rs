@@ -1,10 +1,11 @@
 //! Requirements (PEP 508).
 
+use crate::refused::on_one_line;
 use crate::{native, MarkerTree, Refused, VersionSpecifiers};
 use std::fmt;
 use std::str::FromStr;
 
-/// A requirement.
+/// A requirement, of one line.
 ///
 /// ```
 /// use fowlyore::Requirement;
@@ -32,6 +33,7 @@ impl FromStr for Requirement {
     type Err = Refused;
 
     fn from_str(text: &str) -> Result<Requirement, Refused> {
+        on_one_line(text)?;
         let parts = native::requirement(text)?;
         let mut parts = parts.splitn(5, '\n');
         let mut part = || parts.next().expect("a requirement has five parts");
@@ -45,7 +47,7 @@ impl FromStr for Requirement {
                 .collect(),
             specifiers: specifiers.parse()?,
             url: Some(url).filter(|it| !it.is_empty()).map(String::from),
-            marker: MarkerTree::of_normal(marker),
+            marker: MarkerTree::of_requirement(marker, text),
         })
     }
 }

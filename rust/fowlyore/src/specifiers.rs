@@ -4,7 +4,8 @@ use crate::{native, Refused, Version};
 use std::fmt;
 use std::str::FromStr;
 
-/// A list of specifiers, all of which a version has to match. Its members stand in the order of their versions.
+/// A list of specifiers, all of which a version has to match. Its members stand in the order of their versions. Lists are equal
+/// where their members' texts are: `==1` is another list than `==1.0`, although both take the same versions.
 ///
 /// ```
 /// use fowlyore::{Version, VersionSpecifiers};
