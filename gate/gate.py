@@ -23,6 +23,8 @@ from crates import TOP, Crates, sum_of_files, toolchain_sum
 from store import Store
 
 CLOSING = re.compile(r"^(?:[a-z]+: )?(\d+) passed, (\d+) failed$", re.M)
+# How a part says that it left something out, for want of what the machine may have another time.
+LEFT_OUT = re.compile(r"^(?:[a-z]+\.sh: left out|not tried): ", re.M)
 NOTHING = "--from-nothing"
 QUESTIONS = ("pep440_vectors", "pep508_vectors", "pep508_marker_vectors")
 # What of tests/ the parts read that run programs.
@@ -82,7 +84,7 @@ def parts(more):
 
 
 def run(part, show):
-    """Runs a part and shows what it says. Returns what passed and failed."""
+    """Runs a part and shows what it says. Returns what passed and failed, and whether nothing was left out."""
     said = []
     how = {"stdin": subprocess.DEVNULL, "stdout": subprocess.PIPE, "stderr": subprocess.STDOUT, "errors": "replace"}
     with subprocess.Popen(part.words, cwd=TOP, **how) as ran:
@@ -92,16 +94,16 @@ def run(part, show):
     closings = CLOSING.findall("".join(said))[-part.closings :]
     if len(closings) < part.closings:
         show(f"test: {part.name} ended with status {ran.returncode} and without its closing line\n")
-        return 0, 1
+        return 0, 1, False
     good, bad = (sum(int(it[at]) for it in closings) for at in (0, 1))
     if bad == 0 and (ran.returncode or any(it[0] == "0" for it in closings)):
         show(f"test: {part.name} ended with status {ran.returncode}, {good} passed and none failed: that is no pass\n")
         bad = 1
-    return good, bad
+    return good, bad, not LEFT_OUT.search("".join(said))
 
 
 def judged(part, crates, store, show):
-    """What passed and failed of a part, which isn't run where the store has the verdict."""
+    """What passed and failed of a part, which isn't run where the store has the verdict of one that left nothing out."""
     began = time.monotonic()
     show(f"test: {part.name}\n")
     entry = part.entry(crates)
@@ -110,8 +112,8 @@ def judged(part, crates, store, show):
         show(f"    {kept[1]} passed, taken from the store\n")
         good, bad = int(kept[1]), 0
     else:
-        good, bad = run(part, show)
-        if entry and not bad and part.entry(Crates()) == entry:
+        good, bad, is_whole = run(part, show)
+        if entry and is_whole and not bad and part.entry(Crates()) == entry:
             store.keep_verdict(entry, f"{good} passed")
     show(f"test: {part.name}: {good} passed, {bad} failed in {time.monotonic() - began:.0f} s\n")
     return good, bad

@@ -2,8 +2,8 @@
  *
  *     deep MOST PRINTED KIB
  *
- * A marker of MOST extras is asked, others and a list of a fifth of them, and one of PRINTED is printed; threads have KIB
- * of stack. The status is 0 where all was as it should be, and a line tells of each that was not. */
+ * A marker of MOST extras is asked, another of a fifth of them, and one of PRINTED is printed, by each command too; threads
+ * have KIB of stack. The status is 0 where all was as it should be, and a line tells of each that was not. */
 
 #include "reqs.h"
 
@@ -108,21 +108,43 @@ static void hold(const char *what, struct text text, struct text environment, co
     free(environment.bytes);
 }
 
-/* Lists of many extras through the command. */
-static void check(const char *what, int count) {
-    struct text list = room(40 * (size_t)count + 64), where = environment(1);
-    add(&list, "a; ");
-    struct text marker = extras(count);
-    memcpy(list.bytes + list.length, marker.bytes, marker.length);
-    list.length += marker.length;
-    uint8_t out[64];
-    reqs_reply reply = reqs_check(list.bytes, list.length, where.bytes, where.length, (const uint8_t *)"a 1\n", 4,
-                                  (const uint8_t *)"x7\n", 3, out, sizeof out);
+/* A list of one line, which asks for so many extras. */
+static struct text listed(int count) {
+    struct text made = room(40 * (size_t)count + 64), marker = extras(count);
+    add(&made, "a; ");
+    memcpy(made.bytes + made.length, marker.bytes, marker.length);
+    made.length += marker.length;
+    free(marker.bytes);
+    return made;
+}
+
+static void answered(const char *what, reqs_reply reply) {
     if (reply.status != REQS_ANSWERED || reply.length == 0) {
         fails(what, reply.status);
     }
+}
+
+/* Such a list through the commands, and its line as a requirement; nothing contradicts itself in it. */
+static void commands(int count) {
+    static uint8_t out[8 << 20];
+    struct text list = listed(count), one = environment(1), where = room(one.length + 2);
+    const uint8_t *candidates = (const uint8_t *)"a 1\n", *asked = (const uint8_t *)"x7\n";
+    add(&where, "[");
+    memcpy(where.bytes + 1, one.bytes, one.length);
+    where.length += one.length;
+    add(&where, "]");
+    answered("check", reqs_check(list.bytes, list.length, one.bytes, one.length, candidates, 4, asked, 3, out, sizeof out));
+    answered("matrix", reqs_matrix(list.bytes, list.length, where.bytes, where.length, candidates, 4, asked, 3, 4096, out,
+                                   sizeof out));
+    answered("same", reqs_same(list.bytes, list.length, list.bytes, list.length, 4096, out, sizeof out));
+    answered("normal", reqs_normal(list.bytes, list.length, out, sizeof out));
+    answered("requirement", reqs_requirement(list.bytes, list.length, out, sizeof out));
+    reqs_reply reply = reqs_conflicts(list.bytes, list.length, 4096, out, sizeof out);
+    if (reply.status != REQS_ANSWERED || reply.length != 0) {
+        fails("conflicts", reply.status);
+    }
     free(list.bytes);
-    free(marker.bytes);
+    free(one.bytes);
     free(where.bytes);
 }
 
@@ -139,7 +161,7 @@ static void *deep(void *unused) {
     marker("extras that are printed", extras(printed), REQS_ANSWERED);
     hold("extras of which one is there", extras(most), environment(1), "x7\n", REQS_ANSWERED, '1');
     hold("extras of which none is there", extras(most / 5), environment(1), "y\n", REQS_ANSWERED, '0');
-    check("a list with extras", most / 5);
+    commands(printed);
     return NULL;
 }
 

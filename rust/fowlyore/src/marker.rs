@@ -33,11 +33,8 @@ impl MarkerTree {
         if normal.is_empty() {
             return MarkerTree::default();
         }
-        let behind = requirement
-            .match_indices(';')
-            .map(|(at, _)| &requirement[at + 1..]);
         once(normal)
-            .chain(behind)
+            .chain(perhaps_markers(requirement))
             .filter_map(|it| it.parse::<MarkerTree>().ok())
             .find(|it| it.text == normal)
             .expect("a requirement's marker stands behind a `;` of its text")
@@ -75,6 +72,21 @@ impl MarkerTree {
         }
         Ok(native::markers_hold(&self.readable, environment, extras)? == "1")
     }
+}
+
+/// What may be the marker of a requirement's text: what is behind its first `;`, or behind its first one beside white space,
+/// since a URL may have others in it.
+fn perhaps_markers(requirement: &str) -> impl Iterator<Item = &str> {
+    let is_apart = |at: &usize| {
+        requirement[..*at].ends_with(char::is_whitespace)
+            || requirement[*at + 1..].starts_with(char::is_whitespace)
+    };
+    let places = || requirement.match_indices(';').map(|(at, _)| at);
+    let (first, apart) = (places().next(), places().find(is_apart));
+    first
+        .into_iter()
+        .chain(apart)
+        .map(|at| &requirement[at + 1..])
 }
 
 impl FromStr for MarkerTree {
