@@ -11,7 +11,7 @@ crates/pep508_marker_vectors. What is printed are those, clauses of ten comparis
 in the last or in all, 1,024 clauses of the same eleven extras, an `or` of some flags, and one of 10,000 versions;
 reading these alone is timed beside. There the native program is called by `dnf` and `tree`. Processor seconds and peak
 memory are those of the whole process, the least of several runs. The exit status is 1 where an answer is wrong, where
-chains of 10,000 take more than 7 times as long as those of 2,000 (of extras 9 times: n of them make n nodes, each of
+chains of 100,000 take more than 7 times as long as those of 20,000 (of extras 9 times: n of them make n nodes, each of
 which is looked for in an ordered table), or where a chain of 300,000 texts or versions takes more than 3 seconds.
 """
 
@@ -25,14 +25,19 @@ import sys
 import tempfile
 
 HERE = os.path.dirname(os.path.abspath(__file__))
+sys.dont_write_bytecode = True
+sys.path.insert(0, HERE)
+from run import peak  # noqa: E402
+
 CRATE = os.path.join(HERE, "..", "crates", "pep508_marker_vectors")
 PROGRAM = os.path.join(CRATE, "out", "pep508_marker_vectors")
-LEAST, MOST = 2000, 10000
+SHORT, LEAST, MOST = 2000, 20000, 100000
 LIMITS = {"os_name": 7, "extra": 9}
 LONG, LONGEST_SECONDS = 300000, 3
 CLAUSES, FLAGS = 1000, 11
 # How many flags an `or` has, and up to how many the native program is asked too.
 JOINED_FLAGS, MOST_NATIVE_FLAGS = (100, 300, 1000), 300
+VERSIONS = 10000
 KEYS = ["implementation_name", "os_name", "platform_machine", "platform.machine", "platform_python_implementation",
         "python_implementation", "platform_release", "platform_system", "platform_version", "sys_platform"]
 
@@ -85,48 +90,50 @@ def flag_clauses(flags):
     return " or ".join(map(" and ".join, terms))
 
 
-def run(words, folder, given):
-    """Runs a command once: what it says, its processor seconds and its peak memory in KiB."""
-    with open(os.path.join(folder, "input"), "w", encoding="utf-8") as file:
-        file.write(given)
+def run(words, folder):
+    """Runs a command once, with the file `input`: what it says, and its processor seconds."""
     with open(os.path.join(folder, "input"), "rb") as source, open(os.path.join(folder, "said"), "wb") as said:
         process = subprocess.Popen(words, cwd=folder, stdin=source, stdout=said)
         _, status, used = os.wait4(process.pid, 0)
     if status != 0:
         raise SystemExit(f"markers: {words[0]} ended with status {os.waitstatus_to_exitcode(status)}")
     with open(os.path.join(folder, "said"), encoding="utf-8") as said:
-        return said.read().splitlines(), used.ru_utime + used.ru_stime, used.ru_maxrss
+        return said.read().splitlines(), used.ru_utime + used.ru_stime
 
 
-def ours(program, folder, question, markers):
+def measured(words, folder, runs, is_answer):
+    """The least processor seconds of several runs, and the peak memory of one more, in KiB."""
+    seconds = []
+    for _ in range(runs):
+        said, took = run(words, folder)
+        if not is_answer(said):
+            raise SystemExit(f"markers: {words[0]} answered something else, or refused a marker")
+        seconds.append(took)
+    return min(seconds), peak(["/bin/sh", "-c", 'cd "$1" && shift && exec "$@" <input', "sh", folder, *words])
+
+
+def ours(program, folder, question, markers, runs):
     with open(os.path.join(folder, "vectors.jsonl"), "w", encoding="utf-8") as file:
         file.writelines(json.dumps([question, marker], ensure_ascii=False) + "\n" for marker in markers)
-    with open(os.path.join(folder, "environments.txt"), "w", encoding="utf-8"):
-        pass
-    said, seconds, peak = run([program], folder, "")
-    if len(said) != len(markers) or any("refused" in line[-200:] for line in said):
-        raise SystemExit("markers: a marker was not read")
-    return seconds, peak
+    for name in ("environments.txt", "input"):
+        with open(os.path.join(folder, name), "w", encoding="utf-8"):
+            pass
+    is_answer = lambda said: len(said) == len(markers) and not any("refused" in line[-200:] for line in said)
+    return measured([program], folder, runs, is_answer)
 
 
 def native(program, folder, command, markers):
-    said, seconds, peak = run([program, command, "--json"], folder, "".join(json.dumps(it) + "\n" for it in markers))
-    if len(said) != len(markers):
-        raise SystemExit("markers: the native program answered something else")
-    return seconds, peak
-
-
-def least(measure, runs):
-    found = [measure() for _ in range(runs)]
-    return min(it[0] for it in found), min(it[1] for it in found)
+    with open(os.path.join(folder, "input"), "w", encoding="utf-8") as file:
+        file.writelines(json.dumps(it) + "\n" for it in markers)
+    return measured([program, command, "--json"], folder, 1, lambda said: len(said) == len(markers))
 
 
 def workloads(lines):
     """A name, the question, the native command or none, and the markers."""
     for key, word in (("os_name", "or"), ("extra", "or"), ("extra", "and")):
-        for size in (LEAST, MOST):
+        for size in (SHORT, LEAST, MOST):
             # (the native program takes the square of a chain's length, and prints what it has read)
-            command = "marker" if (key, size) == ("os_name", LEAST) else None
+            command = "marker" if (key, size) == ("os_name", SHORT) else None
             yield f"{key} {word} {size}", "marker", command, [chain(key, word, size)]
     for key in ("os_name", "python_full_version"):
         yield f"{key} or {LONG}", "marker", None, [chain(key, "or", LONG)]
@@ -140,7 +147,7 @@ def workloads(lines):
         command = "dnf" if flags <= MOST_NATIVE_FLAGS else None
         yield f"an or of {flags} flags: text", "text", command, [chain("extra", "or", flags)]
     for question in ("marker", "text"):
-        yield f"an or of {MOST} versions: {question}", question, None, [chain("python_full_version", "or", MOST)]
+        yield f"an or of {VERSIONS} versions: {question}", question, None, [chain("python_full_version", "or", VERSIONS)]
     yield f"real markers {lines}: text", "text", "dnf", real_markers(lines)
 
 
@@ -150,10 +157,10 @@ def main():
     with tempfile.TemporaryDirectory() as folder:
         print("| workload | CPU s | peak KiB |" + (" native CPU s | native peak KiB |" if words.native else ""))
         for name, question, command, markers in workloads(words.lines):
-            took[name] = least(lambda: ours(os.path.abspath(words.program), folder, question, markers), words.runs)
+            took[name] = ours(os.path.abspath(words.program), folder, question, markers, words.runs)
             row = [name, f"{took[name][0]:.3f}", str(took[name][1])]
             if words.native and command:
-                other = least(lambda: native(os.path.abspath(words.native), folder, command, markers), 1)
+                other = native(os.path.abspath(words.native), folder, command, markers)
                 row += [f"{other[0]:.3f}", str(other[1])]
             print("| " + " | ".join(row) + " |")
     slow = [it for it in took if it.endswith(f" {MOST}") and is_slow(it, took)]
