@@ -1,4 +1,4 @@
-use Rattle.std.proofs.Common.{◌≡◌, ◌∙◌, Ok, ap, subst, sym}
+use Rattle.std.proofs.Common.{◌∙◌, Ok, ap, subst, sym}
 use Rattle.reqtable_conflicts.specs.Contradictions.{FindsConflicts}
 use Rattle.reqs_json.specs.Lines.{line_of}
 use Rattle.reqs_lists.specs.Contradictions.{conflicts_value}

@@ -1,4 +1,4 @@
-use Rattle.std.proofs.Common.{◌≡◌, ◌∙◌, ap, subst, sym}
+use Rattle.std.proofs.Common.{◌∙◌, ap, subst, sym}
 use Rattle.reqtable_normal.specs.Normalized.{IsNormalText}
 use Rattle.reqtable_normal.proofs.Alike.{one_text}
 use Rattle.reqs_json.specs.Lines.{line_of}
