@@ -1,4 +1,4 @@
-use Rattle.std.proofs.Common.{◌≡◌, ◌∙◌, inl, inr, subst, sym}
+use Rattle.std.proofs.Common.{◌∙◌, inl, inr, subst, sym}
 use Rattle.reqs_json.specs.declared.format.Format.TheVariants.{Json}
 use Rattle.reqs_json.specs.Lines.{line_of}
 use Rattle.reqs_lists.specs.Comparison.{IsSameAnswer, IsToldDifference, difference_value}
@@ -21,11 +21,22 @@ returns c = λ limit vars inputs ended other text object a b.
         | inr two ↦
             let name = one_name a.0 two.1.0 one.1.0 two.1.1 one.1.1 two.1.2 one.1.2 in
             let told = subst (λ n. IsToldDifference a.0 n two.1.1) name two.1.2 in
-            let diagram = one_diagram a.0 one.1.0 two.1.1 one.1.1 told one.1.2 in
-            let said : line_of (difference_value two.1.0 two.1.1) ≡ line_of (difference_value one.1.0 one.1.1) =
-            (λ i. line_of (difference_value (name i) (diagram i))) in (
+            let diagram = one_diagram a.0 one.1.0 two.1.1 one.1.1 told one.1.2 in (
               one.0 ∙ sym two.0,
-              (a.0, a.1, (a.2.0, inr (one.1.0, one.1.1, one.1.2, one.1.3, two.1.3 ∙ said))),
+              (
+                a.0,
+                a.1,
+                (
+                  a.2.0,
+                  inr (
+                    one.1.0,
+                    one.1.1,
+                    one.1.2,
+                    one.1.3,
+                    two.1.3 ∙ (λ i. line_of (difference_value (name i) (diagram i))),
+                  ),
+                ),
+              ),
             )
       ]
     ]
