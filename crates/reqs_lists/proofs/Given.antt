@@ -25,3 +25,8 @@ pub two_read : (vars : Variables) (left right : List ℕ) (said others : List Li
     → lines_from vars First left ≡ Ok said → lines_from vars Second right ≡ Ok others
     → two_lists vars (left ∷ right ∷ []) ≡ Ok (said, others)
 two_read vars left right said others l r = rw (l, r) refl
+
+-- lists are read as one thing
+pub read_once : {A : Type 0} (lists : Result A Cause) (one other : A) → lists ≡ Ok one → lists ≡ Ok other
+    → one ≡ other
+read_once lists one other e f = cc

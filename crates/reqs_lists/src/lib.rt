@@ -7,6 +7,7 @@ mod answer;
 mod comparing;
 mod conflict_lines;
 mod contradicting;
+pub mod laws;
 mod normalizing;
 
 pub use comparing::same;

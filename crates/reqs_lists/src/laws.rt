@@ -1,0 +1,48 @@
+//! Laws over the definitions. The functions do nothing: each one's contract is its law.
+
+ghost use Rattle.std.specs.Prelude.{◌≡◌, ◌⊎◌, ℕ, List, codes, Ok};
+ghost use Rattle.pep508_diagram.specs.Diagram.{Diagram};
+ghost use Rattle.pep508_diagram.specs.Question.{Question};
+ghost use Rattle.pep508_url.specs.Vars.{Variables};
+ghost use Rattle.reqtable_cases.specs.Requires.{RequireTheSame};
+ghost use Rattle.reqtable_compare.specs.Compared.{MayCompare};
+ghost use Rattle.reqtable_conflicts.specs.Contradictions.{ConflictRecord, FindsConflicts};
+ghost use Rattle.reqtable_normal.specs.Normalized.{IsNormalText};
+ghost use Rattle.reqs_ends.specs.declared.fault.Status.{Status};
+ghost use Rattle.reqs_json.specs.declared.format.Format.TheVariants.{Text, Json};
+ghost use Rattle.reqs_json.specs.Lines.{line_of};
+ghost use Rattle.reqs_lists.specs.Comparison.{SameAnswersAs, IsToldDifference, difference_text};
+ghost use Rattle.reqs_lists.specs.Comparison.{difference_value, same_value};
+ghost use Rattle.reqs_lists.specs.Contradictions.{ConflictsAnswerAs, conflicts_text, conflicts_value};
+ghost use Rattle.reqs_lists.specs.Lists.{IsRead, one_list, two_lists};
+ghost use Rattle.reqs_lists.specs.Normal.{NormalAnswersAs, normal_value};
+
+/// What `same` writes of two lists says the same in both formats, with one status: that they require the
+/// same, or the one package, and the one marker, of their first difference.
+pub fn both_formats_of_same_say_the_same()
+    ensures { (limit : ℕ) (vars : Variables) (inputs : List (List ℕ)) (ended other : Status)
+        (text object : List ℕ) → SameAnswersAs Text limit vars inputs ended text →
+        SameAnswersAs Json limit vars inputs other object →
+        (ended ≡ other) × IsRead (two_lists vars inputs) (λ lists. MayCompare limit lists.0 lists.1
+        × ((RequireTheSame lists.0 lists.1 × (text ≡ codes "yes\n") × (object ≡ line_of same_value))
+        ⊎ ((name : List ℕ) × (diagram : Diagram Question) × IsToldDifference lists name diagram
+        × (text ≡ difference_text name diagram) × (object ≡ line_of (difference_value name diagram))))) }
+{}
+
+/// What `conflicts` writes of a list has the same conflicts in both formats, those of the list.
+pub fn both_formats_have_the_same_conflicts()
+    ensures { (limit : ℕ) (vars : Variables) (inputs : List (List ℕ)) (ended other : Status)
+        (text object : List ℕ) → ConflictsAnswerAs Text limit vars inputs ended text →
+        ConflictsAnswerAs Json limit vars inputs other object →
+        (ended ≡ other) × IsRead (one_list vars inputs) (λ lines. (found : List ConflictRecord)
+        × FindsConflicts (λ all. all) limit lines (Ok found) × (text ≡ conflicts_text found)
+        × (object ≡ line_of (conflicts_value found))) }
+{}
+
+/// What `normal` writes of a list has the same lines in both formats, those of its normal text.
+pub fn both_formats_have_the_same_normal_text()
+    ensures { (vars : Variables) (inputs : List (List ℕ)) (ended other : Status) (text object : List ℕ) →
+        NormalAnswersAs Text vars inputs ended text → NormalAnswersAs Json vars inputs other object →
+        (ended ≡ other) × IsRead (one_list vars inputs) (λ lines. IsNormalText lines text
+        × (object ≡ line_of (normal_value text))) }
+{}
