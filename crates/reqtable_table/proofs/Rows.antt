@@ -16,7 +16,7 @@ use Rattle.reqtable_cases.specs.Lines.{marked}
 use Rattle.reqtable_answer.specs.declared.answer.Row.{Row}
 use Rattle.reqtable_answer.specs.Rows.{row_seen}
 use Rattle.reqtable_table.specs.declared.table.Package.{Package}
-use Rattle.reqtable_table.specs.Answers.{kept_marks, kept_asked, is_asked, own_candidates, most_tests, most_tests_of}
+use Rattle.reqtable_table.specs.Answers.{kept_marks, kept_asked, is_asked, own_candidates, most_tests, most_tests_in, most_tests_of}
 use Rattle.reqtable_table.specs.Answers.{IsRowFor, IsRowIf, AreRowsFor, SameLine, SamePackage}
 use Rattle.reqtable_table.specs.Cases.{HasItsCases}
 use Rattle.reqtable_table.specs.Choosing.{outcome_in_order, IsRowInOrder}
@@ -129,6 +129,13 @@ tests_set (p ∷ packages) zero k kept new within is le =
 tests_set (p ∷ packages) (suc i) k kept new within is le =
     let rest = tests_set packages i k kept new (omega arith) is le in
     omega arith
+
+pub no_more_set : (packages : List Package) (i : ℕ) (kept new : Package) → i < length packages → kept ≡ get_or packages i kept →
+    tests_of (package_record new).lines ≤ tests_of (package_record kept).lines →
+    all_tests (kept_records (set packages i new)) ≤ all_tests (kept_records packages)
+no_more_set packages i kept new within is le =
+    let more = tests_set packages i 0 kept new within is (omega (arith, le)) in
+    omega (arith, more)
 
 same_set : (packages : List Package) (i : ℕ) (kept new : Package) → i < length packages → kept ≡ get_or packages i kept →
     SamePackage (package_record new) (package_record kept) → AllZip SamePackage (kept_records (set packages i new)) (kept_records packages)
@@ -277,6 +284,11 @@ module _ (nodes : List NodeRecord) (v : Valuation) (runs : RunsRecord) (ordered 
 
       pub next_here : AreAnswered nodes v runs.candidates old (set now i new) (i + 1)
       next_here = next_answered nodes v runs.candidates old now i kept so_far within is new same tests_here
+
+      -- so many tests more than before it
+      pub more_here : all_tests (kept_records (set now i new)) ≤ all_tests (kept_records now)
+          + most_tests_in nodes v runs.candidates (package_record kept)
+      more_here = tests_set now i (most_tests_in nodes v runs.candidates (package_record kept)) kept new within is tests_here
 
       pub end_here : AllZip SamePackage (kept_records (set now i new)) (kept_records old)
           × (all_tests (kept_records (set now i new)) ≤ all_tests (kept_records old) + most_tests_of nodes v runs.candidates (kept_records old))

@@ -7,8 +7,11 @@ use Rattle.std.specs.List.{AllZip, AllByRecursion}
 use Rattle.std.specs.List.Sorted.{IsStrictlySortedBy}
 use Rattle.std.specs.Ordering.{nat_cmp, ordering_then}
 use Rattle.pep440_version.specs.Record.{VersionRecord}
+use Rattle.pep508_tree.specs.Tree.{always}
 use Rattle.pep508_cases.specs.Cases.{Marks}
+use Rattle.reqtable_text.specs.Ordered.{placed_seen}
 use Rattle.reqtable_text.specs.declared.candidates.Candidate.{Candidate}
+use Rattle.reqtable_text.specs.declared.ordered.Placed.{Placed}
 use Rattle.reqtable_answer.specs.Admission.{Admits, AnswersBy}
 use Rattle.reqtable_answer.specs.Asks.{is_candidate}
 use Rattle.reqtable_answer.specs.Rows.{IsTakenBelow}
@@ -19,7 +22,8 @@ use Rattle.reqtable_table.specs.Choosing.{case_asks, outcome_in_order}
 use Rattle.reqtable_table.specs.Kept.{KeptLine, KeptCase, KeptPackage, kept_front}
 use Rattle.reqtable_table.specs.Numbers.{numbers_cmp}
 use Rattle.reqtable_table.specs.Runs.{OwnRecord, RunsRecord, AreRunsOf, IsTold, AreTold, AreUntold, owns_of}
-use Rattle.reqtable_table.specs.KeptLines.{package_record}
+use Rattle.reqtable_table.specs.KeptLines.{line_record, package_record}
+use Rattle.reqtable_table.specs.Owns.{own_record}
 use Rattle.reqtable_table.specs.declared.runs.Told.{Told}
 use Rattle.reqtable_table.specs.declared.table.Package.{Package}
 use Rattle.reqtable_table.specs.Standing.{HasItsLines}
@@ -28,6 +32,9 @@ use Rattle.reqtable_table.proofs.Marking.{marked_map}
 use Rattle.reqtable_table.proofs.Packages.{as_long}
 use Rattle.reqtable_table.proofs.Same.{numbers_same}
 use Rattle.reqtable_table.proofs.Searching.{numbers_by_marks, marked_equal}
+
+no_case : KeptCase
+no_case = record { numbers = []; tree = always; range = None; prerelease = false }
 
 abbrev number : KeptLine → ℕ
 number line = line.number
@@ -91,6 +98,17 @@ module _ (returns : Bor VersionRecord → Bool → Bool → Type 0) (kept : Kept
           | inr before ↦ known.below count q found before run_under
         ];
   }
+
+-- what was told
+pub told_outcome : (returns : Bor VersionRecord → Bool → Bool → Type 0) (kept : Package) (run : List Placed) (told : Told) (marks : Marks)
+    (place : ℕ) (outcome : Outcome) → IsTold returns (package_record kept) (own_record run told) →
+    get_or told.outcomes.items place None ≡ Some outcome → length marks ≡ length kept.lines.items →
+    ((other : KeptCase) → (get_or (package_record kept).cases place other).numbers
+    ≡ map (λ line. line.number) (marked marks (package_record kept).lines)) →
+    (admits : Admits) → AnswersBy returns admits →
+    outcome ≡ outcome_in_order admits (case_asks marks (map line_record kept.lines.items)) (map placed_seen run)
+told_outcome returns kept run told marks place outcome known there long numbers admits by =
+    known.right admits by place marks no_case outcome there (long ∙ sym (length-map kept.lines.items line_record)) (numbers no_case)
 
 -- ---- where nothing is told yet
 

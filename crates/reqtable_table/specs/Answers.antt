@@ -72,12 +72,15 @@ abbrev pub most_tests : List Front → List (ℕ × Candidate) → ℕ
 most_tests asks [] = 0
 most_tests asks (c ∷ candidates) = tests_for asks c + most_tests asks candidates
 
--- for the packages of a table under a valuation
+-- for a package under a valuation, and for all packages of a table
+abbrev pub most_tests_in : List NodeRecord → Valuation → List Candidate → KeptPackage → ℕ
+most_tests_in nodes v candidates kept =
+    most_tests (kept_asked nodes v kept.lines) (own_candidates candidates kept.name)
+
 abbrev pub most_tests_of : List NodeRecord → Valuation → List Candidate → List KeptPackage → ℕ
 most_tests_of nodes v candidates [] = 0
 most_tests_of nodes v candidates (kept ∷ table) =
-    most_tests (kept_asked nodes v kept.lines) (own_candidates candidates kept.name)
-    + most_tests_of nodes v candidates table
+    most_tests_in nodes v candidates kept + most_tests_of nodes v candidates table
 
 -- ---- what stays
 

@@ -4,6 +4,8 @@ use Rattle.std.specs.Prelude.{get_or, Option, Some, None}
 use Rattle.std.specs.List.{AllZip, AllByRecursion}
 use Rattle.std.specs.Borrow.{Bor}
 use Rattle.pep440_version.specs.Record.{VersionRecord}
+use Rattle.pep508_diagram.specs.Question.{Valuation}
+use Rattle.pep508_tree.specs.Meaning.{NodeRecord}
 use Rattle.pep508_cases.specs.Cases.{Marks}
 use Rattle.reqtable_text.specs.Candidates.{HavePrintableVersions}
 use Rattle.reqtable_text.specs.Ordered.{AreInOrder}
@@ -13,6 +15,7 @@ use Rattle.reqtable_answer.specs.Asks.{is_candidate}
 use Rattle.reqtable_answer.specs.Rows.{IsTakenBelow}
 use Rattle.reqtable_answer.specs.declared.answer.Outcome.{Outcome}
 use Rattle.reqtable_cases.specs.Lines.{marked}
+use Rattle.reqtable_table.specs.Answers.{IsPlaceIn}
 use Rattle.reqtable_table.specs.Choosing.{case_asks, outcome_in_order}
 use Rattle.reqtable_table.specs.Kept.{KeptCase, KeptPackage}
 
@@ -47,6 +50,10 @@ pub record IsTold (returns : Bor VersionRecord → Bool → Bool → Type 0) (ke
       outcome ≡ outcome_in_order admits (case_asks marks kept.lines) own.run
   pub below : (count place : ℕ) (outcome : Outcome) → get_or own.told place None ≡ Some outcome →
       AllByRecursion (λ c. c.0 < count) own.run → IsTakenBelow count outcome
+
+-- it is known what becomes of a package in the case in which it lies
+abbrev pub IsToldIn : List NodeRecord → Valuation → KeptPackage → List (Option Outcome) → Type 0
+IsToldIn nodes v kept told = (place : ℕ) → IsPlaceIn nodes v kept place → get_or told place None ≡ None → ⊥
 
 -- candidates of packages beside what is known of these
 abbrev pub owns_of : List (List (ℕ × Candidate)) → List (List (Option Outcome)) → List OwnRecord

@@ -1,6 +1,6 @@
 //! The answer of a table.
 
-ghost use Rattle.std.specs.Prelude.{◌≡◌, ◌≤◌, ◌<◌, ◌+◌, List, length, map, get_or, option_map, All, IfOk};
+ghost use Rattle.std.specs.Prelude.{◌≡◌, ◌≤◌, ◌<◌, ◌+◌, List, [], length, map, get_or, option_map, All, IfOk};
 ghost use Rattle.std.specs.Prelude.{IfSome};
 ghost use Rattle.std.specs.List.{AllZip, AllByRecursion};
 ghost use Rattle.pep508_evaluation.specs.Valuations.{valuation_of};
@@ -9,11 +9,12 @@ ghost use Rattle.reqtable_answer.specs.Answer.{IsAnswer};
 ghost use Rattle.reqtable_answer.specs.Rows.{row_seen, IsTakenBelow};
 ghost use Rattle.reqtable_requirements.specs.Asks.{asks_of};
 ghost use Rattle.reqtable_requirements.specs.LineReading.{LineRecord};
-ghost use Rattle.reqtable_table.specs.Answers.{most_tests_of, IsRowIf, LiesIn, SamePackage};
+ghost use Rattle.reqtable_table.specs.Answers.{most_tests_in, most_tests_of};
+ghost use Rattle.reqtable_table.specs.Answers.{IsRowIf, LiesIn, SamePackage};
 ghost use Rattle.reqtable_table.specs.Cases.{HasItsCases};
 ghost use Rattle.reqtable_table.specs.Counts.{all_tests};
 ghost use Rattle.reqtable_table.specs.Kept.{KeepsAll, KeptPackage};
-ghost use Rattle.reqtable_table.specs.Runs.{AreRunsOf, AreTold};
+ghost use Rattle.reqtable_table.specs.Runs.{AreRunsOf, AreTold, IsToldIn};
 ghost use Rattle.reqtable_table.specs.Standing.{IsTable};
 
 use crate::asked::places_of;
@@ -160,6 +161,13 @@ impl Table {
         ensures candidates { runs.new.candidates ≡ runs.old.candidates }
         ensures runs { AreRunsOf self.new runs.new }
         ensures told { AreTold (F.post admission.now) self.new runs.new }
+        ensures tests { (other : KeptPackage) → all_tests self.new ≤ all_tests self.old
+            + most_tests_in interner.now.nodes (valuation_of environment.now extras.now)
+            runs.old.candidates (get_or self.old index other) }
+        ensures once { (other : KeptPackage) →
+            IsToldIn interner.now.nodes (valuation_of environment.now extras.now)
+            (get_or self.old index other) (get_or runs.old.told index []) →
+            all_tests self.new ≤ all_tests self.old }
     {
         let setting = Setting::new(interner, environment, extras);
         let packages = &mut self.packages;

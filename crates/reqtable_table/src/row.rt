@@ -1,7 +1,7 @@
 //! The row of a package, where a line of it applies.
 
 ghost use Rattle.std.specs.Prelude.{◌≡◌, ◌≤◌, ◌<◌, ◌+◌, ℕ, ◌++◌, ◌∷◌, []};
-ghost use Rattle.std.specs.Prelude.{length, map, get_or, option_map, All, IfOk, OnOk, IfSome};
+ghost use Rattle.std.specs.Prelude.{length, map, get_or, option_map, None, All, IfOk, OnOk, IfSome};
 ghost use Rattle.std.specs.Option.{option_map_or};
 ghost use Rattle.std.specs.List.{AllZip, AllByRecursion};
 ghost use Rattle.pep440_range.specs.Agreement.{IsSaid};
@@ -11,7 +11,7 @@ ghost use Rattle.reqtable_answer.specs.Rows.{row_seen, IsTakenBelow};
 ghost use Rattle.reqtable_cases.specs.Lines.{marked};
 ghost use Rattle.reqtable_holding.specs.Known.{AreKnown};
 ghost use Rattle.reqtable_holding.specs.Settings.{nodes_in, valuation_in};
-ghost use Rattle.reqtable_table.specs.Answers.{kept_asked, most_tests, most_tests_of};
+ghost use Rattle.reqtable_table.specs.Answers.{kept_asked, most_tests, most_tests_in, most_tests_of};
 ghost use Rattle.reqtable_table.specs.Answers.{AreRowsFor, IsRowIf, SameLine, SamePackage};
 ghost use Rattle.reqtable_table.specs.Cases.{HasItsCases};
 ghost use Rattle.reqtable_table.specs.Choosing.{case_asks, outcome_in_order, IsCaseFor, IsRowInOrder};
@@ -20,7 +20,7 @@ ghost use Rattle.reqtable_table.specs.Kept.{KeptCase, KeptPackage};
 ghost use Rattle.reqtable_table.specs.declared.table.Case.{Case};
 ghost use Rattle.reqtable_table.specs.KeptLines.{line_record, package_record};
 ghost use Rattle.reqtable_table.specs.Owns.{own_record, runs_of};
-ghost use Rattle.reqtable_table.specs.Runs.{AreOrdered, AreRunsOf, IsTold, AreTold};
+ghost use Rattle.reqtable_table.specs.Runs.{AreOrdered, AreRunsOf, IsTold, AreTold, IsToldIn};
 ghost use Rattle.reqtable_table.specs.Standing.{HasItsFlags, IsOfTexts, HasItsLines};
 
 use crate::asked::{extras_of, mark, place_of};
@@ -110,6 +110,14 @@ pub(crate) fn row_at<F: Fn(&Version, bool) -> bool>(
     ensures kept { AllZip SamePackage (map package_record packages.new) (map package_record packages.old) }
     ensures told { AreTold (F.post admission.now) (map package_record packages.new)
         (runs_of ordered.now runs.now told.new) }
+    ensures tests { (other : KeptPackage) → all_tests (map package_record packages.new)
+        ≤ all_tests (map package_record packages.old) + most_tests_in (nodes_in setting.now)
+        (valuation_in setting.now) ordered.now.candidates
+        (get_or (map package_record packages.old) index other) }
+    ensures once { (other : KeptPackage) → IsToldIn (nodes_in setting.now) (valuation_in setting.now)
+        (get_or (map package_record packages.old) index other)
+        (get_or (runs_of ordered.now runs.now told.old).told index []) →
+        all_tests (map package_record packages.new) ≤ all_tests (map package_record packages.old) }
 {
     row_of(
         alloc,
@@ -161,6 +169,9 @@ fn row_of<F: Fn(&Version, bool) -> bool>(
         ≤ tests_of (map line_record kept.old.lines.items)
         + most_tests (kept_asked (nodes_in setting.now) (valuation_in setting.now)
         (map line_record kept.old.lines.items)) (map placed_seen own.now) }
+    ensures once { IsToldIn (nodes_in setting.now) (valuation_in setting.now) (package_record kept.old)
+        told.old.outcomes.items →
+        tests_of (map line_record kept.new.lines.items) ≤ tests_of (map line_record kept.old.lines.items) }
 {
     let mut marks = Vec::new(alloc);
     mark(&mut marks, &kept.lines, setting, known)?;
@@ -182,6 +193,7 @@ fn row_of<F: Fn(&Version, bool) -> bool>(
 }
 
 /// What becomes of a package in the case at a place, whose lines are marked: decided where it wasn't before.
+#[tactic(auto, using(crate::proofs::Told::told_outcome, crate::proofs::AskedLines::same_all))]
 fn outcome_in<F: Fn(&Version, bool) -> bool>(
     alloc: Global,
     kept: &mut Package,
@@ -211,10 +223,46 @@ fn outcome_in<F: Fn(&Version, bool) -> bool>(
     ensures tests { tests_of (map line_record kept.new.lines.items)
         ≤ tests_of (map line_record kept.old.lines.items)
         + most_tests (case_asks marks.now (map line_record kept.old.lines.items)) (map placed_seen own.now) }
+    ensures once { (get_or told.old.outcomes.items place None ≡ None → ⊥) →
+        tests_of (map line_record kept.new.lines.items) ≤ tests_of (map line_record kept.old.lines.items) }
 {
-    if let Some(outcome) = told.outcome(place) {
-        return Ok(outcome);
+    match told.outcome(place) {
+        Some(outcome) => Ok(outcome),
+        None => decided(alloc, kept, marks, place, own, told, admission),
     }
+}
+
+/// The same, decided now and told.
+fn decided<F: Fn(&Version, bool) -> bool>(
+    alloc: Global,
+    kept: &mut Package,
+    marks: &[bool],
+    place: usize,
+    own: &Run<'_, '_>,
+    told: &mut Told,
+    admission: &Admission<F>,
+) -> Result<Outcome, AllocError>
+    requires callable { F.IsAlwaysCallable admission.now }
+    requires lines { HasItsLines (package_record kept.old) }
+    requires marks { length marks.now ≡ length kept.old.lines.items }
+    requires within { place < length kept.old.cases.items }
+    requires numbers { (other : KeptCase) → (get_or (package_record kept.old).cases place other).numbers
+        ≡ map (λ line. line.number) (marked marks.now (package_record kept.old).lines) }
+    requires asked { (other : Case) → IsCaseFor (case_asks marks.now (map line_record kept.old.lines.items))
+        (get_or kept.old.cases.items place other) }
+    requires said { AllByRecursion (λ c. IsSaid c.1.version) (map placed_seen own.now) }
+    requires told { IsTold (F.post admission.now) (package_record kept.old) (own_record own.now told.old) }
+    ensures outcome { IfOk result (λ outcome. (admits : Admits) → AnswersBy (F.post admission.now) admits →
+        outcome ≡ outcome_in_order admits (case_asks marks.now (map line_record kept.old.lines.items))
+        (map placed_seen own.now)) }
+    ensures below { IfOk result (λ outcome. (count : ℕ) →
+        AllByRecursion (λ c. c.0 < count) (map placed_seen own.now) → IsTakenBelow count outcome) }
+    ensures same { SamePackage (package_record kept.new) (package_record kept.old) }
+    ensures told { IsTold (F.post admission.now) (package_record kept.old) (own_record own.now told.new) }
+    ensures tests { tests_of (map line_record kept.new.lines.items)
+        ≤ tests_of (map line_record kept.old.lines.items)
+        + most_tests (case_asks marks.now (map line_record kept.old.lines.items)) (map placed_seen own.now) }
+{
     let case = &kept.cases[place];
     match outcome(alloc, &mut kept.lines, marks, case, own, admission) {
         Ok(outcome) => {

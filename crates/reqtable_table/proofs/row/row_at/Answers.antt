@@ -1,16 +1,20 @@
-use Rattle.std.proofs.Common.{◌≡◌, ◌∙◌, ◌<◌, ℕ, List, option_map, length, map, get_or, sym, ap, subst, arith}
+use Rattle.std.proofs.Common.{◌≡◌, ◌∙◌, ◌≤◌, ◌<◌, ◌+◌, ℕ, List, [], Option, option_map, length, map, set, get_or, sym, ap, subst, arith}
 use Rattle.std.proofs.lemmas.List.{get_or-map, length-map}
 use Rattle.std.proofs.lemmas.Result.{IfOk-weaker}
 use Rattle.reqtable_text.specs.Ordered.{placed_seen}
 use Rattle.reqtable_text.specs.declared.candidates.Candidate.{Candidate}
 use Rattle.reqtable_text.specs.declared.ordered.Placed.{Placed}
+use Rattle.reqtable_answer.specs.declared.answer.Outcome.{Outcome}
 use Rattle.reqtable_answer.specs.Rows.{row_seen}
-use Rattle.reqtable_table.specs.Answers.{IsRowIf}
+use Rattle.reqtable_table.specs.Answers.{most_tests_in, IsRowIf}
+use Rattle.reqtable_table.specs.Counts.{all_tests}
 use Rattle.reqtable_table.specs.KeptLines.{package_record}
 use Rattle.reqtable_table.specs.Owns.{runs_of}
+use Rattle.reqtable_table.specs.Runs.{IsToldIn}
+use Rattle.reqtable_table.specs.declared.runs.Told.{Told}
 use Rattle.reqtable_holding.proofs.Holding.{nothing_known}
 use Rattle.reqtable_holding.specs.Settings.{nodes_in, valuation_in}
-use Rattle.reqtable_table.proofs.Rows.{none_before, lines_here, cases_here, within_runs, said_here, below_here, row_here, end_here}
+use Rattle.reqtable_table.proofs.Rows.{kept_records, none_before, lines_here, cases_here, within_runs, said_here, below_here, row_here, more_here, end_here, no_more_set}
 use Rattle.reqtable_table.proofs.Told.{told_long, told_own, own_told}
 use Rattle.reqtable_table.proofs.row.row_at.Goals as goal
 
@@ -179,3 +183,43 @@ returns-clause-told g c =
     let own = map placed_seen c.index-runs-index.result in
     let own_at = own_of c.args.runs.now i c.index-runs-index.result (within_runs nodes v all r.ordered old r.lines r.cases r.runs old i kept so r.within is) c.index-runs-index.is in
     own_told _ old all.runs c.args.told.now i kept r.told r.within is own (own_at own) c.row_of.new.kept c.row_of.new.told c.row_of.ensures.same c.row_of.ensures.told
+
+pub returns-clause-tests : goal.returns-clause-tests
+returns-clause-tests g c = λ other.
+    let nodes = nodes_in c.args.setting.now in
+    let v = valuation_in c.args.setting.now in
+    let all = runs_of c.args.ordered.now c.args.runs.now c.args.told.now in
+    let old = c.args.packages.now in
+    let i = c.args.index in
+    let kept = get_or old i c.index-packages-index.result in
+    let is = ap (get_or old i) c.index-packages-index.is in
+    let r = c.requires in
+    let so = none_before nodes v all.candidates old i in
+    let own = map placed_seen c.index-runs-index.result in
+    let own_at = own_of c.args.runs.now i c.index-runs-index.result (within_runs nodes v all r.ordered old r.lines r.cases r.runs old i kept so r.within is) c.index-runs-index.is in
+    subst (λ k. all_tests (kept_records (set old i c.row_of.new.kept)) ≤ all_tests (kept_records old) + most_tests_in nodes v all.candidates k)
+    (sym (get_or-map package_record old i c.index-packages-index.result other r.within))
+    (more_here nodes v all r.ordered old r.lines r.cases r.runs old i kept so r.within is own own_at c.row_of.new.kept c.row_of.ensures.same c.row_of.ensures.tests)
+
+abbrev outcomes : Told → List (Option Outcome)
+outcomes told = told.outcomes.items
+
+pub returns-clause-once : goal.returns-clause-once
+returns-clause-once g c = λ other known.
+    let nodes = nodes_in c.args.setting.now in
+    let v = valuation_in c.args.setting.now in
+    let all = runs_of c.args.ordered.now c.args.runs.now c.args.told.now in
+    let old = c.args.packages.now in
+    let i = c.args.index in
+    let kept = get_or old i c.index-packages-index.result in
+    let is = ap (get_or old i) c.index-packages-index.is in
+    let r = c.requires in
+    let one = get_or c.args.told.now i c.index-told-index.result in
+    let long = told_long _ old all.runs c.args.told.now r.told in
+    let within = r.within in
+    let inside : i < length c.args.told.now = omega (arith, within, long) in
+    no_more_set old i kept c.row_of.new.kept r.within is
+    (c.row_of.ensures.once
+    (subst (λ k. IsToldIn nodes v k (outcomes one)) (get_or-map package_record old i c.index-packages-index.result other r.within)
+    (subst (IsToldIn nodes v (get_or (map package_record old) i other))
+    (get_or-map outcomes c.args.told.now i c.index-told-index.result [] inside) known)))

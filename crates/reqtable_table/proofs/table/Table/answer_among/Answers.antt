@@ -1,4 +1,4 @@
-use Rattle.std.proofs.Common.{◌≡◌, ◌∙◌, ◌≤◌, ◌+◌, Vec, Global, List, map, ap, sym, subst}
+use Rattle.std.proofs.Common.{◌≡◌, ◌∙◌, ◌≤◌, ◌+◌, List, map, ap, sym, subst}
 use Rattle.std.proofs.lemmas.List.{with_items_is}
 use Rattle.std.specs.Vec.{with_items}
 use Rattle.pep508_diagram.specs.Question.{Valuation}
@@ -17,18 +17,8 @@ use Rattle.reqtable_table.specs.Owns.{runs_of}
 use Rattle.reqtable_table.specs.Runs.{AreRunsOf}
 use Rattle.reqtable_holding.specs.Settings.{nodes_in, valuation_in}
 use Rattle.reqtable_table.proofs.RowsOfLines.{rows_are_the_answer}
-use Rattle.reqtable_table.proofs.LentTable.{stays, runs_stay}
+use Rattle.reqtable_table.proofs.LentTable.{stays, runs_stay, few_more}
 use Rattle.reqtable_table.proofs.table.Table.answer_among.Goals as goal
-
-few : (held : Vec Package Global) (was new : List Package) (table : List KeptPackage) (nodes old : List NodeRecord) (v u : Valuation)
-    (candidates : List Candidate) → (with_items held new).items ≡ new → map package_record was ≡ table → old ≡ nodes → u ≡ v →
-    all_tests (map package_record new) ≤ all_tests (map package_record was) + most_tests_of old u candidates (map package_record was) →
-    all_tests (map package_record (with_items held new).items) ≤ all_tests table + most_tests_of nodes v candidates table
-few held was new table nodes old v u candidates items t n e h =
-    subst (λ l. all_tests (map package_record l) ≤ all_tests table + most_tests_of nodes v candidates table) (sym items)
-    (subst (λ l. all_tests (map package_record new) ≤ all_tests l + most_tests_of nodes v candidates l) t
-    (subst (λ m. all_tests (map package_record new) ≤ all_tests (map package_record was) + most_tests_of m v candidates (map package_record was)) n
-    (subst (λ w. all_tests (map package_record new) ≤ all_tests (map package_record was) + most_tests_of old w candidates (map package_record was)) e h)))
 
 pub invariant_of-self : goal.invariant_of-self
 invariant_of-self g c =
@@ -58,7 +48,7 @@ returns-in_err-rows-clause-tests g c =
     let held = c.self.inside.packages in
     subst (λ candidates. all_tests (map package_record (with_items held c.rows_of.new.packages).items)
     ≤ all_tests c.args.self.now + most_tests_of nodes v candidates c.args.self.now) (ap (λ r. r.candidates) c.runs.view_is)
-    (few held c.deref_mut.result.now c.rows_of.new.packages c.args.self.now nodes
+    (few_more most_tests_of held c.deref_mut.result.now c.rows_of.new.packages c.args.self.now nodes
     (nodes_in c.new-setting.result) v (valuation_in c.new-setting.result) c.runs.inside.ordered.now.candidates
     (with_items_is c.self.inside.packages c.rows_of.new.packages (c.rows_of.auto.packages ∙ c.deref_mut.ensures.len))
     (ap (map package_record) c.deref_mut.ensures.value ∙ c.self.view_is) c.new-setting.ensures.nodes c.new-setting.ensures.valuation
@@ -80,7 +70,7 @@ returns-clause-tests g c =
     let held = c.self.inside.packages in
     subst (λ candidates. all_tests (map package_record (with_items held c.rows_of.new.packages).items)
     ≤ all_tests c.args.self.now + most_tests_of nodes v candidates c.args.self.now) (ap (λ r. r.candidates) c.runs.view_is)
-    (few held c.deref_mut.result.now c.rows_of.new.packages c.args.self.now nodes
+    (few_more most_tests_of held c.deref_mut.result.now c.rows_of.new.packages c.args.self.now nodes
     (nodes_in c.new-setting.result) v (valuation_in c.new-setting.result) c.runs.inside.ordered.now.candidates
     (with_items_is c.self.inside.packages c.rows_of.new.packages (c.rows_of.auto.packages ∙ c.deref_mut.ensures.len))
     (ap (map package_record) c.deref_mut.ensures.value ∙ c.self.view_is) c.new-setting.ensures.nodes c.new-setting.ensures.valuation
