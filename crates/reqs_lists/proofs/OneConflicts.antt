@@ -1,5 +1,5 @@
 -- Lines have one list of conflicts.
-use Rattle.std.proofs.Common.{◌≡◌, ◌∙◌, ◌||◌, ℕ, Bool, true, false, cond, List, [], ◌∷◌, map, filter, Ok}
+use Rattle.std.proofs.Common.{◌≡◌, ◌∙◌, ◌||◌, ℕ, Bool, true, false, List, [], ◌∷◌, map, Ok}
 use Rattle.std.proofs.Common.{refl, sym, ap, subst, inl, inr, true≢false, Less, Equal, Greater}
 use Rattle.std.specs.List.{list_any, AllByRecursion}
 use Rattle.std.specs.Ordering.{nat_cmp, is_eq, ordering_reverse}
@@ -54,26 +54,13 @@ module _ (lines : List LineRecord) where
 abbrev before : List ℕ → List ℕ → Ordering
 before = slice_cmp nat_cmp
 
-abbrev of_name : List ℕ → List ConflictRecord → List ConflictRecord
-of_name name found = filter (λ c. bytes_eq name c.name) found
-
-first_by : (b : Bool) (c : ConflictRecord) (cs : List ConflictRecord) → b ≡ true
-    → map told_by (cond b (c ∷ cs) cs) ≡ told_by c ∷ map told_by cs
-first_by true c cs h = refl
-first_by false c cs h = absurd (true≢false (sym h))
-
-passed_by : (b : Bool) (c : ConflictRecord) (cs : List ConflictRecord) → b ≡ false
-    → map told_by (cond b (c ∷ cs) cs) ≡ map told_by cs
-passed_by true c cs h = absurd (true≢false h)
-passed_by false c cs h = refl
-
 first_under : (name : List ℕ) (c : ConflictRecord) (cs : List ConflictRecord) → bytes_eq name c.name ≡ true
     → told_under name (c ∷ cs) ≡ told_by c ∷ told_under name cs
-first_under name c cs = first_by (bytes_eq name c.name) c (of_name name cs)
+first_under name c cs e = rw e refl
 
 passed_under : (name : List ℕ) (c : ConflictRecord) (cs : List ConflictRecord) → bytes_eq name c.name ≡ false
     → told_under name (c ∷ cs) ≡ told_under name cs
-passed_under name c cs = passed_by (bytes_eq name c.name) c (of_name name cs)
+passed_under name c cs e = rw e refl
 
 tied_names : (one other : List ℕ) → before one other ≡ Equal → bytes_eq one other ≡ true
 tied_names one other e = sym (is_eq-slice_cmp one other) ∙ ap is_eq e
