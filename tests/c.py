@@ -338,6 +338,7 @@ def exports(shared, static):
     wants("libreqs.so exports what the header declares", names("-D", "--defined-only", shared) == declared)
     wants("libreqs.a exports what the header declares", {it for it in names("-g", "--defined-only", static) if not it.endswith(":")} == declared)
     called = names("-D", "--undefined-only", shared)
+    wants("libreqs.so is no symbolic link, at which a second run of the gate would end", not os.path.islink(shared))
     wants("libreqs.so calls nothing else", called <= {"malloc", "realloc", "free", "memcpy", "memmove", "memset", "memcmp"}, called)
 
 

@@ -1,6 +1,6 @@
 #!/usr/bin/env bash
 # Makes the library for C of the proved archive crates/reqs_c/out/libreqs_c.a: beside it libreqs.a, libreqs.so.1 and the
-# link libreqs.so.
+# hard link libreqs.so (a symbolic one in out/ `rt ci` would refuse).
 #
 #     pack.sh
 #
@@ -23,7 +23,7 @@ ar rcsD libreqs.a reqs.o
 ${CC:-cc} -shared -nostartfiles -o libreqs.so.1 -Wl,-soname,libreqs.so.1 -Wl,-z,defs -Wl,-z,now -Wl,-z,relro -Wl,-z,noexecstack \
     -Wl,--gc-sections -Wl,--build-id=none -Wl,--whole-archive libreqs.a -Wl,--no-whole-archive
 strip --strip-unneeded libreqs.so.1
-ln -s libreqs.so.1 libreqs.so
-for it in libreqs.a libreqs.so.1 libreqs.so; do
+for it in libreqs.a libreqs.so.1; do
     mv -f "$it" "$out/$it"
 done
+ln -f "$out/libreqs.so.1" "$out/libreqs.so"
