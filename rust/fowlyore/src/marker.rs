@@ -2,13 +2,14 @@
 
 use crate::refused::on_one_line;
 use crate::{native, Refused};
+use std::cmp::Ordering;
 use std::fmt;
 use std::hash::{Hash, Hasher};
 use std::iter::once;
 use std::str::FromStr;
 
 /// A marker of one line, which prints its normal text. Two markers that hold in the same environments with the same extras are
-/// equal.
+/// equal. Markers are ordered by their normal texts.
 ///
 /// ```
 /// use fowlyore::MarkerTree;
@@ -113,6 +114,18 @@ impl PartialEq for MarkerTree {
 }
 
 impl Eq for MarkerTree {}
+
+impl PartialOrd for MarkerTree {
+    fn partial_cmp(&self, other: &MarkerTree) -> Option<Ordering> {
+        Some(self.cmp(other))
+    }
+}
+
+impl Ord for MarkerTree {
+    fn cmp(&self, other: &MarkerTree) -> Ordering {
+        self.text.cmp(&other.text)
+    }
+}
 
 impl Hash for MarkerTree {
     fn hash<H: Hasher>(&self, state: &mut H) {

@@ -5,7 +5,7 @@ use crate::{native, MarkerTree, Refused, VersionSpecifiers};
 use std::fmt;
 use std::str::FromStr;
 
-/// A requirement, of one line.
+/// A requirement, of one line. Requirements are ordered by their names, then by the fields behind it.
 ///
 /// ```
 /// use fowlyore::Requirement;
@@ -13,9 +13,10 @@ use std::str::FromStr;
 /// let line: Requirement = "Requests[Socks] >= 2.8.1 ; python_version < '3.13'".parse()?;
 /// assert_eq!((line.name.as_str(), line.extras.as_slice()), ("requests", &["socks".to_string()][..]));
 /// assert_eq!(line.to_string(), "requests[socks]>=2.8.1 ; python_full_version < '3.13'");
+/// assert!(line > "numpy ; os_name == 'nt'".parse()?);
 /// # Ok::<(), fowlyore::Refused>(())
 /// ```
-#[derive(Clone, Debug, PartialEq, Eq, Hash)]
+#[derive(Clone, Debug, PartialEq, Eq, PartialOrd, Ord, Hash)]
 pub struct Requirement {
     /// The package's normal name.
     pub name: String,

@@ -5,7 +5,8 @@ use std::fmt;
 use std::str::FromStr;
 
 /// A list of specifiers, all of which a version has to match. Its members stand in the order of their versions. Lists are equal
-/// where their members' texts are: `==1` is another list than `==1.0`, although both take the same versions.
+/// where their members' texts are: `==1` is another list than `==1.0`, although both take the same versions. They are ordered by
+/// these texts.
 ///
 /// ```
 /// use fowlyore::{Version, VersionSpecifiers};
@@ -17,7 +18,7 @@ use std::str::FromStr;
 /// assert_eq!(list.contains_each(&versions), [false, true, false]);
 /// # Ok::<(), fowlyore::Refused>(())
 /// ```
-#[derive(Clone, Debug, Default, PartialEq, Eq, Hash)]
+#[derive(Clone, Debug, Default, PartialEq, Eq, PartialOrd, Ord, Hash)]
 pub struct VersionSpecifiers {
     members: Vec<String>,
 }
