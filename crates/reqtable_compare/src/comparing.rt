@@ -26,7 +26,7 @@ use crate::summing::summaries;
 use pep508_name::PackageName;
 use pep508_tree::Interner;
 use pep508_tree_laws::{a_tree_holds_somewhere, constants_are_named};
-use reqtable_conflicts::{package_names, table_of};
+use reqtable_conflicts::{package_names, table_of_lent};
 use reqtable_requirements::{Line, Requirements};
 use reqtable_table::{Table, TableError};
 use std::alloc::{AllocError, Global};
@@ -94,7 +94,7 @@ fn side_table(
     ensures cases { IfOk result (AllByRecursion (HasItsCases interner.new.nodes)) }
     ensures keeps { Extends interner.old.nodes interner.new.nodes }
 {
-    match table_of(alloc, requirements, interner, limit) {
+    match table_of_lent(alloc, requirements, interner, limit) {
         Ok(table) => Ok(table),
         Err(TableError::TooManyCases { package }) => Err(SameError::TooManyCases { side, package }),
         Err(TableError::Memory) => Err(SameError::Memory),
