@@ -86,18 +86,6 @@ impl<'a> Ordered<'a> {
     }
 }
 
-/// Which of two candidates stands first. Versions are compared only where names are equal.
-pub(crate) fn compare(a: &Placed<'_>, b: &Placed<'_>) -> Ordering
-    ensures { result ≡ order_cmp (placed_seen a.now) (placed_seen b.now) }
-{
-    let name = compare_name(a, &b.candidate.name);
-    if name.is_ne() {
-        return name;
-    }
-    let version = b.candidate.version.cmp(&a.candidate.version);
-    version.then(a.place.cmp(&b.place))
-}
-
 /// How the name of a candidate compares with another.
 fn compare_name(placed: &Placed<'_>, name: &PackageName) -> Ordering
     ensures { result ≡ name_cmp placed.now.candidate.now.name name.now }
