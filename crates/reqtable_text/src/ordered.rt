@@ -45,7 +45,8 @@ impl<'a> Model for Ordered<'a> {
 
 impl Candidates {
     /// The candidates in order. Comparisons grow with their number times its logarithm, memory with their
-    /// number. Names that differ in their first eight bytes are compared by these as one number each.
+    /// number. Names that differ in their first eight bytes are compared by these as one number each, and
+    /// versions by the first two numbers of their releases where these differ.
     pub fn in_order(&self, alloc: Global) -> Result<Ordered<'_>, AllocError>
         ensures { IfOk result (λ ordered. ordered.candidates ≡ self.now) }
     {
