@@ -54,11 +54,11 @@ def parts(more):
     """The parts that are run one after another, and those that are then run side by side."""
     python = [sys.executable]
     of_reqs = ("docs/JSON.md", "examples", "reqs", "build", "install", "share", "try", *(f"tests/{it}" for it in OF_REQS))
-    of_c = ("build", "include", "tools")
-    of_pack = ("LICENSE-APACHE", "LICENSE-BSD", "build", "examples", "include", "pack", "tools")
+    of_c = ("build", "gate/prove.py", "include", "tools")
+    of_pack = ("LICENSE-APACHE", "LICENSE-BSD", "build", "examples", "gate/prove.py", "include", "pack", "tools")
     of_python = (*of_pack, "docs/PYTHON.md", "pyproject.toml", "python", "tests/python.sh")
     of_deb = (*of_pack, "install", "share", "tests/deb.sh")
-    of_index = ("bench/workload.py", "build", "examples/index", "python", "tests/index.py", "tools")
+    of_index = ("bench/workload.py", "build", "gate/prove.py", "examples/index", "python", "tests/index.py", "tools")
     asked = [f"crates/{it}/{of}" for it in QUESTIONS for of in ("data", "stdout")]
     return [
         Part("layout", [*python, "gate/layout.py"]),

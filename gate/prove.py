@@ -21,7 +21,9 @@ from crates import TOP, Crates, kit_folder
 from lanes import Lanes, Task
 from store import Store
 
-LIBRARY, PROGRAM, STATIC, TESTS = "library", "program", "static", "tests"
+# The library for C runs on each processor of its kind, as wheels and Debian's packages say of what they hold.
+CPU = "x86-64"
+LIBRARY, PROGRAM, STATIC, TESTS = "library", "program", f"static-{CPU}", "tests"
 # A file in out/, or in out/rlib/, that says by its sum what lies there.
 MARK = "sum"
 # What a proof takes by one job, as measured: a crate is loaded, and then so much for a line. Functions of programs and of
@@ -72,7 +74,7 @@ class Prover:
         if self.kind(crate.name, tests) != STATIC:
             return self.proves(crate, flags, tests)
         words = [*crate.words(flags, keeps=False), "--toolchain", os.path.join(kit_folder(), "toolchain")]
-        return crate.prove(["build", *words, "--backend", "llvm", "-o", f"out/{archive_of(crate.name)}"])
+        return crate.prove(["build", *words, "--cpu", CPU, "--backend", "llvm", "-o", f"out/{archive_of(crate.name)}"])
 
     def keep(self, crate, entry, tests):
         """Keeps what was proved, unless a text changed meanwhile."""
@@ -197,7 +199,7 @@ class Chain:
 def program(prover, name):
     """Has a program built, or a library for C, where it isn't there, and returns a status."""
     crate = prover.crates[name]
-    out, mark = os.path.join(crate.folder, "out"), prover.crates.sum(name)
+    out, mark = os.path.join(crate.folder, "out"), prover.entry(name)
     built = os.path.join(out, archive_of(name) if crate.is_static() else name)
     if os.path.isfile(built) and read(os.path.join(out, MARK)) == mark:
         return 0

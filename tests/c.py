@@ -30,6 +30,8 @@ WAS = 0xA5
 ALL, MOST_REQUESTS = 2 ** 62, 5000
 # What is given back counts as given back at once.
 AT_ONCE = {"GLIBC_TUNABLES": "glibc.malloc.tcache_count=0"}
+# Instructions by which it is seen that code was made for newer processors than the oldest of x86-64.
+BEYOND = {*"popcnt pshufb ptest pextrb pextrd pextrq pinsrb pinsrd pinsrq pblendw pblendvb pmovsxbd pmovzxwd pmaxuw pcmpgtq".split()}
 # How many extras the deepest trees have: one that is asked, and one that is printed; and the threads' stack in KiB.
 DEEP = ("100000", "1000", "512")
 
@@ -339,6 +341,9 @@ def exports(shared, static):
     wants("libreqs.a exports what the header declares", {it for it in names("-g", "--defined-only", static) if not it.endswith(":")} == declared)
     called = names("-D", "--undefined-only", shared)
     wants("libreqs.so is no symbolic link, at which a second run of the gate would end", not os.path.islink(shared))
+    told = subprocess.check_output(["objdump", "-d", "--no-show-raw-insn", shared], text=True)
+    used = {it.split("\t")[1].split()[0] for it in told.splitlines() if len(it.split("\t")) > 1 and it.split("\t")[1].strip()}
+    wants("libreqs.so has the instructions of each x86-64 processor alone", "mov" in used and not used & BEYOND, used & BEYOND)
     wants("libreqs.so calls nothing else", called <= {"malloc", "realloc", "free", "memcpy", "memmove", "memset", "memcmp"}, called)
 
 

@@ -48,8 +48,9 @@ struct Place {
 /// can't be compared, even where it never applies; and a package can't that has more cases than the limit in
 /// one of the lists, whatever differs before it. Both lists must have been read with this interner.
 ///
-/// The tables of both lists are made, as `Table::build` does. A package with k and m cases takes at most
-/// k * m comparisons of what two cases require.
+/// The tables of both lists are made, as `Table::build` does: so cases are counted in either. A package with k
+/// and m cases takes at most k * m comparisons of what two cases require, and k where each case of it stands
+/// in both lists and requires the same there, as where its lines are equal, in whatever order.
 pub fn same<'a>(
     alloc: Global,
     left: &'a Requirements,
