@@ -1,3 +1,4 @@
+#![tactic(auto)]
 //! The commands of `reqs`: each reads its inputs whole, and writes its answer once it is made whole. Those on
 //! lists alone are of `reqs_lists`.
 //!
@@ -9,7 +10,6 @@
 //!     alloc, &mut requirements, &mut environment, &mut candidates, &["socks"], &vars, Format::Text, &mut output,
 //! )?;
 //! ```
-#![tactic(auto)]
 
 mod admitting;
 mod checks;

@@ -1,3 +1,4 @@
+#![tactic(auto)]
 //! The commands of `reqs` on requirement lists alone: whether two require the same, which lines of one
 //! contradict each other, and one in the normal form. Each reads its inputs whole, and writes its answer once
 //! it is made whole.
@@ -5,7 +6,6 @@
 //! ```text
 //! let status = same(alloc, &mut left, &mut right, &vars, 4096, Format::Text, &mut output)?;
 //! ```
-#![tactic(auto)]
 
 mod answer;
 mod comparing;

@@ -1,3 +1,4 @@
+#![tactic(auto)]
 //! Sets of intervals over any lawful order, as version specifiers and marker trees stand on them.
 //!
 //! A set is told by the points that it holds: below all values, at a value, and just above a value. Two
@@ -9,7 +10,6 @@
 //! let both = from_one.intersection(alloc, &below_three)?;
 //! let is_held = both.contains(&2);
 //! ```
-#![tactic(auto)]
 
 mod boundary;
 mod iter;
