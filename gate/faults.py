@@ -75,6 +75,9 @@ FAULTS = [
           "crates/reqs_ends/specs/Inputs.antt", "abbrev pub IsWithin :", "abbrev pub IsShort :"),
     Fault("a lent call that is passed on", None, ["gate/lent.py"],
           "crates/pep508_rs/src/lib.rt", "{Interner, MarkerTree}", "{Interner, MarkerTree, uncounted_conjunction}"),
+    Fault("a matrix that keeps a copy of its requirements", None, ["gate/lent.py"],
+          "crates/reqs/src/matrices.rt", "let mut table = table_of(alloc, requirements, interner, limit)?;",
+          "let copy = copied_requirements(alloc, &requirements)?; let mut table = table_of(alloc, copy, interner, limit)?;"),
     Fault("no edits", None, [*WRONG, "--texts"], "tests/wrong/gate.txt", "", ""),
 ]
 

@@ -4,10 +4,12 @@
     lent.py
 
 `Interner::conjunctions` counts what a caller asks for, so that a promise on how many there are binds all that a
-crate does. A call that isn't counted is public only since other crates of trees need it. LENT has such calls, each
-with the crate that has it and those that may name it; nobody may pass one on by `pub use`, and no other crate's
-source may name it. Fails too where one of those crates has no use for it. Comments, texts and clauses don't count.
-The last line is `N passed, M failed`, a crate each.
+crate does. A call that isn't counted is public only since other crates of trees need it. Who makes a table of
+requirements gives them away, so that its answers come from the table; a copy of requirements, or a table of some
+that are lent, is for the calls on whole lists. LENT has such calls, each with the crate that has it and those that
+may name it; nobody may pass one on by `pub use`, and no other crate's source may name it. Fails too where one of
+those crates has no use for it. Comments, texts and clauses don't count. The last line is `N passed, M failed`, a
+crate each.
 """
 
 import os
@@ -21,6 +23,8 @@ BORROWERS = ("pep508_conjunctions", "pep508_requirement", "pep508_simplification
 LENT = {
     "uncounted_conjunction": ("pep508_tree", BORROWERS),
     "conjunction_of_all": ("pep508_conjunctions", ("pep508_marker_read",)),
+    "copied_requirements": ("reqtable_requirements", ("reqtable_conflicts", "reqs_tests")),
+    "table_of_lent": ("reqtable_conflicts", ("reqtable_compare",)),
 }
 PASSED_ON = re.compile(r"\bpub use ([^;]+);")
 

@@ -11,7 +11,7 @@ ghost use Rattle.pep508_conjunctions.specs.Sources.{AreMeet, all_hold};
 use crate::meet::{Truths, meet_all};
 use crate::order::in_order;
 use crate::owned::{constant, constants, owned};
-use crate::source::{text_sources, turned, version_sources};
+use crate::source::{text_sources, version_sources};
 use pep440_version::Version;
 use pep508_diagram::{MarkerText, VersionVariable};
 use pep508_marker::MarkerValueString;
@@ -157,7 +157,7 @@ fn of_one(interner: &Interner, trees: &[MarkerTree], negated: bool) -> MarkerTre
 {
     let _nodes = interner;
     match trees.first() {
-        Some(tree) => turned(*tree, negated),
+        Some(tree) => tree.turned(negated),
         None => MarkerTree::TRUE,
     }
 }
@@ -192,7 +192,7 @@ fn from_behind(
     let mut whole = MarkerTree::TRUE;
     let mut left = trees;
     while let Some((last, front)) = left.split_last() {
-        whole = uncounted_conjunction(alloc, interner, turned(*last, negated), whole)?;
+        whole = uncounted_conjunction(alloc, interner, last.turned(negated), whole)?;
         left = front;
     }
     Ok(whole)

@@ -6,7 +6,6 @@ ghost use Rattle.pep440_version.specs.Order.{version_cmp};
 ghost use Rattle.pep508_diagram.specs.Text.{text_cmp};
 ghost use Rattle.pep508_diagram.specs.Branches.{AllBranches};
 ghost use Rattle.pep508_tree.specs.Meaning.{IsTree};
-ghost use Rattle.pep508_tree.specs.Nodes.{turned};
 ghost use Rattle.pep508_tree.specs.Conjunctions.{Meet};
 ghost use Rattle.pep508_conjunctions.specs.Meets.{truth_in};
 ghost use Rattle.pep508_conjunctions.specs.Sources.{IsSource};
@@ -31,13 +30,6 @@ pub(crate) fn truth_in(negated: bool, tree: MarkerTree) -> bool
     ensures { result ≡ truth_in negated tree }
 {
     tree.is_negated() == negated
-}
-
-/// The tree, negated where the flag is set.
-pub(crate) fn turned(tree: MarkerTree, negated: bool) -> MarkerTree
-    ensures { result ≡ turned negated tree }
-{
-    if negated { tree.negate() } else { tree }
 }
 
 /// Whether each child is a constant tree.
@@ -80,7 +72,7 @@ fn version_source<'a>(
     requires { IsTree interner.now.nodes tree }
     ensures { IfSome result (IsSource version_cmp (λ v. v.version key) interner.now.nodes negated tree) }
 {
-    match turned(tree, negated).node(interner) {
+    match tree.turned(negated).node(interner) {
         TreeNode::Versions(own, children) => {
             if is_same(own, key) && are_constant(children.first, children.later) {
                 Some(Source {
@@ -106,7 +98,7 @@ fn text_source<'a>(
     requires { IsTree interner.now.nodes tree }
     ensures { IfSome result (IsSource text_cmp (λ v. v.text key) interner.now.nodes negated tree) }
 {
-    match turned(tree, negated).node(interner) {
+    match tree.turned(negated).node(interner) {
         TreeNode::Texts(own, children) => {
             if text_rank(own) == text_rank(key) && are_constant(children.first, children.later) {
                 Some(Source {

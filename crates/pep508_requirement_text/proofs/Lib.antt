@@ -3,6 +3,8 @@ pub mod UrlLoops
 pub mod Outcomes
 pub mod ExtrasReading
 pub mod ListPlaces
+pub mod Shown
+pub mod ShownFront
 pub mod FrontParts
 pub mod UnnamedParts
 pub mod UnnamedTexts

@@ -65,7 +65,9 @@ unfolding list_reading
 fault_line text fault e = whole_line text fault e
 
 abbrev Told : RefusedPiece → List ℕ → Type 0
-Told piece text = (fault : ListFault) × (list_reading text ≡ Err fault) × (string_bytes piece.line ≡ text)
+Told piece text =
+    (fault : ListFault) × (list_reading text ≡ Err fault) × (string_bytes piece.line ≡ text)
+    × (fault.start ≡ piece.start) × (fault.end ≡ piece.end)
 
 told_by : (piece : RefusedPiece) (text : List ℕ) (said : Option SpecifierFault)
     → TellsFault (option_map (fault_at (string_bytes piece.line) piece.start piece.end) said) (list_reading text)
@@ -76,6 +78,8 @@ told_by piece text (Some f) h plain = (
   fault_at (string_bytes piece.line) piece.start piece.end f,
   h,
   fault_line text (fault_at (string_bytes piece.line) piece.start piece.end f) h,
+  refl,
+  refl,
 )
 
 -- a refused piece is one of the text

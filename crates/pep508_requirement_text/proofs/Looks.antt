@@ -1,12 +1,16 @@
 -- A text has one URL before the extras at its end.
-use Rattle.std.proofs.Common.{◌≡◌, ℕ, Bool, false, List, [], ◌∷◌, ◌++◌, length, get_or, inl, inr, refl, ap}
-use Rattle.std.proofs.Common.{sym, subst, ◌∙◌, arith, append_assoc, length-append, IsTrue}
+use Rattle.std.proofs.Common.{◌≡◌, ℕ, Bool, false, List, [], ◌∷◌, ◌++◌, length, get_or, inl, inr, ap}
+use Rattle.std.proofs.Common.{sym, subst, ◌∙◌, arith, append_assoc, length-append, IsTrue, refl}
 use Rattle.std.proofs.Math.Seq.{get_or-append_seam}
 use Rattle.std.proofs.lemmas.List.{append_cancel_right}
 use Rattle.std.specs.Prelude.{All}
 use Rattle.pep508_url.specs.Vars.{Variables}
+use Rattle.url.specs.Input.{trim_c0_control_and_space}
+use Rattle.pep508_url.specs.Cuts.{cut}
 use Rattle.pep508_url.specs.Expansion.{expanded}
+use Rattle.pep508_url.specs.Schemes.{scheme_split}
 use Rattle.pep508_url.specs.Splits.{is_bracket, IsExtrasSplit}
+use Rattle.pep508_requirement_text.specs.Archives.{is_archive}
 use Rattle.pep508_requirement_text.specs.Unnamed.{IsBeforeExtras, LooksUnnamed, looks_like_url}
 
 no_opening : (url inside : List ℕ) → All (λ b. is_bracket b ≡ false) (url ++ 91 ∷ inside) → ⊥
@@ -63,3 +67,27 @@ looks_are vars text full url answer e before is = (
       one_before (expanded vars text) h.url url h.before_extras (subst (λ (t : List ℕ). IsBeforeExtras t url) e before) in
       subst IsTrue (ap looks_like_url same ∙ sym is) h.looks,
 )
+
+-- ---- the empty text
+
+nothing_like_url : looks_like_url [] ≡ false
+unfolding looks_like_url scheme_split cut trim_c0_control_and_space is_archive
+nothing_like_url = refl
+
+nothing_expanded : (vars : Variables) → expanded vars [] ≡ []
+unfolding expanded
+nothing_expanded vars = refl
+
+nothing_before : (text url : List ℕ) → text ≡ [] → IsBeforeExtras text url → url ≡ []
+nothing_before text url e (inr plain) = plain.0 ∙ e
+nothing_before text url e (inl split) =
+    let none = ap length (sym e ∙ split.1.whole) in
+    let all = length-append url split.0 in
+    let some = ap length split.1.brackets in
+    absurd (omega (arith, none, all, some))
+
+pub nothing_looks : (vars : Variables) (text : List ℕ) → text ≡ [] → LooksUnnamed vars text → ⊥
+nothing_looks vars text e h =
+    let none : h.url ≡ [] =
+    nothing_before (expanded vars text) h.url (ap (expanded vars) e ∙ nothing_expanded vars) h.before_extras in
+    absurd (cc (sym (ap looks_like_url none ∙ nothing_like_url) ∙ h.looks))

@@ -6,6 +6,7 @@ pub mod FrontText
 pub mod UrlTurns
 pub mod FrontOutcome
 pub mod FrontFound
+pub mod FrontSpans
 pub mod UnnamedReading
 pub mod UnnamedFound
 pub mod UnnamedText

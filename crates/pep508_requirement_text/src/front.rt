@@ -1,6 +1,6 @@
 //! Reading the front of a requirement.
 
-ghost use Rattle.std.specs.Prelude.{◌≡◌, false, IfOk};
+ghost use Rattle.std.specs.Prelude.{◌≡◌, false, IfOk, IfErr};
 ghost use Rattle.pep508_url.specs.Vars.{Variables};
 ghost use Rattle.pep508_error.specs.Cursors.{rest_of, IsBehind, behind};
 ghost use Rattle.std.specs.Str.{skip_leading_whitespace};
@@ -10,6 +10,7 @@ ghost use Rattle.pep508_requirement_text.specs.FrontReading.{begins_operator, if
 ghost use Rattle.pep508_requirement_text.specs.FrontReading.Refused.{Nameless};
 ghost use Rattle.pep508_requirement_text.specs.FrontOutcome.{Fits};
 ghost use Rattle.pep508_error.specs.Refusals.{StaysIn, IsOf};
+ghost use Rattle.pep508_requirement_text.specs.FrontSpans.{Shows, IfTold, ShowsSource, ShowsFront};
 ghost use Rattle.pep508_requirement_text.specs.FrontFound.{ReadsFront, ReadsAs, IsSource, IsUrlIn};
 
 use crate::archive::is_archive;
@@ -50,6 +51,7 @@ pub fn read_front<'a>(
     ensures read { ReadsFront vars.now result (front_reading (rest_of start.entry)) }
     ensures stays { StaysIn start.entry result }
     ensures url { IfOk result (λ found. IsUrlIn start.entry found.0.source) }
+    ensures shown { IfErr result (IfTold (ShowsFront start.entry)) }
 {
     let (name, named) = read_name(alloc, start.after_whitespace(), vars)?;
     let (extras, asked) = read_extras(alloc, named.after_whitespace())?;
@@ -78,6 +80,7 @@ fn read_source<'a>(
         (source_at (behind whole.entry) name.now (behind start.entry)) }
     ensures stays { StaysIn whole.entry result }
     ensures url { IfOk result (λ found. IsUrlIn whole.entry found.0) }
+    ensures shown { IfErr result (IfTold (ShowsSource whole.entry start.entry)) }
 {
     let Some((c, inner)) = start.split_first() else {
         return read_alone(alloc, whole, name, start);
@@ -113,9 +116,10 @@ fn read_alone<'a>(
     ensures read { (vars : Variables) → ReadsAs vars IsSource result (alone name.now (behind start.entry)) }
     ensures stays { StaysIn whole.entry result }
     ensures url { IfOk result (λ found. IsUrlIn whole.entry found.0) }
+    ensures shown { IfErr result (Shows whole.entry.input.now whole.entry.position 0) }
 {
     if is_archive(name) {
-        return Err(whole.refuse_none(unsupported(String::from_str(alloc, PRECEDED_BY_URL))));
+        return Err(whole.refuse(0, unsupported(String::from_str(alloc, PRECEDED_BY_URL))));
     }
     Ok((Source::Any, start))
 }

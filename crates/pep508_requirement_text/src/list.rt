@@ -1,14 +1,15 @@
 //! Reading specifiers.
 
-ghost use Rattle.std.specs.Prelude.{◌==◌, IfOk, IfErr};
+ghost use Rattle.std.specs.Prelude.{◌≡◌, ◌==◌, ◌+◌, ◌-◌, ℕ, List, Some, IfOk, IfErr};
 ghost use Rattle.std.specs.Str.{trim_start};
 ghost use Rattle.std.specs.String.{string_bytes};
 ghost use Rattle.pep508_error.specs.Cursors.{IsBehind, behind, IsAt};
 ghost use Rattle.pep508_requirement_text.specs.FrontReading.{specifiers_of_text, listed};
-ghost use Rattle.pep508_error.specs.Cuts.{encoded_cut};
+ghost use Rattle.pep508_error.specs.Cuts.{encoded_cut, cut_around};
 ghost use Rattle.pep508_url.specs.Vars.{Variables};
 ghost use Rattle.pep508_requirement_text.specs.FrontFound.{ReadsAs, IsSource, IsUrlIn, enclosed_at};
 ghost use Rattle.pep508_requirement_text.specs.FrontOutcome.{ReadsSpecifiers, IsPlain};
+ghost use Rattle.pep508_requirement_text.specs.FrontSpans.{Shows, IfTold, ShowsPiece, ShowsTrimmed};
 ghost use Rattle.pep508_error.specs.Refusals.{StaysIn, IsOf};
 
 use crate::message::plain;
@@ -28,6 +29,8 @@ pub(crate) fn read_open<'a>(
         (listed (encoded_cut (λ c. c == 59) (behind start.entry))) }
     ensures stays { StaysIn start.entry result }
     ensures url { IfOk result (λ found. IsUrlIn start.entry found.0) }
+    ensures shown { IfErr result (IfTold (ShowsPiece start.entry.input.now start.entry.position
+        (encoded_cut (λ c. c == 59) (behind start.entry)).0)) }
 {
     let (text, later) = start.cut(';');
     let list = read_specifiers(alloc, start, text)?;
@@ -44,6 +47,8 @@ pub(crate) fn read_enclosed<'a>(
     ensures read { (vars : Variables) → ReadsAs vars IsSource result (enclosed_at (behind inner.entry)) }
     ensures stays { StaysIn opening.entry result }
     ensures url { IfOk result (λ found. IsUrlIn opening.entry found.0) }
+    ensures shown { (inside later : List ℕ) → cut_around 41 (behind inner.entry) ≡ Some (inside, later)
+        → IfErr result (IfTold (ShowsTrimmed inner.entry.input.now inner.entry.position inside)) }
 {
     match inner.cut_around(')') {
         Some((text, later)) => {
@@ -82,6 +87,7 @@ fn read_trimmed<'a>(
     ensures read { ReadsSpecifiers result (specifiers_of_text (trim_start text.now)) }
     ensures plain { IfErr result (λ refusal. IsPlain refusal.kind) }
     ensures of { IfErr result (IsOf start.entry) }
+    ensures shown { IfErr result (IfTold (ShowsTrimmed start.entry.input.now start.entry.position text.now)) }
 {
     let (blanks, list) = split_blanks(text);
     read_specifiers(alloc, start.pass(blanks), list)
@@ -98,6 +104,7 @@ fn read_specifiers<'a>(
     ensures read { ReadsSpecifiers result (specifiers_of_text text.now) }
     ensures plain { IfErr result (λ refusal. IsPlain refusal.kind) }
     ensures of { IfErr result (IsOf start.entry) }
+    ensures shown { IfErr result (IfTold (ShowsPiece start.entry.input.now start.entry.position text.now)) }
 {
     if text.is_empty() {
         return Err(refuse_empty(alloc, start));
@@ -115,9 +122,10 @@ fn read_specifiers<'a>(
 fn refuse_empty<'a>(alloc: Global, start: Cursor<'a>) -> Refusal<'a>
     ensures plain { IsPlain result.kind }
     ensures of { IsOf start.entry result }
+    ensures shown { Shows start.entry.input.now start.entry.position 0 result }
 {
     let error = VersionSpecifierParseError::MissingOperator;
-    start.refuse_none(plain(format!(in alloc; "{error}")))
+    start.refuse(0, plain(format!(in alloc; "{error}")))
 }
 
 /// The refusal of a piece of the text at a place.
@@ -125,6 +133,8 @@ fn refuse_piece<'a>(alloc: Global, start: Cursor<'a>, piece: &RefusedPiece) -> R
     requires { IsAt start (string_bytes piece.now.line) }
     ensures plain { IsPlain result.kind }
     ensures of { IsOf start.entry result }
+    ensures shown { Shows start.entry.input.now (start.entry.position + piece.now.start)
+        (piece.now.end - piece.now.start) result }
 {
     let error = piece.error();
     let kind = plain(format!(in alloc; "{error}"));

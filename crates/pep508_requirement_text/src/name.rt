@@ -1,11 +1,13 @@
 //! Reading the name at the front of a requirement.
 
-ghost use Rattle.std.specs.Prelude.{◌≡◌, IsTrue, IfOk, MatchResult};
+ghost use Rattle.std.specs.Prelude.{◌≡◌, [], IsTrue, IfOk, IsErrAnd, MatchResult};
 ghost use Rattle.pep508_name.specs.Name.{is_name, is_alphanumeric_at, normal_name};
 ghost use Rattle.pep508_error.specs.declared.refusal.RefusalKind.TheVariants.{Memory};
 ghost use Rattle.pep508_requirement_text.specs.FrontReading.{name_at, run_of};
 ghost use Rattle.pep508_requirement_text.specs.FrontReading.Refused.{Nameless};
 ghost use Rattle.pep508_requirement_text.specs.FrontOutcome.{Fits, Reads};
+ghost use Rattle.pep508_requirement_text.specs.FrontOutcome.{IsPlain};
+ghost use Rattle.pep508_requirement_text.specs.FrontSpans.{IfTold, ShowsEmptyField};
 ghost use Rattle.pep508_error.specs.Cursors.{behind};
 ghost use Rattle.pep508_error.specs.Refusals.{StaysIn, IsOf};
 
@@ -31,6 +33,8 @@ pub(crate) fn read_name<'a>(
         (name_at (behind start.entry)) }
     ensures stays { StaysIn start.entry result }
     ensures named { IfOk result (λ found. IsTrue (is_name found.0.now)) }
+    ensures empty { behind start.entry ≡ []
+        → IsErrAnd result (IfTold (ShowsEmptyField start.entry.input.now)) }
 {
     let (name, later) = start.cut(NameEnd);
     if is_name(name) {
@@ -57,6 +61,7 @@ fn begins_alphanumeric(text: &str) -> bool
 fn refuse_nameless<'a>(alloc: Global, start: Cursor<'a>, vars: &Vars) -> Refusal<'a>
     ensures fits { Fits vars.now result.kind (Nameless (run_of (behind start.entry))) }
     ensures of { IsOf start.entry result }
+    ensures empty { behind start.entry ≡ [] → IfTold (ShowsEmptyField start.entry.input.now) result }
 {
     let (run, end) = start.cut(Space);
     let looks = match looks_unnamed(alloc, run, vars) {
@@ -71,11 +76,20 @@ fn refuse_nameless<'a>(alloc: Global, start: Cursor<'a>, vars: &Vars) -> Refusal
         Some(c) => start.refuse_char(plain(format!(in alloc;
             "Expected package name starting with an alphanumeric character, found `{c}`"
         ))),
-        None => Cursor::new(start.input()).refuse_char(plain(String::from_str(
-            alloc,
-            "Empty field is not allowed for PEP508",
-        ))),
+        None => refuse_empty(alloc, start),
     }
+}
+
+/// The refusal of a text that has nothing but white space, by its first character.
+fn refuse_empty<'a>(alloc: Global, start: Cursor<'a>) -> Refusal<'a>
+    ensures plain { IsPlain result.kind }
+    ensures of { IsOf start.entry result }
+    ensures shown { ShowsEmptyField start.entry.input.now result }
+{
+    Cursor::new(start.input()).refuse_char(plain(String::from_str(
+        alloc,
+        "Empty field is not allowed for PEP508",
+    )))
 }
 
 /// The name of a package, in normal form.

@@ -1,6 +1,15 @@
+#![tactic(auto)]
 //! The commands of `reqs`: each reads its inputs whole, and writes its answer once it is made whole. Those on
 //! lists alone are of `reqs_lists`.
-#![tactic(auto)]
+//!
+//! Anything that reads bytes may be an input, and anything that writes them the output:
+//!
+//! ```text
+//! let (mut requirements, mut environment) = (File::open(..)?, File::open(..)?);
+//! let status = check(
+//!     alloc, &mut requirements, &mut environment, &mut candidates, &["socks"], &vars, Format::Text, &mut output,
+//! )?;
+//! ```
 
 mod admitting;
 mod checks;

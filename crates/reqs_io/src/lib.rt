@@ -1,6 +1,11 @@
+#![tactic(auto)]
 //! The two ends of a command: an input is read whole before it is looked at, and an answer is
 //! written whole once it is made.
-#![tactic(auto)]
+//!
+//! ```text
+//! let bytes = read_whole(alloc, &mut input, 16_777_216, 1 << 32)?;
+//! write_whole(&mut output, bytes.as_slice())?;
+//! ```
 
 ghost use Rattle.std.specs.Prelude.{◌≡◌, ◌≤◌, length, drop, IfOk, OnOk, OnErr};
 ghost use Rattle.reqs_io.specs.Front.{AreAsTold, MayBeLonger, WritesWhole, AppendsFront};

@@ -1,7 +1,11 @@
+#![tactic(auto)]
 //! The commands of `reqs` on requirement lists alone: whether two require the same, which lines of one
 //! contradict each other, and one in the normal form. Each reads its inputs whole, and writes its answer once
 //! it is made whole.
-#![tactic(auto)]
+//!
+//! ```text
+//! let status = same(alloc, &mut left, &mut right, &vars, 4096, Format::Text, &mut output)?;
+//! ```
 
 mod answer;
 mod comparing;

@@ -1,5 +1,5 @@
 -- From package to package.
-use Rattle.std.proofs.Common.{◌≡◌, ◌≢◌, ◌∙◌, ◌<◌, ◌+◌, ℕ, Bool, List, [], ◌∷◌, ◌++◌, length, get_or, take, Option, Some, None, sym, ap, subst, inl, inr, arith, append-nil}
+use Rattle.std.proofs.Common.{◌≡◌, ◌≢◌, ◌∙◌, ◌≤◌, ◌<◌, ◌+◌, ℕ, zero, suc, Bool, List, [], ◌∷◌, ◌++◌, length, get_or, take, Option, Some, None, sym, ap, subst, inl, inr, arith, append-nil}
 use Rattle.std.proofs.lemmas.Bool.{cases_eq}
 use Rattle.std.proofs.lemmas.List.{take_more, flat_map_more}
 use Rattle.std.specs.List.{AllZip}
@@ -11,10 +11,11 @@ use Rattle.pep508_tree.specs.Meaning.{NodeRecord}
 use Rattle.reqtable_text.specs.declared.candidates.Candidate.{Candidate}
 use Rattle.reqtable_answer.specs.Admission.{Admits}
 use Rattle.reqtable_answer.specs.Answer.{RowRecord, row_text, answer_text}
-use Rattle.reqtable_table.specs.Answers.{AreRowsFor, IsRowIf, SamePackage}
+use Rattle.reqtable_table.specs.Answers.{AreRowsFor, IsRowIf, SamePackage, own_candidates, most_tests, most_tests_in, most_tests_of}
+use Rattle.reqtable_table.specs.Counts.{all_tests}
 use Rattle.reqtable_table.specs.Kept.{KeptPackage}
 use Rattle.reqtable_table.proofs.Placed.{same_back}
-use Rattle.reqtable_table.proofs.Rows.{none_more, row_more}
+use Rattle.reqtable_table.proofs.Rows.{none_more, row_more, asked_same}
 use Rattle.reqs_rows.specs.Texts.{IsKnown, AreKnown, Grow, PutsRow, PutsRows}
 use Rattle.reqs_rows.proofs.Places.{at_zip, zip_long}
 use Rattle.reqs_rows.proofs.Putting.{known_grown, known_same}
@@ -84,3 +85,39 @@ module _ (admits : Admits) (nodes : List NodeRecord) (v : Valuation) (candidates
   row_put i other below old mid new front put =
       subst (λ t. PutsRows admits nodes v candidates t old new) (sym (take_more table i other below))
       (more_by (take i table) (get_or table i other) front.0 put.0 old mid new front.1 front.2 put.2 put.1)
+
+-- ---- tests
+
+module _ (nodes : List NodeRecord) (v : Valuation) (candidates : List Candidate) where
+  abbrev most : List KeptPackage → ℕ
+  most = most_tests_of nodes v candidates
+
+  in_same : (a b : KeptPackage) → SamePackage a b → most_tests_in nodes v candidates a ≡ most_tests_in nodes v candidates b
+  in_same a b s = λ j. most_tests (asked_same nodes v a.lines b.lines s.lines j) (own_candidates candidates (s.name j))
+
+  most_joined : (table : List KeptPackage) (kept : KeptPackage)
+      → most (table ++ kept ∷ []) ≡ most table + most_tests_in nodes v candidates kept
+  most_joined [] kept = omega arith
+  most_joined (p ∷ table) kept = let rest = most_joined table kept in omega (arith, rest)
+
+  most_front : (table : List KeptPackage) (i : ℕ) → most (take i table) ≤ most table
+  most_front table zero = omega arith
+  most_front [] (suc i) = omega arith
+  most_front (p ∷ table) (suc i) = let rest = most_front table i in omega (arith, rest)
+
+  -- where the rows before take no more
+  pub tests_front : (first now : List KeptPackage) (i : ℕ) → all_tests now ≤ all_tests first + most (take i first)
+      → all_tests now ≤ all_tests first + most first
+  tests_front first now i few = let all = most_front first i in omega (arith, few, all)
+
+  -- one more row
+  pub tests_more : (first now new : List KeptPackage) (i : ℕ) (other : KeptPackage) → AllZip SamePackage now first → i < length first
+      → all_tests now ≤ all_tests first + most (take i first)
+      → all_tests new ≤ all_tests now + most_tests_in nodes v candidates (get_or now i other)
+      → all_tests new ≤ all_tests first + most (take (i + 1) first)
+  tests_more first now new i other same below few more =
+      let long = zip_long SamePackage now first same in
+      let its = in_same (get_or now i other) (get_or first i other)
+      (at_zip SamePackage now first i other other same (omega (arith, below, long))) in
+      let sum = ap most (take_more first i other below) ∙ most_joined (take i first) (get_or first i other) in
+      omega (arith, few, more, its, sum)

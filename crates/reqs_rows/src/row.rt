@@ -1,13 +1,14 @@
 //! The row of one package.
 
-ghost use Rattle.std.specs.Prelude.{◌≡◌, ◌≢◌, ◌⊎◌, ◌<◌, ◌++◌, ◌∷◌, ℕ, [], length, get_or, Some, None};
-ghost use Rattle.std.specs.Prelude.{string_bytes, IfOk, OnOk};
+ghost use Rattle.std.specs.Prelude.{◌≡◌, ◌≢◌, ◌⊎◌, ◌≤◌, ◌<◌, ◌+◌, ◌++◌, ◌∷◌, ℕ, [], length, get_or};
+ghost use Rattle.std.specs.Prelude.{string_bytes, Some, None, IfOk, OnOk};
 ghost use Rattle.std.specs.List.{AllZip, AllByRecursion};
 ghost use Rattle.reqtable_answer.specs.Admission.{Admits, AnswersBy};
 ghost use Rattle.reqtable_answer.specs.Answer.{row_text};
 ghost use Rattle.reqtable_answer.specs.Rows.{row_seen, IsTakenBelow};
-ghost use Rattle.reqtable_table.specs.Answers.{IsPlaceIn, LiesIn, SamePackage};
+ghost use Rattle.reqtable_table.specs.Answers.{most_tests_in, IsPlaceIn, LiesIn, SamePackage};
 ghost use Rattle.reqtable_table.specs.Cases.{HasItsCases};
+ghost use Rattle.reqtable_table.specs.Counts.{all_tests};
 ghost use Rattle.reqtable_table.specs.Kept.{KeptPackage};
 ghost use Rattle.reqtable_table.specs.Runs.{AreRunsOf, AreTold};
 ghost use Rattle.reqtable_table.specs.Standing.{HasItsLines};
@@ -63,6 +64,9 @@ pub(crate) fn put_row<F: Fn(&Version, bool) -> bool>(
     ensures candidates { runs.new.candidates ≡ runs.old.candidates }
     ensures runs { AreRunsOf table.new runs.new }
     ensures told { AreTold (F.post admission.now) table.new runs.new }
+    ensures tests { (other : KeptPackage) → all_tests table.new ≤ all_tests table.old
+        + most_tests_in (nodes_in asked.now) (valuation_in asked.now) (candidates_in asked.now)
+        (get_or table.old index other) }
 {
     let Some(place) = place else {
         return Ok(());
@@ -108,6 +112,9 @@ fn put_row_in<F: Fn(&Version, bool) -> bool>(
     ensures candidates { runs.new.candidates ≡ runs.old.candidates }
     ensures runs { AreRunsOf table.new runs.new }
     ensures told { AreTold (F.post admission.now) table.new runs.new }
+    ensures tests { (other : KeptPackage) → all_tests table.new ≤ all_tests table.old
+        + most_tests_in (nodes_in asked.now) (valuation_in asked.now) (candidates_in asked.now)
+        (get_or table.old index other) }
 {
     if let Some(piece) = piece_at(own, place) {
         return pieces.append(piece);

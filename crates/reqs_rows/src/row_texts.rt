@@ -1,13 +1,14 @@
 //! The texts of rows that are known, and answers that are put together of them.
 
-ghost use Rattle.std.specs.Prelude.{◌≡◌, List, [], OnOk};
+ghost use Rattle.std.specs.Prelude.{◌≡◌, ◌≤◌, ◌+◌, List, [], OnOk};
 ghost use Rattle.std.specs.List.{AllZip, AllByRecursion};
 ghost use Rattle.pep508_evaluation.specs.Valuations.{valuation_of};
 ghost use Rattle.reqtable_answer.specs.Admission.{Admits, AnswersBy};
 ghost use Rattle.reqtable_requirements.specs.Asks.{asks_of};
 ghost use Rattle.reqtable_requirements.specs.LineReading.{LineRecord};
-ghost use Rattle.reqtable_table.specs.Answers.{LiesIn, SamePackage};
+ghost use Rattle.reqtable_table.specs.Answers.{most_tests_of, LiesIn, SamePackage};
 ghost use Rattle.reqtable_table.specs.Cases.{HasItsCases};
+ghost use Rattle.reqtable_table.specs.Counts.{all_tests};
 ghost use Rattle.reqtable_table.specs.Kept.{KeepsAll};
 ghost use Rattle.reqtable_table.specs.Runs.{AreRunsOf, AreTold};
 ghost use Rattle.reqtable_table.specs.Standing.{HasItsLines};
@@ -90,6 +91,8 @@ impl RowTexts {
         ensures candidates { runs.new.candidates ≡ runs.old.candidates }
         ensures runs { AreRunsOf table.new runs.new }
         ensures told { AreTold (F.post admission.now) table.new runs.new }
+        ensures tests { all_tests table.new ≤ all_tests table.old + most_tests_of interner.now.nodes
+            (valuation_of environment.now extras.now) candidates.now table.old }
     {
         let places = table.places(alloc, interner, environment, extras)?;
         let asked = Asked {
@@ -134,6 +137,8 @@ fn put_rows<F: Fn(&Version, bool) -> bool>(
     ensures candidates { runs.new.candidates ≡ runs.old.candidates }
     ensures runs { AreRunsOf table.new runs.new }
     ensures told { AreTold (F.post admission.now) table.new runs.new }
+    ensures tests { all_tests table.new ≤ all_tests table.old + most_tests_of (nodes_in asked.now)
+        (valuation_in asked.now) (candidates_in asked.now) table.old }
 {
     for (index, place) in places.iter().enumerate() {
         put_row(

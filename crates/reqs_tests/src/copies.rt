@@ -2,7 +2,7 @@
 
 use crate::lists::{answer_of, lists_of};
 use reqtable_answer::{Answer, Row};
-use reqtable_requirements::{Line, Requirements};
+use reqtable_requirements::{Line, Requirements, copied_requirements};
 use reqtable_text::{Candidate, Candidates};
 use std::alloc::{AllocError, Global};
 use std::test::Fail;
@@ -35,7 +35,7 @@ fn are_lists_copied(
             return Ok(false);
         }
     }
-    Ok(read.try_clone(alloc)? == *read && candidates.try_clone(alloc)? == *candidates)
+    Ok(copied_requirements(alloc, read)? == *read && candidates.try_clone(alloc)? == *candidates)
 }
 
 /// Whether an answer equals its copy, and each row its own.

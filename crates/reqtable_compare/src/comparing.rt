@@ -26,7 +26,7 @@ use crate::summing::summaries;
 use pep508_name::PackageName;
 use pep508_tree::Interner;
 use pep508_tree_laws::{a_tree_holds_somewhere, constants_are_named};
-use reqtable_conflicts::{package_names, table_of};
+use reqtable_conflicts::{package_names, table_of_lent};
 use reqtable_requirements::{Line, Requirements};
 use reqtable_table::{Table, TableError};
 use std::alloc::{AllocError, Global};
@@ -48,8 +48,9 @@ struct Place {
 /// can't be compared, even where it never applies; and a package can't that has more cases than the limit in
 /// one of the lists, whatever differs before it. Both lists must have been read with this interner.
 ///
-/// The tables of both lists are made, as `Table::build` does. A package with k and m cases takes at most
-/// k * m comparisons of what two cases require.
+/// The tables of both lists are made, as `Table::build` does: so cases are counted in either. A package with k
+/// and m cases takes at most k * m comparisons of what two cases require, and k where each case of it stands
+/// in both lists and requires the same there, as where its lines are equal, in whatever order.
 pub fn same<'a>(
     alloc: Global,
     left: &'a Requirements,
@@ -94,7 +95,7 @@ fn side_table(
     ensures cases { IfOk result (AllByRecursion (HasItsCases interner.new.nodes)) }
     ensures keeps { Extends interner.old.nodes interner.new.nodes }
 {
-    match table_of(alloc, requirements, interner, limit) {
+    match table_of_lent(alloc, requirements, interner, limit) {
         Ok(table) => Ok(table),
         Err(TableError::TooManyCases { package }) => Err(SameError::TooManyCases { side, package }),
         Err(TableError::Memory) => Err(SameError::Memory),

@@ -12,7 +12,7 @@ ghost use Rattle.reqtable_table.specs.Casing.{case_record};
 ghost use Rattle.reqtable_conflicts.specs.Contradictions.{conflict_record, FindsConflicts, HasNoPoint};
 ghost use Rattle.reqtable_conflicts.specs.Picking.{AddsPicked, FoundFor, told, named};
 
-use crate::lent_table::table_of;
+use crate::lent_table::table_of_lent;
 use crate::names::package_names;
 use pep508_name::PackageName;
 use pep508_tree::Interner;
@@ -53,7 +53,7 @@ pub fn conflicts(
     ensures counts { interner.new.conjunctions
         ≤ interner.old.conjunctions + 2 * (limit * length requirements.now) }
 {
-    let table = table_of(alloc, requirements, interner, limit)?;
+    let table = table_of_lent(alloc, requirements, interner, limit)?;
     let names = package_names(alloc, &[requirements.lines()])?;
     let found = conflicts_in(alloc, &table, &names)?;
     Ok(found)

@@ -10,13 +10,13 @@ ghost use Rattle.reqtable_requirements.specs.Requirements.{StandsFor};
 ghost use Rattle.reqtable_table.specs.Cases.{Builds, HasItsCases};
 
 use pep508_tree::Interner;
-use reqtable_requirements::Requirements;
+use reqtable_requirements::{Requirements, copied_requirements};
 use reqtable_table::{Table, TableError};
 use std::alloc::Global;
 
 /// The table of requirements that stay the caller's: `Table::build` of a copy of them, which costs a
 /// twentieth of what reading them does.
-pub fn table_of(
+pub fn table_of_lent(
     alloc: Global,
     requirements: &Requirements,
     interner: &mut Interner,
@@ -31,6 +31,6 @@ pub fn table_of(
     ensures counts { interner.new.conjunctions
         ≤ interner.old.conjunctions + 2 * (limit * length requirements.now) }
 {
-    let copy = requirements.try_clone(alloc)?;
+    let copy = copied_requirements(alloc, requirements)?;
     Table::build(alloc, copy, interner, limit)
 }

@@ -8,5 +8,5 @@ mod lent_table;
 mod names;
 
 pub use contradicting::{Conflict, conflicts};
-pub use lent_table::table_of;
+pub use lent_table::table_of_lent;
 pub use names::package_names;

@@ -175,14 +175,21 @@ impl Requirements {
     {
         self.lines
     }
+}
 
-    /// A copy, in memory of its own.
-    pub fn try_clone(&self, alloc: Global) -> Result<Requirements, AllocError>
-        ensures { IfOk result (λ copy. AllZip IsLineCopy copy self.now) }
-    {
-        let lines = copies(alloc, &self.lines)?;
-        Ok(Requirements { lines })
-    }
+/// A copy, in memory of its own.
+///
+/// Who makes a table of requirements gives them away, so its answers come from the table. A copy would be
+/// judged beside it: only those crates call this that are lent requirements and need a table of them
+/// (`gate/lent.py`).
+pub fn copied_requirements(
+    alloc: Global,
+    requirements: &Requirements,
+) -> Result<Requirements, AllocError>
+    ensures { IfOk result (λ copy. AllZip IsLineCopy copy requirements.now) }
+{
+    let lines = copies(alloc, &requirements.lines)?;
+    Ok(Requirements { lines })
 }
 
 fn copies(alloc: Global, lines: &[Line]) -> Result<Vec<Line>, AllocError>

@@ -10,4 +10,5 @@ pub mod WholeCandidates
 pub mod Places
 pub mod InOrder
 pub mod Fronts
+pub mod Heads
 pub mod Runs

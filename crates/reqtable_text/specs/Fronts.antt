@@ -1,5 +1,5 @@
 -- The fronts of names as numbers, which stand in the order of the names but where they are one.
-use Rattle.std.specs.Prelude.{◌+◌, ◌*◌, ℕ, zero, suc, Bool, List, [], ◌∷◌, nat_lt}
+use Rattle.std.specs.Prelude.{◌+◌, ◌*◌, ◌&&◌, ℕ, zero, suc, Bool, List, [], ◌∷◌, nat_lt}
 use Rattle.std.specs.List.{list_all}
 
 -- the first of some bytes, and those behind it
@@ -20,6 +20,6 @@ front_from (suc count) front bytes = front_from count (front * 256 + first_or_no
 unfoldable pub front_of : List ℕ → ℕ
 front_of bytes = front_from 8 0 bytes
 
--- each is a byte
+-- each is a byte, and none is 0
 abbrev pub are_bytes : List ℕ → Bool
-are_bytes bytes = list_all (λ byte. nat_lt byte 256) bytes
+are_bytes bytes = list_all (λ byte. nat_lt 0 byte && nat_lt byte 256) bytes

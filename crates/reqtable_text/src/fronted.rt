@@ -1,16 +1,20 @@
-//! Candidates beside the fronts of their names, by which most names are told apart.
+//! Candidates beside the fronts of their names, by which most names are told apart, and the heads of their
+//! versions.
 
 ghost use Rattle.std.specs.Prelude.{◌≡◌, ◌<◌, ◌+◌, ◌*◌, ◌^◌};
 ghost use Rattle.reqtable_text.specs.Fronts.{first_or_none, behind_first, front_of};
+ghost use Rattle.reqtable_text.specs.Heads.{head_of};
 
 use crate::ordered::Placed;
 
-/// A candidate with its place in the list, and the front of its name as a number.
+/// A candidate with its place in the list, and the front of its name and the head of its version as numbers.
 #[derive(Drop)]
 pub(crate) struct Fronted<'a> {
     pub(crate) front: u64,
+    pub(crate) head: u64,
     pub(crate) placed: Placed<'a>,
     pub(crate) ghost is_front: { front ≡ front_of placed.candidate.now.name },
+    pub(crate) ghost is_head: { head ≡ head_of placed.candidate.now.version },
 }
 
 /// The first eight bytes of a text as one number, the first byte first; bytes that it doesn't have are 0.

@@ -3,6 +3,7 @@
 
 pub mod candidates;
 mod fronted;
+mod head;
 pub mod laws;
 pub mod ordered;
 pub mod pieces;

@@ -45,7 +45,8 @@ impl<'a> Model for Ordered<'a> {
 
 impl Candidates {
     /// The candidates in order. Comparisons grow with their number times its logarithm, memory with their
-    /// number. Names that differ in their first eight bytes are compared by these as one number each.
+    /// number. Names that differ in their first eight bytes are compared by these as one number each, and
+    /// versions by the first two numbers of their releases where these differ.
     pub fn in_order(&self, alloc: Global) -> Result<Ordered<'_>, AllocError>
         ensures { IfOk result (λ ordered. ordered.candidates ≡ self.now) }
     {
@@ -84,18 +85,6 @@ impl<'a> Ordered<'a> {
     {
         run_in(&self.placed, name)
     }
-}
-
-/// Which of two candidates stands first. Versions are compared only where names are equal.
-pub(crate) fn compare(a: &Placed<'_>, b: &Placed<'_>) -> Ordering
-    ensures { result ≡ order_cmp (placed_seen a.now) (placed_seen b.now) }
-{
-    let name = compare_name(a, &b.candidate.name);
-    if name.is_ne() {
-        return name;
-    }
-    let version = b.candidate.version.cmp(&a.candidate.version);
-    version.then(a.place.cmp(&b.place))
 }
 
 /// How the name of a candidate compares with another.

@@ -1,13 +1,17 @@
-//! Candidates in order, by the fronts of their names and then by all that decides.
+//! Candidates in order, by the fronts of their names and the heads of their versions, and by all that decides
+//! where these are equal.
 
 ghost use Rattle.std.specs.Prelude.{◌≡◌, true, map, IfOk};
 ghost use Rattle.std.specs.List.{enumerate_from};
+ghost use Rattle.pep440_version.specs.Order.{version_cmp};
+ghost use Rattle.pep508_name.specs.Name.{name_cmp};
 ghost use Rattle.reqtable_text.specs.Fronts.{are_bytes};
 ghost use Rattle.reqtable_text.specs.Ordered.{placed_seen, order_cmp};
 
 use crate::candidates::Candidate;
 use crate::fronted::{Fronted, front_of};
-use crate::ordered::{Placed, compare};
+use crate::head::head_of;
+use crate::ordered::Placed;
 use std::alloc::{AllocError, Global};
 use std::cmp::Ordering;
 
@@ -22,13 +26,18 @@ pub(crate) fn with_fronts(
     let mut fronted = Vec::with_capacity(alloc, candidates.len())?;
     for (place, candidate) in candidates.iter().enumerate() {
         let front = front_of(candidate.name.as_str());
+        let head = head_of(&candidate.version);
         let placed = Placed { place, candidate };
-        fronted.push(Fronted { front, placed })?;
+        fronted.push(Fronted {
+            front,
+            head,
+            placed,
+        })?;
     }
     Ok(fronted)
 }
 
-/// The same without their fronts.
+/// The same without their fronts and heads.
 pub(crate) fn without_fronts<'a>(
     alloc: Global,
     fronted: Vec<Fronted<'a>>,
@@ -43,17 +52,41 @@ pub(crate) fn without_fronts<'a>(
     Ok(placed)
 }
 
-/// Which of two candidates stands first. Their names are looked at only where the fronts are one.
+/// Which of two candidates stands first. Versions are compared only where names are equal.
 pub(crate) fn compare_fronted(a: &Fronted<'_>, b: &Fronted<'_>) -> Ordering
     ensures { result ≡ order_cmp (placed_seen a.now.placed) (placed_seen b.now.placed) }
 {
+    let name = compare_names(a, b);
+    if name.is_ne() {
+        return name;
+    }
+    let version = compare_versions(b, a);
+    version.then(a.placed.place.cmp(&b.placed.place))
+}
+
+/// How the names of two candidates compare. They are looked at only where the fronts are one and full.
+fn compare_names(a: &Fronted<'_>, b: &Fronted<'_>) -> Ordering
+    ensures { result ≡ name_cmp a.now.placed.candidate.now.name b.now.placed.candidate.now.name }
+{
     let front = a.front.cmp(&b.front);
-    if front.is_ne() {
+    if front.is_ne() || a.front % 256 == 0 {
         has_name_of_bytes(a.placed.candidate);
         has_name_of_bytes(b.placed.candidate);
         return front;
     }
-    compare(&a.placed, &b.placed)
+    let (first, second) = (&a.placed.candidate.name, &b.placed.candidate.name);
+    first.as_str().cmp(second.as_str())
+}
+
+/// How the versions of two candidates compare. They are looked at only where the heads are one.
+fn compare_versions(a: &Fronted<'_>, b: &Fronted<'_>) -> Ordering
+    ensures { result ≡ version_cmp a.now.placed.candidate.now.version b.now.placed.candidate.now.version }
+{
+    let head = a.head.cmp(&b.head);
+    if head.is_ne() {
+        return head;
+    }
+    a.placed.candidate.version.cmp(&b.placed.candidate.version)
 }
 
 /// Does nothing: it is what a name is.

@@ -1,8 +1,15 @@
+#![tactic(auto)]
 //! Sets of intervals over any lawful order, as version specifiers and marker trees stand on them.
 //!
 //! A set is told by the points that it holds: below all values, at a value, and just above a value. Two
 //! sets are equal exactly when they hold the same points, also where no value may lie between their bounds.
-#![tactic(auto)]
+//!
+//! ```text
+//! let from_one = Ranges::higher_than(alloc, 1u64)?;
+//! let below_three = Ranges::higher_than(alloc, 3u64)?.complement(alloc)?;
+//! let both = from_one.intersection(alloc, &below_three)?;
+//! let is_held = both.contains(&2);
+//! ```
 
 mod boundary;
 mod iter;

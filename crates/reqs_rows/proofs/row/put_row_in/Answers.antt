@@ -1,7 +1,8 @@
-use Rattle.std.proofs.Common.{◌∙◌, [], Some, None, option_map, get_or, ap, sym, subst, true≢false}
+use Rattle.std.proofs.Common.{◌≤◌, ◌∙◌, ◌+◌, [], Some, None, option_map, get_or, ap, sym, subst, true≢false}
 use Rattle.std.proofs.lemmas.Result.{on_ok_weaker}
 use Rattle.reqtable_answer.specs.Rows.{row_seen}
-use Rattle.reqtable_table.specs.Answers.{IsRowIf}
+use Rattle.reqtable_table.specs.Answers.{most_tests_in, IsRowIf}
+use Rattle.reqtable_table.specs.Counts.{all_tests}
 use Rattle.reqtable_table.specs.Kept.{KeptPackage}
 use Rattle.reqtable_table.specs.Standing.{HasItsLines}
 use Rattle.reqtable_table.proofs.Same.{all_same}
@@ -87,3 +88,21 @@ returns-in-None-clause-put g c = λ admits other by.
     let none = subst (λ r. IsRowIf admits nodes v c.args.runs.now.candidates kept (option_map row_seen r)) c.in-None.is
     (c.in_ok-row.ensures.row admits other by) in
     absurd (true≢false (sym (c.requires.lies other).asked ∙ none))
+
+pub returns-in_err-row-clause-tests : goal.returns-in_err-row-clause-tests
+returns-in_err-row-clause-tests g c = λ other.
+    subst (λ candidates. all_tests c.row_among.new.self ≤ all_tests c.args.table.now
+    + most_tests_in (nodes_in c.args.asked.now) (valuation_in c.args.asked.now) candidates (get_or c.args.table.now c.args.index other))
+    c.requires.candidates (c.row_among.ensures.tests other)
+
+pub returns-in-Some-row-clause-tests : goal.returns-in-Some-row-clause-tests
+returns-in-Some-row-clause-tests g c = λ other.
+    subst (λ candidates. all_tests c.row_among.new.self ≤ all_tests c.args.table.now
+    + most_tests_in (nodes_in c.args.asked.now) (valuation_in c.args.asked.now) candidates (get_or c.args.table.now c.args.index other))
+    c.requires.candidates (c.row_among.ensures.tests other)
+
+pub returns-in-None-clause-tests : goal.returns-in-None-clause-tests
+returns-in-None-clause-tests g c = λ other.
+    subst (λ candidates. all_tests c.row_among.new.self ≤ all_tests c.args.table.now
+    + most_tests_in (nodes_in c.args.asked.now) (valuation_in c.args.asked.now) candidates (get_or c.args.table.now c.args.index other))
+    c.requires.candidates (c.row_among.ensures.tests other)

@@ -1,4 +1,4 @@
-use Rattle.std.proofs.Common.{◌∙◌, ◌<◌, [], List, ℕ, Option, None, length, get_or, subst, arith}
+use Rattle.std.proofs.Common.{◌∙◌, ◌<◌, ◌+◌, [], List, ℕ, Option, None, length, get_or, subst, arith}
 use Rattle.std.proofs.lemmas.List.{take_all}
 use Rattle.std.specs.List.{AllZip}
 use Rattle.reqtable_table.specs.Answers.{LiesIn, SamePackage}
@@ -10,7 +10,7 @@ use Rattle.reqs_rows.specs.Seen.{pieces_of}
 use Rattle.reqs_rows.specs.Texts.{PutsRows}
 use Rattle.reqs_rows.proofs.Places.{at_zip, zip_long}
 use Rattle.reqs_rows.proofs.Putting.{known_same, lies_same, puts_same}
-use Rattle.reqs_rows.proofs.Going.{are_known_more, are_known_same, none_put, row_put}
+use Rattle.reqs_rows.proofs.Going.{are_known_more, are_known_same, none_put, row_put, tests_front, tests_more}
 use Rattle.reqs_rows.proofs.row_texts.put_rows.Given as given
 use Rattle.reqs_rows.proofs.row_texts.put_rows.Goals as goal
 
@@ -33,6 +33,7 @@ loop-index-init g c = record {
   known = c.requires.known;
   put = λ admits by. none_put admits (nodes_in c.args.asked.now) (valuation_in c.args.asked.now) (candidates_in c.args.asked.now)
       c.args.table.now c.args.pieces.now.whole;
+  tests = omega arith;
 }
 
 pub put_row-requires-clause-within : goal.put_row-requires-clause-within
@@ -117,6 +118,18 @@ pub returns-in_err-put_row-clause-kept : goal.returns-in_err-put_row-clause-kept
 returns-in_err-put_row-clause-kept g c =
     packages_on c.put_row.new.table c.loop-index.table c.args.table.now c.put_row.ensures.kept c.loop-index.invariant.same
 
+pub returns-in_err-put_row-clause-tests : goal.returns-in_err-put_row-clause-tests
+returns-in_err-put_row-clause-tests g c =
+    let nodes = nodes_in c.args.asked.now in
+    let v = valuation_in c.args.asked.now in
+    let candidates = candidates_in c.args.asked.now in
+    let first = c.args.table.now in
+    let i = c.loop-index.index in
+    let below = inside first c.args.places.now i (LiesIn nodes v) c.requires.lie c.loop-index-test.true in
+    tests_front nodes v candidates first c.put_row.new.table (i + 1)
+    (tests_more nodes v candidates first c.loop-index.table c.put_row.new.table i no_package c.loop-index.invariant.same below
+    c.loop-index.invariant.tests (c.put_row.ensures.tests no_package))
+
 pub loop-index-preserved : goal.loop-index-preserved
 loop-index-preserved g c =
     let returns = given.F-post g c.args.admission.now in
@@ -148,6 +161,9 @@ loop-index-preserved g c =
           (puts_same returns nodes candidates (get_or now i no_package) (get_or first i no_package)
           (at_zip SamePackage now first i no_package no_package same under) admits v c.loop-index.pieces.whole
           c.put_row.new.pieces.whole (put.put admits no_package by));
+      tests =
+          tests_more nodes v candidates first now c.put_row.new.table i no_package same below c.loop-index.invariant.tests
+          (c.put_row.ensures.tests no_package);
     }
 
 pub returns-clause-put : goal.returns-clause-put
@@ -165,3 +181,8 @@ returns-clause-known g c =
     are_known_same (given.F-post g c.args.admission.now) (nodes_in c.args.asked.now) (candidates_in c.args.asked.now)
     c.loop-index.table c.args.table.now c.loop-index.invariant.same c.loop-index.pieces.texts (pieces_of c.loop-index.known.items)
     c.loop-index.invariant.known
+
+pub returns-clause-tests : goal.returns-clause-tests
+returns-clause-tests g c =
+    tests_front (nodes_in c.args.asked.now) (valuation_in c.args.asked.now) (candidates_in c.args.asked.now) c.args.table.now
+    c.loop-index.table c.loop-index.index c.loop-index.invariant.tests

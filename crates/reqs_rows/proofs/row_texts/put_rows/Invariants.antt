@@ -1,7 +1,8 @@
-use Rattle.std.proofs.Common.{◌≡◌, take}
+use Rattle.std.proofs.Common.{◌≡◌, ◌≤◌, ◌+◌, take}
 use Rattle.std.specs.List.{AllZip}
 use Rattle.reqtable_answer.specs.Admission.{Admits, AnswersBy}
-use Rattle.reqtable_table.specs.Answers.{SamePackage}
+use Rattle.reqtable_table.specs.Answers.{most_tests_of, SamePackage}
+use Rattle.reqtable_table.specs.Counts.{all_tests}
 use Rattle.reqtable_table.specs.Runs.{AreRunsOf, AreTold}
 use Rattle.reqs_rows.specs.Asked.{nodes_in, valuation_in, candidates_in}
 use Rattle.reqs_rows.specs.Seen.{pieces_of}
@@ -19,4 +20,6 @@ invariant-loop-index g l = record {
   put : (admits : Admits) → AnswersBy (goal.F-post g l.admission) admits →
       PutsRows admits (nodes_in l.asked) (valuation_in l.asked) (candidates_in l.asked) (take l.index l.fn.table)
       l.fn.pieces.whole l.pieces.whole;
+  tests : all_tests l.table ≤ all_tests l.fn.table
+      + most_tests_of (nodes_in l.asked) (valuation_in l.asked) (candidates_in l.asked) (take l.index l.fn.table);
 }

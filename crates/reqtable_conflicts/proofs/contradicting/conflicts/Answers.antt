@@ -16,7 +16,7 @@ returns-clause-found c vars said h =
     c.in_ok-found.ensures in (
       built.2,
       found_stand c.in_ok-table.table names found c.in_ok-names.ensures.rise are,
-      all_conflicts vars c.args.interner.now.nodes c.table_of.new.interner.nodes c.args.requirements.now said
+      all_conflicts vars c.args.interner.now.nodes c.table_of_lent.new.interner.nodes c.args.requirements.now said
           c.in_ok-table.table names found h built.0 built.1 c.in_ok-names.ensures.rise
           (λ q. c.in_ok-names.ensures.are q ∙ ap (λ lines. list_any (is_under q) lines || false) c.lines.ensures) are,
     )

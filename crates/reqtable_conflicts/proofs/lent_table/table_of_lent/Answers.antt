@@ -1,6 +1,6 @@
 use Rattle.std.proofs.Common.{◌≤◌, ◌+◌, ◌*◌, ℕ, subst}
 use Rattle.reqtable_conflicts.proofs.Copied.{trees_copied, said_copied, as_many}
-use Rattle.reqtable_conflicts.proofs.lent_table.table_of.Goals as goal
+use Rattle.reqtable_conflicts.proofs.lent_table.table_of_lent.Goals as goal
 
 pub build-requires : goal.build-requires
 build-requires c = record {
