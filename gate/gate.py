@@ -20,6 +20,7 @@ import time
 from concurrent.futures import ThreadPoolExecutor
 
 from crates import TOP, Crates, sum_of_files, toolchain_sum
+from faults import FAULTS
 from store import Store
 
 CLOSING = re.compile(r"^(?:[a-z]+: )?(\d+) passed, (\d+) failed$", re.M)
@@ -28,7 +29,7 @@ LEFT_OUT = re.compile(r"^(?:[a-z]+\.sh: left out|not tried): ", re.M)
 NOTHING = "--from-nothing"
 QUESTIONS = ("pep440_vectors", "pep508_vectors", "pep508_marker_vectors")
 # What of tests/ the parts read that run programs.
-OF_REQS = ("alike.py", "cli.sh", "help.txt", "install.sh", "lists", "objects.py", "pages", "pairs.py", "refuse.c", "refused.py",
+OF_REQS = ("alike.py", "cli.sh", "drawn.py", "help.txt", "install.sh", "lists", "objects.py", "pages", "pairs.py", "refuse.c", "refused.py",
            "refused.sh", "runs.json", "runs.py", "try.sh")
 
 OF_C = ("c", "c.py", "c.sh", "refuse.c", "runs.json")
@@ -79,7 +80,7 @@ def parts(more):
         Part("lists in pieces", [*python, "tests/index.py"], ["reqs_c", "reqs_cli"], of_index),
         Part("Debian package", ["bash", "tests/deb.sh"], ["reqs_c", "reqs_cli"], of_deb),
         Part("Rust crate", ["bash", "tests/rust.sh"], ["reqs_c"], [*of_c, "rust", "tests/rust.sh", "tests/rust"]),
-        Part("faults", [*python, "gate/faults.py"], ["underline"], ["gate"]),
+        Part("faults", [*python, "gate/faults.py"], ["underline"], ["gate", *sorted({it.path for it in FAULTS})]),
     ]
 
 
