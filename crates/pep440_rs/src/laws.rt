@@ -5,9 +5,9 @@ pub use pep440_operator::laws::operator_text_is_read;
 pub use pep440_range::laws::{
     interval_specifiers_hold_the_interval, list_of_a_set_holds_the_set,
     list_of_intervals_holds_their_union, list_ranges_agree_with_matching,
-    negation_is_the_complement, ranges_agree_beside_posts, ranges_agree_with_matching,
-    release_negation_is_the_complement, release_ranges_agree_with_matching,
-    some_are_in_neither_range,
+    negation_is_the_complement, ranges_agree_beside_posts, ranges_agree_everywhere,
+    ranges_agree_with_matching, release_negation_is_the_complement,
+    release_ranges_agree_with_matching, some_are_in_neither_range,
 };
 pub use pep440_specifier::laws::{
     a_read_specifier_is_built, equal_stars_may_differ, exclusion_is_the_rest,

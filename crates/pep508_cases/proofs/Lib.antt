@@ -1,5 +1,6 @@
 pub mod Marks
 pub mod CutTrees
 pub mod OneTreeMore
+pub mod Again
 pub mod Counting
 pub mod Keeping

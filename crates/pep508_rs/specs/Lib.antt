@@ -25,12 +25,14 @@ pub use Rattle.pep508_comparison.specs.Comparisons
 pub use Rattle.pep508_diagram.specs.Diagram
 pub use Rattle.pep508_diagram.specs.Question
 pub use Rattle.pep508_diagram.specs.Chains
+pub use Rattle.pep508_diagram.specs.Branches
 pub use Rattle.pep508_diagram.specs.Questions
 pub use Rattle.pep508_diagram.specs.Shortened
 pub use Rattle.pep508_diagram.specs.Text
 pub use Rattle.pep508_tree.specs.Tree
 pub use Rattle.pep508_tree.specs.Meaning
 pub use Rattle.pep508_tree.specs.Truths
+pub use Rattle.pep508_tree.specs.Nodes
 pub use Rattle.pep508_tree.specs.Disjoint
 pub use Rattle.pep508_tree.specs.Interning
 pub use Rattle.pep508_evaluation.specs.Valuations
@@ -38,11 +40,13 @@ pub use Rattle.pep508_evaluation.specs.Warned
 pub use Rattle.pep508_evaluation.specs.Edges as WarnedEdges
 pub use Rattle.pep508_view.specs.Edges as ShownEdges
 pub use Rattle.pep508_view.specs.Views
+pub use Rattle.pep508_view.specs.Reading as ReadViewsOf
 pub use Rattle.pep508_view.specs.ReadOff
 pub use Rattle.pep508_view.specs.Shown
 pub use Rattle.pep508_view.specs.Sameness
 pub use Rattle.pep508_view.specs.SamenessLaws
 pub use Rattle.pep508_expression.specs.Expressions
+pub use Rattle.pep508_expression.specs.Trees as ExpressionTrees
 pub use Rattle.pep508_simplification.specs.Simplified as SimplifiedTrees
 pub use Rattle.pep508_simplification.specs.Parts
 pub use Rattle.pep508_simplification.specs.Named
@@ -95,6 +99,7 @@ pub use Rattle.pep508_requirement.specs.RequirementText
 pub use Rattle.pep508_requirement_ref.specs.RequirementPrint
 pub use Rattle.pep508_requirement_ref.specs.Views as RequirementViews
 pub use Rattle.pep508_requirement_ref.specs.RequirementOrder
+pub use Rattle.pep508_questions.specs.Asks
 pub use Rattle.pep508_reading_back.specs.Readable
 pub use Rattle.pep508_reading_back.specs.Clauses as ReadableClauses
 pub use Rattle.pep508_reading_back.specs.Diagrams as ReadableDiagrams

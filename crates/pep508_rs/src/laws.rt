@@ -7,6 +7,7 @@ pub use pep508_marker::laws as reporters;
 pub use pep508_marker_read::laws as markers_read;
 pub use pep508_marker_text::laws as marker_texts;
 pub use pep508_name::laws as names;
+pub use pep508_questions::laws as questions;
 pub use pep508_reading_back::laws as reading_back;
 pub use pep508_requirement::laws as requirements;
 pub use pep508_requirement_ref::laws as printed_requirements;

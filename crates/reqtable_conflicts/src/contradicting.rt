@@ -1,8 +1,12 @@
 //! Lines of a package that contradict each other.
 
-ghost use Rattle.std.specs.Prelude.{◌≡◌, ◌≤◌, ◌+◌, ◌*◌, ◌++◌, ◌∷◌, [], ◌↔◌, IsTrue, List, length, map};
+ghost use Rattle.std.specs.Prelude.{◌≡◌, ◌≤◌, ◌+◌, ◌*◌, ◌++◌, ◌∷◌, [], ◌↔◌, IsTrue, List, length, map, false};
 ghost use Rattle.std.specs.Prelude.{IfOk, OnOk};
 ghost use Rattle.std.specs.List.{AllZip};
+ghost use Rattle.version_ranges.specs.Point.{Point};
+ghost use Rattle.version_ranges.specs.Held.{holds_at};
+ghost use Rattle.pep440_version.specs.Record.{VersionRecord};
+ghost use Rattle.pep440_version.specs.Order.{version_cmp};
 ghost use Rattle.pep508_url.specs.Vars.{Variables};
 ghost use Rattle.pep508_tree.specs.Meaning.{Extends};
 ghost use Rattle.reqtable_requirements.specs.Asks.{AreOfNodes};
@@ -14,14 +18,16 @@ ghost use Rattle.reqtable_conflicts.specs.Picking.{AddsPicked, FoundFor, told, n
 
 use crate::lent_table::table_of_lent;
 use crate::names::package_names;
+use pep440_version::Version;
 use pep508_name::PackageName;
 use pep508_tree::Interner;
 use reqtable_requirements::Requirements;
 use reqtable_table::{Case, Table, TableError};
 use std::alloc::{AllocError, Global};
+use version_ranges::Ranges;
 
-/// Some lines of a package that apply together in some environment with extras, without any version that
-/// all of them could take.
+/// Some lines of a package that apply together, and alone, under some valuation of markers, without any version
+/// that all of them could take.
 #[derive(Debug, PartialEq, Eq, Drop)]
 pub struct Conflict {
     pub package: PackageName,
@@ -120,9 +126,16 @@ fn is_conflict(case: &Case) -> bool
     ensures { IsTrue result ↔ HasNoPoint (case_record case.now) }
 {
     match &case.range {
-        Some(range) => !case.lines.is_empty() && range.is_empty(),
+        Some(range) => !case.lines.is_empty() && holds_nothing(range),
         None => false,
     }
+}
+
+/// Whether no point is in a range, not even one between two versions.
+fn holds_nothing(range: &Ranges<Version>) -> bool
+    ensures { IsTrue result ↔ ((p : Point VersionRecord) → holds_at version_cmp range.now p ≡ false) }
+{
+    range.is_empty()
 }
 
 fn copied(alloc: Global, numbers: &[usize]) -> Result<Vec<usize>, AllocError>
