@@ -20,6 +20,7 @@ import time
 from concurrent.futures import ThreadPoolExecutor
 
 from crates import TOP, Crates, sum_of_files, toolchain_sum
+from faults import FAULTS
 from store import Store
 
 CLOSING = re.compile(r"^(?:[a-z]+: )?(\d+) passed, (\d+) failed$", re.M)
@@ -28,7 +29,7 @@ LEFT_OUT = re.compile(r"^(?:[a-z]+\.sh: left out|not tried): ", re.M)
 NOTHING = "--from-nothing"
 QUESTIONS = ("pep440_vectors", "pep508_vectors", "pep508_marker_vectors")
 # What of tests/ the parts read that run programs.
-OF_REQS = ("alike.py", "cli.sh", "help.txt", "install.sh", "lists", "objects.py", "pages", "pairs.py", "refuse.c", "refused.py",
+OF_REQS = ("alike.py", "cli.sh", "drawn.py", "help.txt", "install.sh", "lists", "objects.py", "pages", "pairs.py", "refuse.c", "refused.py",
            "refused.sh", "runs.json", "runs.py", "try.sh")
 
 OF_C = ("c", "c.py", "c.sh", "refuse.c", "runs.json")
@@ -54,10 +55,11 @@ def parts(more):
     """The parts that are run one after another, and those that are then run side by side."""
     python = [sys.executable]
     of_reqs = ("docs/JSON.md", "examples", "reqs", "build", "install", "share", "try", *(f"tests/{it}" for it in OF_REQS))
-    of_c = ("build", "gate/prove.py", "include", "tools")
-    of_pack = ("LICENSE-APACHE", "LICENSE-BSD", "build", "examples", "gate/prove.py", "include", "pack", "tools")
-    of_python = (*of_pack, "docs/PYTHON.md", "pyproject.toml", "python", "tests/python.sh")
-    of_deb = (*of_pack, "install", "share", "tests/deb.sh")
+    of_c = ("build", "docs/C.md", "gate/prove.py", "include", "tools")
+    licences = ("LICENSE-APACHE", "LICENSE-BSD")
+    of_pack = (*licences, "build", "examples", "gate/prove.py", "include", "pack", "tools")
+    of_python = (*of_pack, "README.md", "docs/PYTHON.md", "pyproject.toml", "python", "tests/python.sh")
+    of_deb = (*of_pack, "docs/C.md", "docs/LISTS.md", "install", "rust/fowlyore/README.md", "share", "tests/deb.sh")
     of_index = ("bench/workload.py", "build", "gate/prove.py", "examples/index", "python", "tests/index.py", "tools")
     asked = [f"crates/{it}/{of}" for it in QUESTIONS for of in ("data", "stdout")]
     return [
@@ -78,8 +80,8 @@ def parts(more):
         Part("Python package", ["bash", "tests/python.sh"], ["reqs_c"], of_python),
         Part("lists in pieces", [*python, "tests/index.py"], ["reqs_c", "reqs_cli"], of_index),
         Part("Debian package", ["bash", "tests/deb.sh"], ["reqs_c", "reqs_cli"], of_deb),
-        Part("Rust crate", ["bash", "tests/rust.sh"], ["reqs_c"], [*of_c, "rust", "tests/rust.sh", "tests/rust"]),
-        Part("faults", [*python, "gate/faults.py"], ["underline"], ["gate"]),
+        Part("Rust crate", ["bash", "tests/rust.sh"], ["reqs_c"], [*of_c, *licences, "rust", "tests/rust.sh", "tests/rust"]),
+        Part("faults", [*python, "gate/faults.py"], ["underline"], ["gate", *sorted({it.path for it in FAULTS})]),
     ]
 
 

@@ -1,11 +1,13 @@
-/* reqs: judges lists of Python requirements, after PEP 440 and PEP 508.
+/* reqs: judges lists of Python requirements, after PEP 440 and PEP 508. docs/C.md tells of this library, which the Debian
+ * package has as /usr/share/doc/reqs/C.md.
  *
  * Texts. Each text is a pointer to bytes and their number; it is read as UTF-8, and needs no 0 at its end. Where
  * the number is 0 the pointer is not null either. A call reads the texts while it runs and keeps none of them.
  *
- * The answer. `out` is a buffer of the caller's of `out_len` bytes, which overlaps no text. A call writes its answer's
- * text there, the front of it that fits, and no byte behind; no 0 is put at the end. The reply's `length` is that of
- * the whole text: where it is more than out_len, call again with as much room. A refused call's text says why.
+ * The answer. `out` is a buffer of the caller's of `out_len` bytes, which overlaps no text; where out_len is 0 it is not
+ * null either. A call writes its answer's text there, the front of it that fits, and no byte behind; no 0 is put at the
+ * end. The reply's `length` is that of the whole text: where it is more than out_len, call again with as much room. A
+ * refused call's text says why.
  *
  * Memory. What a call takes of malloc and realloc it gives back by free before it returns; nothing is kept between
  * calls. Where the process has none, the status is REQS_MEMORY and out is as it was.
@@ -41,7 +43,8 @@ enum reqs_status {
     REQS_MEMORY = 3     /* the process had no memory; length is 0 */
 };
 
-/* How a call ended. The last four are 0 where a call answered or had no memory. */
+/* How a call ended. input, line, start and len tell where a text is at fault, and are all 0 where the status is not
+ * REQS_REFUSED. */
 typedef struct reqs_reply {
     uint32_t status; /* enum reqs_status */
     uint32_t input;  /* the number of the text at fault, from 1 in the order of the call's; 0 where none is told */

@@ -13,19 +13,27 @@ import zipfile
 HERE = os.path.dirname(os.path.abspath(__file__))
 TOP = os.path.dirname(HERE)
 NAME = "fowlyore"
-# It is called by ctypes, so any Python 3 will do; manylinux_2_17 has the C library of 2012.
+# It is called by ctypes, so any Python 3 will do. Both names mean the C library of 2012; pip before 20.3 knows the second alone.
 GLIBC = (2, 17)
-TAG = "py3-none-manylinux_2_17_x86_64"
+PYTHON, PLATFORMS = "py3-none", ("manylinux_2_17_x86_64", "manylinux2014_x86_64")
 SUMMARY = "Judges lists of Python requirements, and compares them (PEP 440, PEP 508), by a library whose answers are proved"
+CLASSIFIERS = [
+    "License :: OSI Approved :: Apache Software License",
+    "License :: OSI Approved :: BSD License",
+    "Operating System :: POSIX :: Linux",
+    "Programming Language :: Python :: 3",
+    "Programming Language :: Python :: 3 :: Only",
+    *(f"Programming Language :: Python :: 3.{it}" for it in range(8, 14)),
+    "Typing :: Typed",
+]
+# (these are the fields of that version; what it doesn't know, as License-File, an upload may be refused for)
 METADATA = """Metadata-Version: 2.1
 Name: {name}
 Version: {version}
 Summary: {summary}
 License: Apache-2.0 OR BSD-2-Clause
-License-File: LICENSE-APACHE
-License-File: LICENSE-BSD
+{classifiers}
 Requires-Python: >=3.8
-Operating System: POSIX :: Linux
 Description-Content-Type: text/markdown
 
 {description}"""
@@ -53,16 +61,18 @@ def library():
     data = read(path)
     wanted = [tuple(map(int, it)) for it in re.findall(rb"\0GLIBC_(\d+)\.(\d+)", data)]
     if any(it > GLIBC for it in wanted):
-        raise RuntimeError(f"{path} wants glibc {max(wanted)}, and the tag {TAG} promises {GLIBC}")
+        raise RuntimeError(f"{path} wants glibc {max(wanted)}, and the tags {PLATFORMS} promise {GLIBC}")
     return data
 
 
 def information():
     """The files of the folder dist-info but RECORD."""
     said = {"name": NAME, "version": version(), "summary": SUMMARY, "description": read("docs", "PYTHON.md").decode()}
+    said["classifiers"] = "\n".join(f"Classifier: {it}" for it in CLASSIFIERS)
+    tags = "".join(f"Tag: {PYTHON}-{it}\n" for it in PLATFORMS)
     return {
         "METADATA": METADATA.format(**said).encode(),
-        "WHEEL": f"Wheel-Version: 1.0\nGenerator: {NAME}\nRoot-Is-Purelib: false\nTag: {TAG}\n".encode(),
+        "WHEEL": f"Wheel-Version: 1.0\nGenerator: {NAME}\nRoot-Is-Purelib: false\n{tags}".encode(),
         "entry_points.txt": f"[console_scripts]\n{NAME} = {NAME}.__main__:main\n".encode(),
         "LICENSE-APACHE": read("LICENSE-APACHE"),
         "LICENSE-BSD": read("LICENSE-BSD"),
@@ -78,8 +88,12 @@ def files():
     yield from ((f"{NAME}-{version()}.dist-info/{name}", data) for name, data in information().items())
 
 
+def wheel_name():
+    return f"{NAME}-{version()}-{PYTHON}-{'.'.join(PLATFORMS)}.whl"
+
+
 def build_wheel(wheel_directory, config_settings=None, metadata_directory=None):
-    name = f"{NAME}-{version()}-{TAG}.whl"
+    name = wheel_name()
     records = []
     with zipfile.ZipFile(os.path.join(wheel_directory, name), "w") as wheel:
 

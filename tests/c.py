@@ -1,13 +1,14 @@
 #!/usr/bin/env python3
 """Makes the calls of the library for C, by programs in C that link it.
 
-    c.py SHARED STATIC DEEP REFUSE
+    c.py SHARED STATIC DEEP REFUSE LIBRARIES
 
 SHARED and STATIC are tests/c/serve.c linked with libreqs.so and with libreqs.a, DEEP is tests/c/deep.c, REFUSE is
-tests/refuse.c as a shared library. What calls have to answer is of elsewhere: the examples and the stored runs of the
-command, whose answers are the calls', and rows of PEP 440 and PEP 508. Each call is made with ample room; one of each
-kind with room of each smaller size, and with each of its requests for memory refused in turn. The last line is
-`c: N passed, M failed`.
+tests/refuse.c as a shared library, LIBRARIES is the folder of the two. What calls have to answer is of elsewhere: the
+examples and the stored runs of the command, whose answers are the calls', and rows of PEP 440 and PEP 508. Each call is
+made with ample room; one of each kind with room of each smaller size, and with each of its requests for memory refused
+in turn. The program of docs/C.md is compiled by the commands there, and has to print what stands there. The last line
+is `c: N passed, M failed`.
 """
 
 import json
@@ -16,6 +17,7 @@ import re
 import struct
 import subprocess
 import sys
+import tempfile
 from concurrent.futures import ThreadPoolExecutor
 
 TOP = os.path.dirname(os.path.dirname(os.path.abspath(__file__)))
@@ -347,6 +349,36 @@ def exports(shared, static):
     wants("libreqs.so calls nothing else", called <= {"malloc", "realloc", "free", "memcpy", "memmove", "memset", "memcmp"}, called)
 
 
+def blocks(page):
+    """The indented blocks of a page."""
+    found, block = [], []
+    for line in [*page.splitlines(), "."]:
+        if line.startswith("    ") or block and not line:
+            block.append(line[4:])
+        elif block:
+            found.append("\n".join(block).rstrip("\n") + "\n")
+            block = []
+    return found
+
+
+def documented():
+    """The program of docs/C.md, compiled and run by the commands there."""
+    found = blocks(read("docs", "C.md").decode())
+    programs = [it for it in found if it.startswith("#include")]
+    sessions = [it for it in found if it.startswith("$ cc ")]
+    wants("docs/C.md has a program, and commands for both libraries", (len(programs), len(sessions)) == (1, 2))
+    for session in sessions:
+        with tempfile.TemporaryDirectory() as room:
+            for name in ("include", "crates"):
+                os.symlink(os.path.join(TOP, name), os.path.join(room, name))
+            with open(os.path.join(room, "program.c"), "w") as file:
+                file.writelines(programs)
+            for command, wanted in re.findall(r"^\$ (.*)\n((?:(?!\$ ).*\n)*)", session, flags=re.M):
+                ran = subprocess.run(command, shell=True, cwd=room, capture_output=True, text=True)
+                is_so = (ran.returncode, ran.stdout, ran.stderr) == (0, wanted, "")
+                wants(f"docs/C.md: {command}", is_so, ran.stdout + ran.stderr)
+
+
 def main(words):
     shared, static, deep, refuse, libraries = words
     exports(*(os.path.join(libraries, it) for it in ("libreqs.so", "libreqs.a")))
@@ -356,6 +388,7 @@ def main(words):
     batches(shared)
     runs(shared)
     rooms(shared)
+    documented()
     refusals(shared, refuse)
     ran = subprocess.run([deep, *DEEP], capture_output=True, text=True)
     wants("deep texts and many threads", ran.returncode == 0, f"status {ran.returncode} {ran.stdout}")

@@ -1,6 +1,6 @@
 #!/usr/bin/env bash
-# The library for C: programs in C link it and make its calls; c.py says what these have to answer. The last line is
-# `c: N passed, M failed`.
+# The library for C: programs in C link it and make its calls, and so does the one of docs/C.md; c.py says what these have
+# to answer. The last line is `c: N passed, M failed`.
 set -u
 
 top=$(cd -- "$(dirname -- "$(readlink -f -- "${BASH_SOURCE[0]}")")/.." && pwd) || exit 1

@@ -324,6 +324,9 @@ wants "examples/lock: the same by another tool" 0 "yes$n" ""
 run conflicts "$top/examples/apart/requirements.txt"
 wants "examples/apart: two lines that contradict each other" 0 \
     "$(cat "$top/examples/apart/expected_conflicts.txt")$n" ""
+cat "$top"/examples/apart/{tool,service}.txt >parts
+run same "$top/examples/apart/requirements.txt" parts
+wants "examples/apart: split in two files" 0 "yes$n" ""
 # Each list without its URLs, beside itself turned round and beside its normal text.
 for example in "$top"/examples/*/requirements.txt "$top"/examples/lock/{before,rewritten,after}.txt; do
     name=${example#"$top/examples/"}

@@ -19,6 +19,8 @@ files=(
     usr/lib/x86_64-linux-gnu/pkgconfig/reqs.pc
     usr/libexec/reqs/reqs
     usr/share/bash-completion/completions/reqs
+    usr/share/doc/reqs/C.md
+    usr/share/doc/reqs/LISTS.md
     usr/share/doc/reqs/copyright
     usr/share/fish/vendor_completions.d/reqs.fish
     usr/share/man/man1/reqs.1.gz
@@ -65,6 +67,18 @@ is_whole() {
     (cd "$root" && md5sum --quiet -c var/lib/dpkg/info/reqs.md5sums)
 }
 
+# The header and the documents tell where what is installed lies, and the package's name.
+has_what_is_told() {
+    local path page=$root/usr/share/doc/reqs/C.md
+    while read -r path; do
+        [ -e "$root$path" ] || { echo "there is no $path"; return 1; }
+    done < <(grep -ohE '/usr/[A-Za-z0-9_./-]*[A-Za-z0-9]' "$root/usr/include/reqs.h" "$page" "$top/rust/fowlyore/README.md")
+    for path in "${files[@]}"; do
+        grep -qF "/$path\`" "$page" || { echo "docs/C.md doesn't tell of /$path"; return 1; }
+    done
+    grep -qF "/${deb##*/}" "$page"
+}
+
 answers() {
     local first=$top/examples/first
     cd "$work" && "$root/usr/bin/reqs" check "$first/requirements.txt" "$first/environment.json" "$first/candidates.txt" >out &&
@@ -102,6 +116,7 @@ holds "the same sources make the same package" makes_the_same
 holds "dpkg installs it" installs
 holds "its files" has_files
 holds "their sums" is_whole
+holds "its files are those that the header and the documents tell of" has_what_is_told
 holds "the first answer of README.md" answers
 holds "a link to the program" answers_through_a_link
 holds "a C program with the library" links

@@ -21,6 +21,11 @@ TOP = Path(__file__).resolve().parent.parent
 LIMIT = 16_777_216
 # A package that makes a worker die, in place of the library.
 DEADLY = "import os\nclass InvalidInput(Exception): pass\ndef matrix_texts(*given): os._exit(9)\n"
+# One that answers how its process was started.
+TELLING = (
+    "import multiprocessing\nclass InvalidInput(Exception): pass\n"
+    "def matrix_texts(*given): return [multiprocessing.get_start_method() + '\\n']\n"
+)
 
 # Beside what make.py makes: rows that look like the line before an environment's rows, white space that is Unicode's, ends of
 # lines, and a last line without an end.
@@ -215,6 +220,28 @@ def try_files(tests, index):
     is_told = said.stderr.startswith("run.py: BrokenProcessPool: ") and said.stderr.count("\n") == 1
     tests.holds("run: a lost worker ends it", said.returncode == 3 and is_told, said.stderr)
     tests.holds("run: nothing is left", tests.left(folder) == ["parts"])
+    try_processes(tests, folder)
+    try_limits(tests, folder)
+
+
+def try_processes(tests, folder):
+    """No worker is a copy of a process with threads, in which the library mustn't be called."""
+    (tests.folder / "telling").mkdir()
+    (tests.folder / "telling" / "fowlyore.py").write_text(TELLING)
+    words = ["run.py", "--workers", "2", "--without-dask", "parts", "environments", "out"]
+    said = tests.ran(folder, words, PYTHONPATH=str(tests.folder / "telling"))
+    told = (folder / "out" / "env-1.txt").read_text() if said.returncode == 0 else ""
+    tests.holds("run: processes are started anew", set(told.split()) == {"spawn"}, f"{told}{said.stderr}")
+    subprocess.run(["rm", "-rf", folder / "out"], check=True)
+
+
+def try_limits(tests, folder):
+    """Those that `reqs matrix` refuses."""
+    for limit in ("-1", "1000001", "x", "", "\uff11"):
+        whole = tests.ran(folder, ["reqs", "matrix", f"--limit={limit}", "requirements", "environments", "candidates"])
+        parts = tests.ran(folder, ["run.py", f"--limit={limit}", "parts", "environments", "out"])
+        is_so = (whole.returncode, parts.returncode) == (2, 2) and tests.left(folder) == ["parts"]
+        tests.holds(f"run: the limit '{limit}'", is_so, whole.stderr + parts.stderr)
 
 
 def main():

@@ -11,17 +11,18 @@ Others change it: a version that the lines of a package take is taken no more, a
 an extra is asked for besides, a package that no other line names is left out where its line sometimes applies, or asked for
 besides. `same` has to say yes or no accordingly, the lists in either
 order; and yes for each list beside itself in another order, and beside its normal text where it has one. Where it says
-no, environments in which the marker holds are looked for among some: in each of them the one list asks for the package
-as the other doesn't, in the words of `check`, or in what it takes of the package's candidates, where its range tells
-of them and pre-releases are ones for both or for neither.
+no, environments in which the marker holds are looked for, among six and those that are drawn from its text: in each of
+them the lists have other rows of the package by `check`, with all candidates or with some one candidate alone.
 
 The rounds of a seed are the same on each machine. The second form runs the one round of that number, shows what is said,
 and leaves its inputs in the folder. PROGRAM is ../crates/reqs_cli/out/reqs_cli where none is named. The last line is
-`pairs: N passed, M failed`, a round each. It fails too where an edit never came, where no list or each had a normal text,
-or where in no environment of a difference the two lists had different rows, also where they name pre-releases differently
-and nothing else.
+`pairs: N passed, M failed`, a round each. The line before it counts the differences for whose marker no environment was
+drawn: there is none where a marker asks two things of one member. It fails too where an edit never came, where no list or
+each had a normal text, or where most differences had no environment.
 """
 
+import itertools
+import itertools
 import json
 import multiprocessing
 import os
@@ -33,9 +34,15 @@ import tempfile
 from collections import Counter
 
 import alike
-from alike import Draw, EXTRAS, MEMBERS, NAMES, SPACES
+from alike import Draw, EXTRAS, NAMES, SPACES
+from drawn import drawn
 
 MOST_LINES = 8
+# So many clauses of a marker have an environment drawn.
+MOST_CLAUSES = 4
+EVERYWHERE = "all environments"
+# Versions that tell apart what the edits make of specifiers.
+PLAIN = ("0.5", "1.0", "1.0.1", "1.4", "1.4.2", "1.5", "1.5.1", "1.9rc2", "2", "2.0.dev1", "2.0.1", "3.1", "3.2a1", "1!1.0", "1!1.1.dev4")
 # Specifiers that are compared: no `===`, and no post-release beside `<` or `>`.
 SIGNS = ("==", "==", "!=", "<", "<=", ">", ">=", ">=", "==.*", "!=.*", "~=")
 # Markers of which one holds where the other doesn't. Numbers of versions alone are compared.
@@ -236,11 +243,10 @@ class Round:
         self.left, self.right = left, right
         self.texts = {"LEFT": laid_out(draw, left), "RIGHT": laid_out(draw, draw.shuffled(right))}
         self.texts["TURNED"] = laid_out(draw, draw.shuffled(left))
-        self.environments = [alike.members(draw) for _ in range(6)]
+        self.draw, self.environments = draw, [alike.members(draw) for _ in range(6)]
         self.extras = [draw.some(EXTRAS, 3) for _ in self.environments]
         names = {normal_name(it.name) for it in (*left, *right)}
-        plain = ("0.5", "1.0", "1.0.1", "1.4", "1.4.2", "1.5", "1.5.1", "1.9rc2", "2", "2.0.1", "3.1", "3.2a1", "1!1.0", "1!1.1.dev4")
-        self.texts["C"] = "".join(f"{name} {version}\n" for name in sorted(names) for version in plain)
+        self.texts["C"] = "".join(f"{name} {version}\n" for name in sorted(names) for version in PLAIN)
         for at, it in enumerate(self.environments):
             self.texts[f"E{at}"] = json.dumps(it)
 
@@ -304,24 +310,50 @@ class Play:
         return None
 
     def difference_fault(self, said):
-        """Where the marker holds, as a line with it tells, the rows of the package are looked at."""
-        package = said[1].decode()
-        if said[2] != b"all environments":
-            with open(os.path.join(self.folder, "WHERE"), "wb") as file:
-                file.write(b"here ; " + said[2] + b"\n")
+        """What is wrong in the environments that the marker of a difference holds in."""
+        package, marker = said[1].decode(), said[2].decode()
+        self.write("WHERE", "here\n" if marker == EVERYWHERE else f"here ; {marker}\n")
+        found = [*self.environments_of(marker)]
+        self.seen["differences in some environment" if found else "differences in none"] += 1
+        for inputs in found:
+            self.seen["environments of a difference"] += 1
+            if not self.are_told_apart(package, inputs):
+                return f"in {inputs} both lists ask the same of {package}, and same says {said[0]}"
+        return None
+
+    def environments_of(self, marker):
+        """Environments and extras in which the marker holds: of the round's own, and those drawn for its clauses."""
         for at, extras in enumerate(self.made.extras):
             inputs = [f"E{at}", "C", *extras]
-            if said[2] != b"all environments" and not self.ask("check", "WHERE", *inputs)[1]:
-                continue
-            self.seen["environments of a difference"] += 1
-            rows = [self.row(package, self.ask("check", it, *inputs)[1]) for it in ("LEFT", "RIGHT")]
-            self.seen["differing"] += rows[0] != rows[1]
-            if self.made.edit is with_a_prerelease_elsewhere:
-                self.seen["differing by pre-releases"] += rows[0] != rows[1]
-            # (lists that take other versions may take the same candidate)
-            if rows == [None, None]:
-                return f"in E{at} with {extras} neither list asks for {package}, and same says {said[0]}"
-        return None
+            if self.ask("check", "WHERE", *inputs)[1]:
+                yield inputs
+        tried = [] if marker == EVERYWHERE else drawn(self.made.draw, marker, self.made.environments[0])
+        for number, (extras, environments) in enumerate(itertools.islice(tried, MOST_CLAUSES)):
+            self.write("ES", json.dumps(environments))
+            rows = self.ask("matrix", "WHERE", "ES", "C", *extras)[1].split(b"env ")[1:]
+            holds = next((it for it, row in zip(environments, rows) if b"here" in row), None)
+            if holds:
+                self.seen["drawn from a marker"] += 1
+                self.write(f"D{number}", json.dumps(holds))
+                yield [f"D{number}", "C", *extras]
+
+    def are_told_apart(self, package, inputs):
+        """Whether the lists' rows of the package differ, with all candidates or with one of them alone."""
+        environment, _, *extras = inputs
+        for version in (None, *PLAIN):
+            candidates = "C" if version is None else "ONE"
+            if version:
+                self.write("ONE", f"{package} {version}\n")
+            said = (self.ask("check", it, environment, candidates, *extras)[1] for it in ("LEFT", "RIGHT"))
+            left, right = (self.row(package, it) for it in said)
+            if left != right:
+                self.seen["told by a candidate alone" if version else "told by their rows"] += 1
+                return True
+        return False
+
+    def write(self, name, text):
+        with open(os.path.join(self.folder, name), "w", encoding="utf-8") as file:
+            file.write(text)
 
     @staticmethod
     def row(package, text):
@@ -350,7 +382,8 @@ def played(task):
 
 
 # What has to come at least once, beside each edit.
-WANTED = ("normal texts", "without a normal text", "environments of a difference", "differing", "differing by pre-releases")
+WANTED = ("normal texts", "without a normal text", "differences in some environment", "differences in none", "environments of a difference",
+          "drawn from a marker", "told by their rows", "told by a candidate alone")
 
 
 def play_all(words):
@@ -367,9 +400,11 @@ def play_all(words):
     edits = [it.__name__ for it in (*KEEPING, *CHANGING)]
     told = ", ".join(f"{sums[it]} {it.replace('_', ' ')}" for it in (*edits, *WANTED))
     print(f"pairs: seed {words.seed}: {words.count} rounds: {told}")
-    lacking = [it for it in (*edits, *WANTED) if not sums[it]]
+    lacking = [f"not one was {it}" for it in (*edits, *WANTED) if not sums[it] and it != "differences in none"]
+    if 4 * sums["differences in none"] > sums["differences in some environment"]:
+        lacking.append("too few differences had an environment")
     for it in lacking:
-        print(f"FAILED: not one was {it}")
+        print(f"FAILED: {it}")
     return words.count - len(faults), len(faults) + len(lacking)
 
 

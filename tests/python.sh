@@ -1,6 +1,6 @@
 #!/usr/bin/env bash
-# Tests of the Python package, by each interpreter from 3.8 on that there is, over the library that `./build reqs_c` makes; and of
-# its wheel, installed into an environment of its own.
+# Tests of the Python package, by each interpreter from 3.8 on that there is, over the library that `./build reqs_c` makes; of its
+# types, by mypy; and of its wheel, installed into an environment of its own.
 #
 #     python.sh [LIBRARY]
 #
@@ -56,6 +56,16 @@ run_tests() {
 for version in "${!interpreters[@]}"; do
     run_tests "$version" "${interpreters[$version]}"
 done
+
+# The types of the package, which its users' checks rest on.
+if ! command -v mypy >/dev/null; then
+    echo "not tried: the types, by mypy, which is not on the PATH"
+elif (cd "$top/python" && mypy --strict --cache-dir "$work/types" fowlyore) >"$work/said" 2>&1; then
+    passed=$((passed + 1))
+else
+    tail -n 60 "$work/said"
+    fail "the types, by mypy --strict"
+fi
 
 # The wheel, in an environment with nothing else, from another folder: README's first answer.
 try_wheel() {

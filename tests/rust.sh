@@ -1,6 +1,6 @@
 #!/usr/bin/env bash
-# Runs the examples in the documentation of rust/fowlyore over the library that ./build reqs_c makes, and holds the functions that the crate
-# declares against include/reqs.h.
+# Runs the tests of rust/fowlyore, and the examples in its documentation, over the library that ./build reqs_c makes, and holds what the
+# crate declares against include/reqs.h, and its licences against the repository's.
 set -u
 
 top=$(dirname -- "$(dirname -- "$(readlink -f -- "${BASH_SOURCE[0]}")")")

@@ -30,7 +30,7 @@ import time
 from pathlib import Path
 from typing import Any, Callable, Dict, Iterable, Iterator, List, Optional, Tuple
 
-NAME = "run.py"
+NAME, GREATEST_LIMIT = "run.py", 1_000_000
 
 # Why a piece is refused: the first of all is the least. The number of what is at fault, in the order in which that is looked
 # at; the line in the whole list; the message.
@@ -82,9 +82,11 @@ def alone(work: Work, pieces: List[int]) -> Iterator[Result]:
 
 
 def by_processes(workers: int, work: Work, pieces: List[int]) -> Iterator[Result]:
+    import multiprocessing
     from concurrent.futures import ProcessPoolExecutor, as_completed
 
-    with ProcessPoolExecutor(workers) as pool:
+    # (the pool has threads, and no call of the library may be made in the child of a fork of a process with threads)
+    with ProcessPoolExecutor(workers, mp_context=multiprocessing.get_context("spawn")) as pool:
         try:
             for it in as_completed([pool.submit(work, piece) for piece in pieces]):
                 yield it.result()
@@ -179,9 +181,16 @@ def engine_of(words: argparse.Namespace) -> Engine:
 
 
 def number(word: str) -> int:
-    if not word.isdecimal():
+    if not re.fullmatch(r"\+?[0-9]+", word):
         raise argparse.ArgumentTypeError(f"{word} is no number")
     return int(word)
+
+
+def limit_of(word: str) -> int:
+    """A limit as `reqs matrix` takes it."""
+    if number(word) > GREATEST_LIMIT:
+        raise argparse.ArgumentTypeError(f"{word} is above {GREATEST_LIMIT}")
+    return number(word)
 
 
 def words_of() -> argparse.Namespace:
@@ -196,7 +205,7 @@ def words_of() -> argparse.Namespace:
     words.add_argument("--without-dask", action="store_true", help="processes of concurrent.futures in any case")
     of_extra, of_limit = "an extra that is asked for; may be repeated", "how many cases a package may have (%(default)s)"
     words.add_argument("--extra", action="append", default=[], metavar="NAME", help=of_extra)
-    words.add_argument("--limit", type=number, default=4096, metavar="N", help=of_limit)
+    words.add_argument("--limit", type=limit_of, default=4096, metavar="N", help=of_limit)
     return words.parse_args()
 
 

@@ -1,7 +1,9 @@
 """The command line: `python -m fowlyore`, or `fowlyore` where the package is installed."""
 
 import argparse
+import io
 import os
+import re
 import sys
 from pathlib import Path
 from typing import Any, Dict, List, Optional, Union
@@ -9,11 +11,13 @@ from typing import Any, Dict, List, Optional, Union
 from . import __version__
 from .distributions import installed
 from .explanations import explain
-from .lists import LIMIT, InvalidInput, check, conflicts, matrix, normal, same
+from .lists import GREATEST_LIMIT, LIMIT, InvalidInput, check, conflicts, matrix, normal, same
 from .markers import completed
 
 ANSWERED, DIFFERENT, REFUSED, NOT_READ, STRICT = range(5)
 Source = Union[Path, bytes]
+# The words that name an input.
+INPUTS = ("requirements", "environment", "environments", "candidates", "left", "right")
 
 STATUSES = """exit status: 0 after an answer, 1 where `same` said no, 2 where an input or the command line is refused, 3 where
 memory ran out or a file can't be read or written, and 4 where a row is none with --strict. FILE may be `-` once, for standard
@@ -23,6 +27,13 @@ input. A list has a requirement (PEP 508) a line; options of pip, as -r or --has
 def source(word: str) -> Source:
     """An input: the bytes of standard input, or a path."""
     return sys.stdin.buffer.read() if word == "-" else Path(word)
+
+
+def limit_of(word: str) -> int:
+    """A limit as `reqs` reads one."""
+    if not re.fullmatch(r"\+?[0-9]+", word) or int(word) > GREATEST_LIMIT:
+        raise argparse.ArgumentTypeError(f"{word!r} is no number from 0 to {GREATEST_LIMIT}")
+    return int(word)
 
 
 def parser() -> argparse.ArgumentParser:
@@ -46,7 +57,7 @@ def add(commands: Any, name: str, about: str, limit: bool = False) -> argparse.A
     it: argparse.ArgumentParser = commands.add_parser(name, help=about, description=f"{about[0].upper()}{about[1:]}.")
     if limit:
         of_limit = "how many cases a package may have, which are sets of its lines that apply together (%(default)s)"
-        it.add_argument("--limit", type=int, default=LIMIT, metavar="N", help=of_limit)
+        it.add_argument("--limit", type=limit_of, default=LIMIT, metavar="N", help=of_limit)
     return it
 
 
@@ -145,9 +156,21 @@ def told(error: InvalidInput) -> str:
     return f"{error.path}: {message[len(front):]}" if error.path and message.startswith(front) else message
 
 
+def write_utf8() -> None:
+    """Has all be written in UTF-8, as `reqs` does, whatever the encoding of the locale is."""
+    for it in (sys.stdout, sys.stderr):
+        if isinstance(it, io.TextIOWrapper):
+            it.reconfigure(encoding="utf-8", errors=it.errors)
+
+
 def main(words: Optional[List[str]] = None) -> int:
-    """Runs a command, and gives its exit status."""
+    """Runs a command, by default that of the process, and gives its exit status."""
+    if words is None:
+        write_utf8()
     asked = parser().parse_args(words)
+    if sum(getattr(asked, it, None) == "-" for it in INPUTS) > 1:
+        print("fowlyore: standard input (-) can be one input alone", file=sys.stderr)
+        return REFUSED
     try:
         status = RUNS[asked.command](asked)
         sys.stdout.flush()

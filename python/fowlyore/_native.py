@@ -138,6 +138,12 @@ def _answer(call: Any, *texts: bytes, limit: Optional[int] = None, size: int = R
     return text
 
 
+def lines_of(answer: str) -> List[str]:
+    """The lines of an answer. A line feed alone ends one: str.splitlines ends them at more, which may stand within a text."""
+    lines = answer.split("\n")
+    return lines if lines[-1] else lines[:-1]
+
+
 def _size_for(*texts: bytes) -> int:
     """Room that is enough for most answers about lists."""
     return ROOM + 2 * sum(map(len, texts))
@@ -164,7 +170,7 @@ def version(text: bytes) -> str:
 
 def specifiers(text: bytes) -> List[str]:
     """The texts of a list's members."""
-    return _answer(_specifiers, text).decode().splitlines()
+    return lines_of(_answer(_specifiers, text).decode())
 
 
 def take_one(specifiers: bytes, version: bytes) -> bytes:

@@ -40,11 +40,15 @@ class Refused(ValueError):
         self.end = end
 
     def __str__(self) -> str:
-        if self.text is None or self.start is None or self.end is None or not self.text.isprintable():
+        if self.text is None or self.start is None or self.end is None:
+            return self.message
+        # (a tab takes one column here, so that the caret stands below its part wherever tabs would lead)
+        shown = self.text.rstrip().replace("\t", " ")
+        if not shown.isprintable():
             return self.message
         blanks = " " * columns(self.text[: self.start])
         carets = "^" * max(1, columns(self.text[self.start : self.end]))
-        return f"{self.message}\n    {self.text}\n    {blanks}{carets}"
+        return f"{self.message}\n    {shown}\n    {blanks}{carets}"
 
 
 def columns(text: str) -> int:

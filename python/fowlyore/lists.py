@@ -5,6 +5,7 @@ iterable has its lines: texts, or `Requirement`s.
 """
 
 import json
+import operator
 import os
 import re
 from dataclasses import dataclass
@@ -21,7 +22,8 @@ __all__ = [
     "Comparison", "Conflict", "InvalidInput", "Row", "check", "conflicts", "matrix", "matrix_texts", "normal", "same",
 ]  # fmt: skip
 
-LIMIT = 4096
+# How many cases a package may have where no limit is named, and the greatest limit, as in `reqs`.
+LIMIT, GREATEST_LIMIT = 4096, 1_000_000
 Requirements = Union[str, bytes, "os.PathLike[str]", Iterable[Union[str, Requirement]]]
 Environment = Union[None, str, bytes, "os.PathLike[str]", Mapping[str, str]]
 Environments = Union[str, bytes, "os.PathLike[str]", Iterable[Mapping[str, str]]]
@@ -30,7 +32,7 @@ Candidates = Union[
     str,
     bytes,
     "os.PathLike[str]",
-    Mapping[str, Iterable[Union[str, Version]]],
+    Mapping[str, Union[str, Version, Iterable[Union[str, Version]]]],
     Iterable[Tuple[str, Union[str, Version]]],
 ]
 Extras = Union[str, Iterable[str]]
@@ -39,6 +41,9 @@ Answer = TypeVar("Answer")
 # A text that is meant as a path, most likely, though a package could have such a name.
 _PATH = re.compile(r"\S+\.(txt|in|json|toml)")
 _ROW = re.compile(r"([^ \[]+)(?:\[([^\]]*)\])? (.*)")
+# A candidate's line that the library reads as one name and one version, or refuses.
+_CANDIDATE = re.compile(r"[^ #\n][^#\n]*")
+_WHITE = " \t\n\r\f"
 
 
 class InvalidInput(Refused):
@@ -137,7 +142,16 @@ def as_bytes(name: str, given: Any, otherwise: Callable[[Any], str]) -> Input:
 def requirements_input(given: Requirements, name: str = "requirements") -> Input:
     if isinstance(given, str) and _PATH.fullmatch(given):
         raise InvalidInput(f"{name}: {given!r} is read as a list's text: give a pathlib.Path for a file", input=name)
-    return as_bytes(name, given, lambda lines: "".join(f"{str(it).rstrip()}\n" for it in lines))
+    return as_bytes(name, given, lambda lines: _joined(name, lines))
+
+
+def _joined(name: str, lines: Iterable[Union[str, Requirement]]) -> str:
+    """Lines as one text. Each may end with a line feed, as those of a file do, and has no other."""
+    texts = [str(it).rstrip("\r\n") for it in lines]
+    for number, it in enumerate(texts, 1):
+        if "\n" in it:
+            raise InvalidInput(f"{name}: line {number}: {it!r} goes over more than one line", input=name, text=it, line=number)
+    return "".join(f"{it}\n" for it in texts)
 
 
 def environment_input(given: Environment) -> Input:
@@ -153,9 +167,28 @@ def candidates_input(given: Candidates) -> Input:
 
 
 def _candidate_lines(given: Any) -> str:
-    if isinstance(given, Mapping):
-        given = ((name, version) for name, versions in given.items() for version in versions)
-    return "".join(f"{name} {version}\n" for name, version in given)
+    """A line for each candidate, of which the library reads no more and nothing else than it says."""
+    pairs = _candidate_pairs(given) if isinstance(given, Mapping) else list(given)
+    if any(isinstance(it, str) for it in pairs):
+        raise TypeError("a candidate is a pair of a name and a version, not a text")
+    text = "".join([f"{name} {version}\n" for name, version in pairs])
+    # (a comment, an empty name and a line feed, looked for in all of them at once)
+    if "#" in text or "\n " in f"\n{text}" or text.count("\n") != len(pairs):
+        return "".join(_candidate_line(*it) for it in pairs)
+    return text
+
+
+def _candidate_line(name: str, version: Union[str, Version]) -> str:
+    line = f"{str(name).strip(_WHITE)} {str(version).strip(_WHITE)}"
+    if not _CANDIDATE.fullmatch(line):
+        raise InvalidInput(f"candidates: {line!r} is no name with a version", input="candidates")
+    return f"{line}\n"
+
+
+def _candidate_pairs(given: Mapping[str, Any]) -> List[Tuple[str, Union[str, Version]]]:
+    """The pairs of a mapping, in which one version may stand by itself."""
+    of_names = ((name, [it] if isinstance(it, (str, Version)) else it) for name, it in given.items())
+    return [(name, version) for name, versions in of_names for version in versions]
 
 
 def extras_input(given: Extras) -> Input:
@@ -167,11 +200,19 @@ def extras_input(given: Extras) -> Input:
 
 def answered(call: Callable[..., Answer], *inputs: Input, limit: Optional[int] = None) -> Answer:
     """What a call answers, or the error that tells which input is refused and where."""
-    more = () if limit is None else (limit,)
+    more = () if limit is None else (_checked(limit),)
     try:
         return call(*(it.text for it in inputs), *more)
     except _native.Fault as fault:
         raise _refusal(fault, inputs) from None
+
+
+def _checked(limit: int) -> int:
+    """A limit that `reqs` would take: the library is handed 64 bits of it, and sees no others."""
+    number = operator.index(limit)
+    if not 0 <= number <= GREATEST_LIMIT:
+        raise InvalidInput(f"limit: {number} is not from 0 to {GREATEST_LIMIT}", input="limit")
+    return number
 
 
 def _refusal(fault: _native.Fault, inputs: Sequence[Input]) -> InvalidInput:
@@ -191,7 +232,7 @@ def _refusal(fault: _native.Fault, inputs: Sequence[Input]) -> InvalidInput:
 def rows_of(text: str) -> List[Row]:
     """The rows of an answer."""
     rows = []
-    for line in text.splitlines():
+    for line in _native.lines_of(text):
         found = _ROW.fullmatch(line)
         if found is None:
             raise AssertionError(f"{line!r} is no row")
@@ -284,7 +325,7 @@ def same(left: Requirements, right: Requirements, limit: int = LIMIT) -> Compari
     Comparison(package='foo', place="os_name == 'nt'")
     """
     answer = answered(_native.same, requirements_input(left, "left"), requirements_input(right, "right"), limit=limit)
-    lines = answer.splitlines()
+    lines = _native.lines_of(answer)
     return Comparison() if lines == ["yes"] else Comparison(lines[1], lines[2])
 
 
@@ -296,7 +337,7 @@ def conflicts(requirements: Requirements, limit: int = LIMIT) -> List[Conflict]:
     """
     answer = answered(_native.conflicts, requirements_input(requirements), limit=limit)
     found = []
-    for line in answer.splitlines():
+    for line in _native.lines_of(answer):
         name, numbers, *pre = line.split(" ")
         found.append(Conflict(name, tuple(map(int, numbers.split(","))), bool(pre)))
     return found
@@ -308,4 +349,4 @@ def normal(requirements: Requirements) -> List[str]:
     >>> normal("Foo_Bar [b , a] < 2.0 , >= 1.16 ; python_version >= '3.8'")
     ["foo-bar[b,a]>=1.16,<2.0 ; python_full_version >= '3.8'"]
     """
-    return answered(_native.normal, requirements_input(requirements)).splitlines()
+    return _native.lines_of(answered(_native.normal, requirements_input(requirements)))

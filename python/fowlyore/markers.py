@@ -98,7 +98,7 @@ class Marker:
     True
     """
 
-    __slots__ = ("_given", "_text")
+    __slots__ = ("_given", "_text", "__weakref__")
 
     def __init__(self, marker: str) -> None:
         if not isinstance(marker, str):
@@ -140,6 +140,10 @@ class Marker:
 
 def holds(markers: List[Marker], environment: Mapping[str, Any], extras: List[str]) -> List[bool]:
     """Whether each marker holds in an environment with extras, by one call."""
+    for it in extras:
+        # (the library reads a name a line)
+        if "\n" in it:
+            raise UndefinedEnvironmentName(f"extra {it!r} is no name")
     lines = _native.encoded("".join(f"{it._given}\n" for it in markers))
     try:
         answers = _native.markers_hold(lines, environment_json(environment), _native.encoded("\n".join(extras)))

@@ -83,7 +83,7 @@ class Specifier:
     (True, False)
     """
 
-    __slots__ = ("_operator", "_version", "_normal", "_bytes", "_prereleases", "_names_one")
+    __slots__ = ("_operator", "_version", "_normal", "_bytes", "_prereleases", "_names_one", "__weakref__")
 
     _names_one: bool
 
@@ -198,20 +198,20 @@ class SpecifierSet:
     ['1.2']
     """
 
-    __slots__ = ("_bytes", "_given", "_made", "_prereleases", "_names_one")
+    __slots__ = ("_bytes", "_given", "_made", "_prereleases", "_names_one", "__weakref__")
 
     _made: FrozenSet[Specifier]
     _names_one: bool
 
     def __init__(
-        self, specifiers: Union[str, Iterable[Specifier]] = "", prereleases: Optional[bool] = None
+        self, specifiers: Union[str, Iterable[Union[str, Specifier]]] = "", prereleases: Optional[bool] = None
     ) -> None:
         if isinstance(specifiers, str):
             # Empty members are passed over, as packaging does.
             self._given = ",".join(it for it in specifiers.split(",") if it.strip())
             _members(self._given)
         else:
-            self._made = frozenset(specifiers)
+            self._made = frozenset(it if isinstance(it, Specifier) else Specifier(it) for it in specifiers)
             self._given = ",".join(map(str, self._made))
         self._bytes = _native.encoded(self._given)
         self._prereleases = prereleases

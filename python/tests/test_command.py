@@ -78,6 +78,36 @@ class Commands(unittest.TestCase):
             status, out, err = run(*words, "--help")
             self.assertEqual((status, err), (0, ""), words)
 
+    def test_limits(self):
+        """As `reqs` takes them (crates/reqs_cli, IsLimitText)."""
+        path = FIRST / "requirements.txt"
+        for word in ("-1", "1000001", str(2**64), str(2**64 + 1), "x", "", "1.0", "1_0", " 1", "+", "\uff11"):
+            status, out, err = run("conflicts", path, "--limit", word)
+            self.assertEqual((status, out), (2, ""), word)
+            self.assertIn("usage: fowlyore", err)
+        for word in ("1000000", "0004096", "+5"):
+            self.assertEqual(run("conflicts", path, f"--limit={word}"), (0, "", ""), word)
+        status, out, err = run("conflicts", path, "--limit", "0")
+        self.assertEqual((status, out, err), (2, "", f"fowlyore: {path}: more than 0 cases for colorama\n"))
+
+    def test_standard_input_twice(self):
+        for words in (
+            ("same", "-", "-"),
+            ("check", "-", "--candidates", "-"),
+            ("check", "-", "--environment", "-"),
+            ("check", "a", "--environment", "-", "--candidates", "-"),
+            ("matrix", "-", "-"),
+            ("matrix", "a", "-", "--candidates", "-"),
+        ):
+            self.assertEqual(run(*words), (2, "", "fowlyore: standard input (-) can be one input alone\n"), words)
+
+    def test_lines_end_at_a_line_feed_alone(self):
+        with tempfile.TemporaryDirectory() as folder:
+            path = pathlib.Path(folder, "requirements.txt")
+            text = "foo ; platform_version == 'a\u2028b'\nbar ; platform_version == 'a\x85b'\n"
+            path.write_bytes(text.encode())
+            self.assertEqual(run("normal", path), (0, text, ""))
+
     def test_no_file(self):
         status, out, err = run("normal", "/no/such/file")
         self.assertEqual((status, out, err), (3, "", "fowlyore: /no/such/file: No such file or directory\n"))
@@ -93,6 +123,16 @@ class Process(unittest.TestCase):
     def test_standard_input(self):
         ran = self.run_module("normal", "-", input=b"Foo_Bar >= 1\n")
         self.assertEqual((ran.returncode, ran.stdout, ran.stderr), (0, b"foo-bar>=1\n", b""))
+
+    def test_other_encodings(self):
+        for it in ("ascii", "latin-1", "utf-16"):
+            environment = {**os.environ, "PYTHONIOENCODING": it}
+            text = "foo ; platform_version == '\u00e9\u2028'\n".encode()
+            ran = self.run_module("normal", "-", input=text, env=environment)
+            self.assertEqual((ran.returncode, ran.stdout, ran.stderr), (0, text, b""), it)
+            ran = self.run_module("normal", "-", input=text + "\u00e9".encode(), env=environment)
+            self.assertEqual((ran.returncode, ran.stdout), (2, b""), it)
+            self.assertIn("\u00e9", ran.stderr.decode(), it)
 
     @unittest.skipUnless(os.path.exists("/dev/full"), "there is no /dev/full")
     def test_a_full_disk(self):

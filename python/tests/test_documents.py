@@ -5,20 +5,25 @@ import importlib
 import inspect
 import pathlib
 import pkgutil
+import re
 import unittest
 
 import fowlyore
+from fowlyore.__main__ import STRICT
 
-PAGE = pathlib.Path(__file__).resolve().parents[2] / "docs" / "PYTHON.md"
+TOP = pathlib.Path(__file__).resolve().parents[2]
+PAGE = TOP / "docs" / "PYTHON.md"
+PAGES = [PAGE, TOP / "README.md"]
 
 
 def load_tests(loader, tests, pattern):
-    """A test for each docstring with examples, and one for the page."""
+    """A test for each docstring with examples, and one for each page."""
     for it in pkgutil.iter_modules(fowlyore.__path__):
         module = importlib.import_module(f"fowlyore.{it.name}")
         tests.addTests(doctest.DocTestSuite(module, optionflags=doctest.ELLIPSIS))
     tests.addTests(doctest.DocTestSuite(fowlyore, optionflags=doctest.ELLIPSIS))
-    tests.addTests(doctest.DocFileSuite(str(PAGE), module_relative=False, optionflags=doctest.ELLIPSIS))
+    for it in PAGES:
+        tests.addTests(doctest.DocFileSuite(str(it), module_relative=False, encoding="utf-8", optionflags=doctest.ELLIPSIS))
     return tests
 
 
@@ -26,6 +31,26 @@ class Documented(unittest.TestCase):
     def test_all_that_is_exported(self):
         for name in fowlyore.__all__:
             self.assertTrue(getattr(fowlyore, name).__doc__, name)
+
+    def test_pages_have_examples(self):
+        for it in PAGES:
+            self.assertTrue(doctest.DocTestParser().get_examples(it.read_text(encoding="utf-8")), it)
+
+    def test_variables_of_the_environment(self):
+        sources = "".join(it.read_text(encoding="utf-8") for it in pathlib.Path(fowlyore.__path__[0]).glob("*.py"))
+        found = set(re.findall(r"environ(?:\.get\(|\[)\"(\w+)\"", sources))
+        self.assertEqual(found, {"FOWLYORE_LIBRARY"})
+        for it in found:
+            self.assertIn(f"`{it}`", PAGE.read_text(encoding="utf-8"))
+
+    def test_processes(self):
+        """What include/reqs.h forbids."""
+        text = " ".join(PAGE.read_text(encoding="utf-8").split())
+        self.assertRegex(text, "child of a fork of a process with threads no call may be made, .* `spawn` or `forkserver`")
+
+    def test_statuses(self):
+        said = re.search(r"The status is (.*?)\. ", PAGE.read_text(encoding="utf-8"), re.S)[1]
+        self.assertEqual(re.findall(r"\b\d+\b", said), [str(it) for it in range(STRICT + 1)])
 
 
 def functions_of(value):

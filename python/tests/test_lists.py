@@ -52,6 +52,17 @@ class Answers(unittest.TestCase):
         self.assertEqual(printed(fowlyore.check(lines, candidates="", extras="Test")), "a none\nb none\n")
         self.assertEqual(printed(fowlyore.check(lines, candidates="", extras=["x", "y"])), "b none\n")
 
+    def test_lines_and_their_ends(self):
+        self.assertEqual(fowlyore.normal(["a\n", "", "# c\n", "b \r\n", "c"]), ["a", "b", "c"])
+
+    def test_one_version_of_a_mapping(self):
+        for version in ("12", " 12\n", fowlyore.Version("12"), ["12"], ("2", fowlyore.Version("12"))):
+            self.assertEqual(printed(fowlyore.check("numpy", candidates={"numpy": version})), "numpy 12\n", version)
+        found = dict(fowlyore.installed())
+        name = sorted(found)[0]
+        (row,) = fowlyore.check([f"{name}>=0.dev0"], candidates=found)
+        self.assertEqual(row.version, fowlyore.Version(found[name]))
+
     def test_installed(self):
         found = dict(fowlyore.installed())
         name = sorted(found)[0]
@@ -109,6 +120,13 @@ class Answers(unittest.TestCase):
         self.assertEqual(fowlyore.normal(given), ["foo-bar[b,a]>=1.16,<2.0 ; python_full_version >= '3.8'"])
         self.assertEqual(fowlyore.normal([]), [])
 
+    def test_lines_of_answers(self):
+        """A line feed alone ends them; what else ends a line of `str.splitlines` may stand in a marker's text."""
+        for it in "\r\v\f\x1c\x1d\x1e\x85\u2028\u2029":
+            place = f"platform_version == 'a{it}b'"
+            self.assertEqual(fowlyore.normal(f"foo ; {place}\nbar\n"), [f"foo ; {place}", "bar"], repr(it))
+            self.assertEqual(fowlyore.same("foo", f"foo\nfoo<1 ; {place}").place, place, repr(it))
+
 
 class Refusals(unittest.TestCase):
     def refused(self, call, *given, **named):
@@ -137,8 +155,54 @@ class Refusals(unittest.TestCase):
         for extras in ("no name", ["a\nb"], [""]):
             self.assertEqual(self.refused(fowlyore.check, "a", None, "", extras).input, "extras")
 
+    def test_carets(self):
+        """Which errors show the line, as docs/PYTHON.md says."""
+        makes = [(fowlyore.Version, "1.x"), (fowlyore.Specifier, "=1"), (fowlyore.SpecifierSet, ">=1,=2"), (fowlyore.Marker, "os_name")]
+        for make, text in (*makes, (fowlyore.Requirement, "foo=1"), (fowlyore.normal, "foo\nbar=1")):
+            with self.assertRaises(fowlyore.Refused) as found:
+                make(text)
+            self.assertRegex(str(found.exception), r"\n *\^+\n?\Z")
+        calls = [
+            lambda: fowlyore.check("a", None, "a x\n"),
+            lambda: fowlyore.check("a", "{}", ""),
+            lambda: fowlyore.check("a", None, "", "no name"),
+            lambda: fowlyore.same("a===1", "a"),
+        ]
+        for call in calls:
+            self.assertNotIn("^", str(self.refused(call)))
+
     def test_no_text(self):
         self.assertEqual(self.refused(fowlyore.normal, b"a\n\xff\n").input, "requirements")
+
+    def test_no_lines(self):
+        error = self.refused(fowlyore.normal, ["a", "b\nc"])
+        self.assertEqual((error.input, error.line, error.text), ("requirements", 2, "b\nc"))
+        self.assertEqual(self.refused(fowlyore.same, ["a"], ["a\nb\n"]).input, "right")
+
+    def test_no_candidates(self):
+        """What would be read as other candidates than it says."""
+        for pair in (("a", "1\nb 2"), ("a\nb", "1"), ("# a", "1"), ("a 1 #", "2"), ("a", "1 # b"), ("", "a 1"), ("", "")):
+            for candidates in ([("c", "1"), pair], {"c": "1", pair[0]: pair[1]}):
+                self.assertEqual(self.refused(fowlyore.check, "a", None, candidates).input, "candidates", candidates)
+        for candidates in (["a1"], ["a 1"], ("a", "1")):
+            with self.assertRaises(TypeError, msg=candidates):
+                fowlyore.check("a", candidates=candidates)
+
+    def test_limits(self):
+        calls = [
+            lambda limit: fowlyore.matrix("a", [], "", limit=limit),
+            lambda limit: fowlyore.matrix_texts("a", [], "", limit=limit),
+            lambda limit: fowlyore.same("a", "a", limit),
+            lambda limit: fowlyore.conflicts("a", limit),
+        ]
+        for call in calls:
+            for limit in (-1, 1_000_001, 2**64, 2**64 + 4096):
+                self.assertEqual(self.refused(call, limit).input, "limit", limit)
+            call(1_000_000)
+            self.assertIn("more than 0 cases", str(self.refused(call, 0)))
+            for limit in ("5", 5.0, None):
+                with self.assertRaises(TypeError):
+                    call(limit)
 
     def test_a_path_that_is_no_path(self):
         self.assertIn("pathlib.Path", str(self.refused(fowlyore.check, "requirements.txt", candidates="")))

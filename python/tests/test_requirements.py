@@ -4,6 +4,7 @@ import copy
 import os
 import pickle
 import unittest
+import weakref
 
 from fowlyore import InvalidMarker, InvalidRequirement, Marker, Requirement, UndefinedEnvironmentName, default_environment
 
@@ -71,6 +72,14 @@ class Requirements(unittest.TestCase):
         self.assertEqual((error.line, error.text[error.start : error.end]), (1, "bar"))
         self.assertTrue(str(error).endswith("\n    foo ; platform_version == 'é' and bar\n" + " " * 38 + "^^^"), str(error))
 
+    def test_the_place_of_a_fault_behind_tabs(self):
+        for text in ("foo\t; os_name == 'nt'\tand\tbar", "foo ; os_name == 'nt' and bar\n", "foo ; os_name == 'nt' and bar \t\r\n"):
+            with self.assertRaises(InvalidRequirement) as found:
+                Requirement(text)
+            self.assertEqual(found.exception.text, text)
+            said = str(found.exception).split("\n")
+            self.assertEqual(said[-2:], ["    foo ; os_name == 'nt' and bar", " " * 30 + "^^^"], repr(text))
+
 
 class Markers(unittest.TestCase):
     def test_evaluate(self):
@@ -118,6 +127,15 @@ class Markers(unittest.TestCase):
         for environment in ({"python_full_version": "three"}, {"implementation_version": "x"}, {"os_name": None}):
             with self.assertRaises(UndefinedEnvironmentName, msg=environment):
                 Marker("os_name == 'nt'").evaluate(environment)
+
+    def test_extras_that_are_none(self):
+        for extra in ("a\nb", "b\n", "\nb", "\n", "no name", "-"):
+            with self.assertRaises(UndefinedEnvironmentName, msg=repr(extra)):
+                Marker("extra == 'b'").evaluate({"extra": extra})
+
+    def test_weak_references(self):
+        for it in (Marker("os_name == 'nt'"), Requirement("foo")):
+            self.assertIs(weakref.ref(it)(), it)
 
     def test_default_environment(self):
         environment = default_environment()

@@ -2,6 +2,7 @@
 
 import itertools
 import unittest
+import weakref
 
 from fowlyore import InvalidSpecifier, InvalidVersion, Specifier, SpecifierSet, Version
 
@@ -121,6 +122,21 @@ class Values(unittest.TestCase):
             both & SpecifierSet("", prereleases=False)
         with self.assertRaises(TypeError):
             both & 1
+
+    def test_sets_of_texts(self):
+        specifiers = SpecifierSet([">=1", Specifier("<2.0rc1"), " ~= 1.1 "])
+        self.assertEqual((specifiers, specifiers.prereleases), (SpecifierSet(">=1,<2.0rc1,~=1.1"), True))
+        self.assertTrue(specifiers.contains("1.2"))
+        self.assertTrue(all(isinstance(it, Specifier) for it in specifiers))
+        for texts in (["junk"], [">=1", ""], [">=1,<2"], ">=1"):
+            with self.assertRaises(InvalidSpecifier, msg=texts):
+                SpecifierSet(iter(texts))
+        with self.assertRaises(TypeError):
+            SpecifierSet([1])
+
+    def test_weak_references(self):
+        for it in (Specifier(">=1"), SpecifierSet(">=1")):
+            self.assertIs(weakref.ref(it)(), it)
 
     def test_refused(self):
         for text in ("", "1.0", "=1.0", "~=1", "==1.0.*.1", ">=1.*", "<1+local", ">=1,<2", "===lolwat", ">=1 <2"):

@@ -1,9 +1,10 @@
 #!/usr/bin/env python3
-"""Holds the functions that rust/fowlyore declares against include/reqs.h: names, and the kinds of arguments and results.
+"""Holds what rust/fowlyore declares against include/reqs.h: functions, with the kinds of their arguments and results, the members of
+a reply, and numbers; and its licences against the repository's.
 
     declarations.py [SAID STATUS]
 
-SAID is what `cargo test` said, and STATUS how it ended: its examples count too. Closes with `N passed, M failed`.
+SAID is what `cargo test` said, and STATUS how it ended: its tests count too. Closes with `N passed, M failed`.
 """
 
 import re
@@ -24,11 +25,22 @@ KINDS = {
 }
 # What the header has and the crate has no use for: versions compare by their keys.
 UNUSED = {"reqs_version_order"}
+# Numbers of the header, by what the crate calls them.
+NUMBERS = {
+    "ABI": "REQS_ABI",
+    "DIFFERENT": "REQS_DIFFERENT",
+    "REFUSED": "REQS_REFUSED",
+    "MEMORY": "REQS_MEMORY",
+    "KEY_REFUSED": "REQS_KEY_REFUSED",
+}
+LICENCES = ("LICENSE-APACHE", "LICENSE-BSD")
+HEADER = re.sub(r"/\*.*?\*/", "", (TOP / "include/reqs.h").read_text(), flags=re.S)
+NATIVE = (TOP / "rust/fowlyore/src/native.rs").read_text()
 
 
-def in_header():
+def functions_of_header():
     """Each function of the header: the types of its arguments, as Rust writes them, and of its result."""
-    text = re.sub(r"/\*.*?\*/|^#.*?$", "", (TOP / "include/reqs.h").read_text(), flags=re.S | re.M)
+    text = re.sub(r"^#.*?$", "", HEADER, flags=re.M)
     found = {}
     for result, name, words in re.findall(r"^(\w+)\s+(reqs_\w+)\(([^)]*)\)", text, flags=re.M):
         arguments = [re.sub(r"\s*\b\w+\s*$", "", it.strip()) for it in words.split(",") if it.strip() not in ("", "void")]
@@ -36,10 +48,9 @@ def in_header():
     return found
 
 
-def in_crate():
+def functions_of_crate():
     """The same of what the crate declares."""
-    text = (TOP / "rust/fowlyore/src/native.rs").read_text()
-    block = re.search(r'extern "C" \{(.*?)^\}', text, flags=re.S | re.M)[1]
+    block = re.search(r'extern "C" \{(.*?)^\}', NATIVE, flags=re.S | re.M)[1]
     found = {}
     for name, words, result in re.findall(r"fn (\w+)\(([^)]*)\)\s*->\s*(\w+);", block):
         arguments = [it.partition(":")[2].strip() for it in words.split(",") if it.strip()]
@@ -47,15 +58,49 @@ def in_crate():
     return found
 
 
-def main(words):
-    header, crate = in_header(), in_crate()
-    passed = failed = 0
+def reply_of_header():
+    """The members of a reply in their order, with their types."""
+    block = re.search(r"^typedef struct reqs_reply \{(.*?)^\} reqs_reply;", HEADER, flags=re.S | re.M)[1]
+    return [(name, KINDS[kind]) for kind, name in re.findall(r"(\w+) (\w+);", block)]
+
+
+def reply_of_crate():
+    """The same of the crate's type, which has to be laid out as C does it."""
+    block = re.search(r"^#\[repr\(C\)\]\npub\(crate\) struct Reply \{(.*?)^\}", NATIVE, flags=re.S | re.M)
+    return re.findall(r"(\w+): (\w+),", block[1]) if block else None
+
+
+def number_of_header(name):
+    found = re.search(rf"\b{name}(?: =)? \(?(-?\d+)", HEADER)
+    return found and found[1]
+
+
+def number_of_crate(name):
+    found = re.search(rf"^const {name}: [iu]\d+ = (-?\d+);", NATIVE, flags=re.M)
+    return found and found[1]
+
+
+def compared():
+    """What has to be the same: a name, the repository's, and the crate's."""
+    header, crate = functions_of_header(), functions_of_crate()
     for name in sorted({*header, *crate} - UNUSED):
-        if header.get(name) == crate.get(name):
+        yield name, header.get(name), crate.get(name)
+    yield "reqs_reply", reply_of_header(), reply_of_crate()
+    for inside, outside in NUMBERS.items():
+        yield outside, number_of_header(outside), number_of_crate(inside)
+    for name in LICENCES:
+        copy = TOP / "rust/fowlyore" / name
+        yield name, (TOP / name).read_text(), copy.read_text() if copy.exists() else None
+
+
+def main(words):
+    passed = failed = 0
+    for name, wanted, found in compared():
+        if wanted is not None and wanted == found:
             passed += 1
         else:
             failed += 1
-            print(f"FAILED: {name}: the header has {header.get(name)}, the crate {crate.get(name)}")
+            print(f"FAILED: {name}: the repository has {str(wanted)[:400]}, the crate {str(found)[:400]}")
     if words:
         said, status = Path(words[0]).read_text(errors="replace"), words[1]
         results = re.findall(r"^test result: .*?(\d+) passed; (\d+) failed", said, flags=re.M)

@@ -101,8 +101,7 @@ module _ (old : List NodeRecord) (tree : Tree) (marking : Marking) (place : ℕ)
       AreCut old old tree cases (map (marked_again place) cases)
   again_cut [] each = refl
   again_cut (c ∷ cases) each =
-      let one = again_one c each.0 (get_or c.0 place false) refl in
-      (
+      let one = again_one c each.0 (get_or c.0 place false) refl in (
         one.0,
         one.1,
         map (marked_again place) cases,

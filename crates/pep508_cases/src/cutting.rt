@@ -5,6 +5,7 @@ ghost use Rattle.pep508_diagram.specs.Question.{Valuation};
 ghost use Rattle.pep508_tree.specs.Meaning.{IsTree, Extends, holds};
 ghost use Rattle.pep508_cases.specs.Cutting.{Finds};
 
+use pep508_disjointness::MarkerTreeDisjointness;
 use pep508_tree::{Interner, MarkerTree};
 use pep508_tree_laws::a_tree_holds_somewhere;
 use std::alloc::{AllocError, Global};
@@ -40,7 +41,20 @@ fn meeting(
     Ok(Some(both))
 }
 
-/// The two halves of a case.
+/// A tree, where it ever holds.
+fn whole(interner: &Interner, tree: MarkerTree) -> Option<MarkerTree>
+    requires { IsTree interner.now.nodes tree }
+    ensures { Finds interner.now.nodes (λ v. holds interner.now.nodes tree v) result }
+{
+    a_tree_holds_somewhere(interner);
+    interner.are_sound();
+    if tree.is_false() {
+        return None;
+    }
+    Some(tree)
+}
+
+/// The two halves of a case. Where it lies in one of them no conjunction is asked for.
 pub(crate) fn halved(
     alloc: Global,
     interner: &mut Interner,
@@ -56,7 +70,22 @@ pub(crate) fn halved(
     ensures keeps { Extends interner.old.nodes interner.new.nodes }
     ensures counts { interner.new.conjunctions ≤ interner.old.conjunctions + 2 }
 {
+    let other = tree.negate();
+    if case.is_disjoint(alloc, interner, tree)? {
+        let without = whole(interner, case);
+        return Ok(Halves {
+            with: None,
+            without,
+        });
+    }
+    if case.is_disjoint(alloc, interner, other)? {
+        let with = whole(interner, case);
+        return Ok(Halves {
+            with,
+            without: None,
+        });
+    }
     let with = meeting(alloc, interner, case, tree)?;
-    let without = meeting(alloc, interner, case, tree.negate())?;
+    let without = meeting(alloc, interner, case, other)?;
     Ok(Halves { with, without })
 }

@@ -5,9 +5,14 @@
 //! Anything that reads bytes may be an input, and anything that writes them the output:
 //!
 //! ```text
-//! let (mut requirements, mut environment) = (File::open(..)?, File::open(..)?);
+//! let mut requirements = File::open(rt, "requirements.txt")?;
+//! let mut environment = File::open(rt, "environment.json")?;
+//! let mut candidates = File::open(rt, "candidates.txt")?;
+//! let mut output = File::create(rt, "answer.txt")?;
+//! let extras = ["socks"];
 //! let status = check(
-//!     alloc, &mut requirements, &mut environment, &mut candidates, &["socks"], &vars, Format::Text, &mut output,
+//!     alloc, &mut requirements, &mut environment, &mut candidates, &extras, &vars, Format::Text,
+//!     &mut output,
 //! )?;
 //! ```
 

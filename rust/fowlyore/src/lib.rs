@@ -3,6 +3,18 @@
 //!
 //! Texts are handed to the library as they are, and it keeps nothing of them. Where memory runs out the process ends, as with Rust's
 //! own collections. This crate itself is not proved: it calls, and splits what it is answered.
+//!
+//! Calls share nothing, and values may go to other threads and be used by several at once:
+//!
+//! ```
+//! fn is_shared<Value: Send + Sync + 'static>() {}
+//!
+//! is_shared::<fowlyore::Version>();
+//! is_shared::<fowlyore::VersionSpecifiers>();
+//! is_shared::<fowlyore::Requirement>();
+//! is_shared::<fowlyore::MarkerTree>();
+//! is_shared::<(fowlyore::Refused, fowlyore::Same)>();
+//! ```
 #![warn(missing_docs)]
 
 mod lists;
@@ -26,11 +38,14 @@ pub use version::Version;
 /// assert_eq!(fowlyore::abi(), 1);
 /// assert!(fowlyore::is_known());
 /// ```
+#[must_use]
 pub fn abi() -> u32 {
     native::abi()
 }
 
-/// Whether the linked library has the interface that this crate is written for.
+/// Whether the linked library has the interface that this crate is written for. What calls of another library answer or refuse
+/// may be read wrongly.
+#[must_use]
 pub fn is_known() -> bool {
     native::is_known()
 }

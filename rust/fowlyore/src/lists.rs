@@ -20,7 +20,8 @@ pub enum Same {
     },
 }
 
-/// What `reqs check` prints: for each package that a line which applies asks for, its extras and the greatest candidate.
+/// What `reqs check` prints: for each package that a line which applies asks for, its extras and the greatest candidate. An extra
+/// that is no name is refused.
 ///
 /// ```
 /// let environment = br#"{"implementation_name": "cpython", "implementation_version": "3.11.7", "os_name": "posix",
@@ -29,6 +30,7 @@ pub enum Same {
 ///     "python_version": "3.11", "sys_platform": "linux"}"#;
 /// let rows = fowlyore::check(b"foo[bar]>=1,<2\n", environment, b"foo 1.0\nfoo 1.5\nfoo 2.0\n", &[])?;
 /// assert_eq!(rows, "foo[bar] 1.5\n");
+/// assert!(fowlyore::check(b"foo\n", environment, b"foo 1.0\n", &["dev\ntest"]).is_err());
 /// # Ok::<(), fowlyore::Refused>(())
 /// ```
 pub fn check(
@@ -41,6 +43,27 @@ pub fn check(
 }
 
 /// What `reqs matrix` prints: the same for each environment of a JSON list, from one table, whose packages have at most `limit` cases.
+///
+/// ```
+/// use fowlyore::{matrix, LIMIT};
+///
+/// let environment = |system: &str| {
+///     format!(
+///         r#"{{"implementation_name": "cpython", "implementation_version": "3.11.7", "os_name": "posix",
+///         "platform_machine": "x86_64", "platform_python_implementation": "CPython", "platform_release": "6.1",
+///         "platform_system": "", "platform_version": "", "python_full_version": "3.11.7",
+///         "python_version": "3.11", "sys_platform": "{system}"}}"#
+///     )
+/// };
+/// let environments = format!("[{}, {}]", environment("linux"), environment("win32"));
+/// let requirements = b"foo>=1,<2\nbar ; sys_platform == 'win32' and extra == 'dev'\n";
+/// let candidates = b"foo 1.5\nfoo 2.0\nbar 3.0\n";
+/// let rows = matrix(requirements, environments.as_bytes(), candidates, &["dev"], LIMIT)?;
+/// assert_eq!(rows, "env 1\nfoo 1.5\nenv 2\nbar 3.0\nfoo 1.5\n");
+/// let refused = matrix(requirements, environments.as_bytes(), candidates, &["dev"], 1).unwrap_err();
+/// assert_eq!(refused.message, "requirements: more than 1 cases for bar");
+/// # Ok::<(), fowlyore::Refused>(())
+/// ```
 pub fn matrix(
     requirements: &[u8],
     environments: &[u8],

@@ -42,16 +42,35 @@ impl MarkerTree {
     }
 
     /// Whether it holds in every environment.
+    #[must_use]
     pub fn is_true(&self) -> bool {
         self.text.is_empty()
     }
 
-    /// The normal text, which is empty where it always holds.
+    /// The normal text, which `Display` prints too. Not every one is read again as its marker. Where a marker always holds, it is
+    /// empty, which is no marker: such a one is written by leaving it out (`try_to_string` of the crate `pep508_rs` gives nothing for
+    /// it). Where a marker never holds, it is `python_version < '0'`, as there, and is read again as that comparison.
+    ///
+    /// ```
+    /// use fowlyore::{MarkerTree, Requirement};
+    ///
+    /// let always: MarkerTree = "os_name == 'nt' or os_name != 'nt'".parse()?;
+    /// assert!(always.is_true());
+    /// assert_eq!((always.as_str(), always.to_string().as_str()), ("", ""));
+    /// assert!("".parse::<MarkerTree>().is_err());
+    /// let never: MarkerTree = "os_name == 'nt' and os_name == 'posix'".parse()?;
+    /// assert_eq!(never.as_str(), "python_version < '0'");
+    /// let line: Requirement = "foo ; os_name == 'nt' or os_name != 'nt'".parse()?;
+    /// assert_eq!((line.to_string().as_str(), line.marker), ("foo", always));
+    /// # Ok::<(), fowlyore::Refused>(())
+    /// ```
+    #[must_use]
     pub fn as_str(&self) -> &str {
         &self.text
     }
 
-    /// Whether it holds in an environment, which is JSON as of `reqs check`, with extras.
+    /// Whether it holds in an environment, which is JSON as of `reqs check`, with extras. An extra that is no name is refused. A
+    /// marker that always holds does so whatever the environment and the extras are.
     ///
     /// ```
     /// use fowlyore::{MarkerTree, Requirement};
@@ -62,6 +81,9 @@ impl MarkerTree {
     ///     "python_version": "3.11", "sys_platform": "linux"}"#;
     /// let marker: MarkerTree = "python_version >= '3.8' and extra == 'socks'".parse()?;
     /// assert_eq!((marker.evaluate(environment, &["Socks"])?, marker.evaluate(environment, &[])?), (true, false));
+    /// let refused = marker.evaluate(environment, &["a\nsocks"]).unwrap_err();
+    /// assert_eq!((refused.message.as_str(), refused.input), ("extra a\nsocks is no name", 3));
+    /// assert!(MarkerTree::default().evaluate("", &[""])?);
     /// let line: Requirement = "foo @ https://example.org/;x ; platform_version == \"it's\"".parse()?;
     /// assert!(line.marker.evaluate(environment, &[])?);
     /// assert!("os_name ==\n'posix'".parse::<MarkerTree>().is_err());

@@ -19,8 +19,13 @@ const DIFFERENT: u32 = 1;
 const REFUSED: u32 = 2;
 const MEMORY: u32 = 3;
 const KEY_REFUSED: i64 = -2;
-/// The room that nearly every answer about one text fits.
+/// The room that nearly every answer about one short text fits.
 const ROOM: usize = 256;
+/// The most room that is given for an answer about lists before its length is known.
+const MOST_ROOM: usize = 16 << 20;
+/// Which text of a call has the extras.
+const EXTRAS_OF_LISTS: u32 = 4;
+const EXTRAS_OF_MARKERS: u32 = 3;
 
 // `tests/rust.sh` holds these against `include/reqs.h`.
 #[rustfmt::skip]
@@ -75,6 +80,8 @@ fn answered(room: usize, call: impl Fn(*mut u8, usize) -> Reply) -> Result<Answe
     let mut out = vec![0; room];
     let mut reply = call(out.as_mut_ptr(), out.len());
     if reply.length > out.len() {
+        #[cfg(test)]
+        tests::ASKED_AGAIN.with(|it| it.set(it.get() + 1));
         out.resize(reply.length, 0);
         reply = call(out.as_mut_ptr(), out.len());
     }
@@ -82,6 +89,8 @@ fn answered(room: usize, call: impl Fn(*mut u8, usize) -> Reply) -> Result<Answe
         out_of_memory();
     }
     out.truncate(reply.length);
+    // (who keeps the answer doesn't keep the room that it didn't need)
+    out.shrink_to_fit();
     let text = String::from_utf8(out).expect("the library writes UTF-8");
     if reply.status == REFUSED {
         return Err(Refused {
@@ -105,6 +114,27 @@ pub(crate) fn abi() -> u32 {
 /// Whether the linked library has the interface that stands above.
 pub(crate) fn is_known() -> bool {
     abi() == ABI
+}
+
+/// Extras one a line, as the library takes them. It would read one that holds a line feed as several, and pass over an empty one:
+/// these are refused here, as it refuses others that are no names.
+fn extra_lines(extras: &[&str], input: u32) -> Result<String, Refused> {
+    match extras.iter().find(|it| it.is_empty() || it.contains('\n')) {
+        None => Ok(extras.join("\n")),
+        Some(extra) => Err(Refused {
+            message: format!("extra {extra} is no name"),
+            input,
+            line: 0,
+            start: 0,
+            len: 0,
+        }),
+    }
+}
+
+/// The room for rows about so many environments: a row is seldom longer than the line that asks for it.
+fn room_for_rows(requirements: &[u8], environments: usize) -> usize {
+    let each = ROOM + requirements.len();
+    each.saturating_mul(environments).clamp(ROOM, MOST_ROOM)
 }
 
 /// What a function answers about texts, each of which it takes as a pointer and a length, and perhaps with a limit.
@@ -141,20 +171,21 @@ pub(crate) fn version_key(text: &str) -> Option<Vec<u8>> {
 }
 
 pub(crate) fn specifiers(text: &str) -> Result<String, Refused> {
-    asked!(reqs_specifiers, ROOM, text).map(|it| it.text)
+    asked!(reqs_specifiers, ROOM + text.len(), text).map(|it| it.text)
 }
 
 /// A byte for each line: `1` where the list takes the version, `0` where it doesn't, `?` where it is none.
 pub(crate) fn specifiers_take(list: &str, versions: &str) -> Result<String, Refused> {
-    asked!(reqs_specifiers_take, ROOM, list, versions).map(|it| it.text)
+    let room = ROOM.max(versions.matches('\n').count());
+    asked!(reqs_specifiers_take, room, list, versions).map(|it| it.text)
 }
 
 pub(crate) fn requirement(text: &str) -> Result<String, Refused> {
-    asked!(reqs_requirement, ROOM, text).map(|it| it.text)
+    asked!(reqs_requirement, ROOM + text.len(), text).map(|it| it.text)
 }
 
 pub(crate) fn marker(text: &str) -> Result<String, Refused> {
-    asked!(reqs_marker, ROOM, text).map(|it| it.text)
+    asked!(reqs_marker, ROOM + text.len(), text).map(|it| it.text)
 }
 
 /// A byte for each line: `1` where the marker holds, `0` where it doesn't, `?` where it is none.
@@ -163,13 +194,14 @@ pub(crate) fn markers_hold(
     environment: &str,
     extras: &[&str],
 ) -> Result<String, Refused> {
-    let extras = extras.join("\n");
+    let extras = extra_lines(extras, EXTRAS_OF_MARKERS)?;
     asked!(reqs_markers_hold, ROOM, markers, environment, extras).map(|it| it.text)
 }
 
 pub(crate) fn check(lists: [&[u8]; 3], extras: &[&str]) -> Result<String, Refused> {
     let [requirements, environment, candidates] = lists;
-    let (extras, room) = (extras.join("\n"), ROOM + requirements.len());
+    let extras = extra_lines(extras, EXTRAS_OF_LISTS)?;
+    let room = room_for_rows(requirements, 1);
     asked!(
         reqs_check,
         room,
@@ -183,7 +215,10 @@ pub(crate) fn check(lists: [&[u8]; 3], extras: &[&str]) -> Result<String, Refuse
 
 pub(crate) fn matrix(lists: [&[u8]; 3], extras: &[&str], limit: u64) -> Result<String, Refused> {
     let [requirements, environments, candidates] = lists;
-    let (extras, room) = (extras.join("\n"), ROOM + requirements.len());
+    let extras = extra_lines(extras, EXTRAS_OF_LISTS)?;
+    // (an environment is an object)
+    let count = environments.iter().filter(|it| **it == b'{').count();
+    let room = room_for_rows(requirements, count);
     asked!(reqs_matrix, room, requirements, environments, candidates, extras; limit)
         .map(|it| it.text)
 }
@@ -193,9 +228,104 @@ pub(crate) fn same(left: &[u8], right: &[u8], limit: u64) -> Result<Answer, Refu
 }
 
 pub(crate) fn conflicts(requirements: &[u8], limit: u64) -> Result<String, Refused> {
-    asked!(reqs_conflicts, ROOM, requirements; limit).map(|it| it.text)
+    asked!(reqs_conflicts, room_for_rows(requirements, 1), requirements; limit).map(|it| it.text)
 }
 
 pub(crate) fn normal(requirements: &[u8]) -> Result<String, Refused> {
-    asked!(reqs_normal, ROOM + requirements.len(), requirements).map(|it| it.text)
+    asked!(reqs_normal, room_for_rows(requirements, 1), requirements).map(|it| it.text)
+}
+
+#[cfg(test)]
+mod tests {
+    use super::*;
+    use std::cell::Cell;
+
+    thread_local! {
+        /// How often this thread's calls were made again, for want of room.
+        pub(super) static ASKED_AGAIN: Cell<usize> = const { Cell::new(0) };
+    }
+
+    const ENVIRONMENT: &str = r#"{"implementation_name": "cpython", "implementation_version": "3.11.7", "os_name": "posix",
+        "platform_machine": "x86_64", "platform_python_implementation": "CPython", "platform_release": "6.1",
+        "platform_system": "Linux", "platform_version": "", "python_full_version": "3.11.7",
+        "python_version": "3.11", "sys_platform": "linux"}"#;
+
+    /// How many answers of some calls didn't fit the room that they were given first.
+    fn asked_again(ask: impl FnOnce()) -> usize {
+        let before = ASKED_AGAIN.with(Cell::get);
+        ask();
+        ASKED_AGAIN.with(Cell::get) - before
+    }
+
+    #[test]
+    fn a_long_answer_is_asked_again() {
+        let (text, short) = ("1.0-rc.1", 3);
+        let again = asked_again(|| {
+            let answer = asked!(reqs_version, short, text).unwrap();
+            assert_eq!(answer.text, "1.0rc1");
+        });
+        assert_eq!(again, 1);
+    }
+
+    #[test]
+    fn versions_are_matched_once() {
+        let versions: String = (0..1000).map(|it| format!("{it}\n")).collect();
+        let again = asked_again(|| {
+            let marks = specifiers_take("<10", &versions).unwrap();
+            assert_eq!(marks, "1".repeat(10) + &"0".repeat(990));
+        });
+        assert_eq!(again, 0);
+    }
+
+    #[test]
+    fn lists_are_answered_once() {
+        let lines: String = (0..100)
+            .map(|it| format!("foo{it}>=2\nfoo{it}<1\n"))
+            .collect();
+        let environments = format!("[{}]", vec![ENVIRONMENT; 40].join(","));
+        let lists = [lines.as_bytes(), environments.as_bytes(), b"foo1 1\n"];
+        let again = asked_again(|| {
+            assert_eq!(conflicts(lists[0], 4096).unwrap().lines().count(), 100);
+            let rows = matrix(lists, &[], 4096).unwrap();
+            assert_eq!(rows.lines().count(), 40 * 101);
+        });
+        assert_eq!(again, 0);
+    }
+
+    #[test]
+    fn long_texts_are_read_once() {
+        let long = "a".repeat(1000);
+        let again = asked_again(|| {
+            assert!(marker(&format!("os_name == '{long}'")).is_ok());
+            assert!(requirement(&format!("foo @ https://example.org/{long}")).is_ok());
+            assert!(specifiers(&format!(">=1+{long}")).is_err());
+            assert!(specifiers(&format!("==1+{long}")).is_ok());
+        });
+        assert_eq!(again, 0);
+    }
+
+    fn lists_in(environment: &str) -> [&[u8]; 3] {
+        [b"foo\n", environment.as_bytes(), b"foo 1\n"]
+    }
+
+    #[test]
+    fn extras_are_names() {
+        let environments = format!("[{ENVIRONMENT}]");
+        for extra in ["dev-", "", "dev\ntest", "dev\n"] {
+            let extras = ["good", extra];
+            let refused = |input| Refused {
+                message: format!("extra {extra} is no name"),
+                input,
+                line: 0,
+                start: 0,
+                len: 0,
+            };
+            let checked = check(lists_in(ENVIRONMENT), &extras);
+            assert_eq!(checked, Err(refused(EXTRAS_OF_LISTS)));
+            let tabled = matrix(lists_in(&environments), &extras, 4096);
+            assert_eq!(tabled, Err(refused(EXTRAS_OF_LISTS)));
+            let held = markers_hold("os_name == 'posix'", ENVIRONMENT, &extras);
+            assert_eq!(held, Err(refused(EXTRAS_OF_MARKERS)));
+        }
+    }
 }

@@ -25,16 +25,19 @@ pub struct VersionSpecifiers {
 
 impl VersionSpecifiers {
     /// The members' normal texts.
+    #[must_use]
     pub fn members(&self) -> &[String] {
         &self.members
     }
 
     /// Whether all members match the version. A pre-release is a version as any other.
+    #[must_use]
     pub fn contains(&self, version: &Version) -> bool {
         self.marks(&format!("{version}\n")) == "1"
     }
 
     /// The same of each version, by one call.
+    #[must_use]
     pub fn contains_each(&self, versions: &[Version]) -> Vec<bool> {
         let lines: String = versions.iter().map(|it| format!("{it}\n")).collect();
         self.marks(&lines)

@@ -26,11 +26,13 @@ pub struct Version {
 
 impl Version {
     /// The normal text.
+    #[must_use]
     pub fn as_str(&self) -> &str {
         &self.text
     }
 
     /// Bytes in whose order versions stand: those of two versions compare as the versions do, and are equal where these are.
+    #[must_use]
     pub fn key(&self) -> &[u8] {
         &self.key
     }
