@@ -5,5 +5,5 @@ use Rattle.reqtable_conflicts.proofs.contradicting.is_conflict.Goals as goal
 
 pub returns-then-not-is_empty : goal.returns-then-not-is_empty
 returns-then-not-is_empty c =
-    has_none (case_record c.args.case.now) c.in-Some.range c.holds_nothing-then-not-is_empty.result
-    (search rules) (search rules) c.holds_nothing-then-not-is_empty.ensures
+    has_none (case_record c.args.case.now) c.in-Some.range c.holds_nothing.result
+    (search rules) (search rules) c.holds_nothing.ensures
