@@ -1,5 +1,6 @@
 -- Lines that say the same stand for lines that mean the same.
-use Rattle.std.proofs.Common.{◌≡◌, ◌∙◌, ◌⊎◌, ◌<◌, inl, inr, ℕ, zero, Bor, Bool, true, false, cond, List, [], ◌∷◌, map, filter, length, suc}
+use Rattle.std.proofs.Common.{◌≡◌, ◌∙◌, ◌⊎◌, ◌<◌, inl, inr, ℕ, zero, Bor, Bool, true, false, cond, List, []}
+use Rattle.std.proofs.Common.{◌∷◌, map, filter, length, suc}
 use Rattle.std.proofs.Common.{Option, Some, None, get_or, refl, sym, ap, subst, arith}
 use Rattle.std.specs.List.{list_any, list_all, AllZip, AllByRecursion}
 use Rattle.pep440_specifier.specs.Matching.{SpecifierRecord}

@@ -4,7 +4,8 @@ use Rattle.std.specs.Str.{bytes_eq}
 use Rattle.reqtable_compare.specs.Settled.{AreSettled, lines_at}
 use Rattle.reqtable_compare.proofs.Opening.{texts, Rise, rise_kept, rise_passed, kept, passed}
 use Rattle.reqtable_compare.proofs.settled.open_among.Goals as goal
-use Rattle.reqtable_compare.proofs.settled.open_among.Goals.{then-not-is_settled+in_ok-push, else-not-is_settled}
+use Rattle.reqtable_compare.proofs.settled.open_among.Goals.{then-not-is_settled+in_ok-push}
+use Rattle.reqtable_compare.proofs.settled.open_among.Goals.{else-not-is_settled}
 
 pub loop-name-preserved : goal.loop-name-preserved
 loop-name-preserved c =

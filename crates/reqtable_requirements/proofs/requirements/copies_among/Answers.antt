@@ -3,7 +3,8 @@ use Rattle.std.specs.List.{AllZip}
 use Rattle.reqtable_requirements.specs.Copies.{IsLineCopy, lines_among}
 use Rattle.reqtable_requirements.proofs.Among.{copied_one, passed_one}
 use Rattle.reqtable_requirements.proofs.requirements.copies_among.Goals as goal
-use Rattle.reqtable_requirements.proofs.requirements.copies_among.Goals.{then-is_among+in_ok-try_clone+in_ok-push, else-is_among}
+use Rattle.reqtable_requirements.proofs.requirements.copies_among.Goals.{then-is_among+in_ok-try_clone+in_ok-push}
+use Rattle.reqtable_requirements.proofs.requirements.copies_among.Goals.{else-is_among}
 
 pub loop-line-preserved : goal.loop-line-preserved
 loop-line-preserved c =
