@@ -46,7 +46,7 @@ def parser() -> argparse.ArgumentParser:
     it = add(commands, "same", "print whether two lists require the same everywhere, or where they first differ", limit=True)
     it.add_argument("left", metavar="OLD", help="a list")
     it.add_argument("right", metavar="NEW", help="another list")
-    it = add(commands, "conflicts", "print the lines of a list that contradict each other in some environment", limit=True)
+    it = add(commands, "conflicts", "print the lines of a list that contradict each other where they apply together", limit=True)
     it.add_argument("requirements", metavar="FILE", help="the list")
     it = add(commands, "normal", "print a list in its one normal form")
     it.add_argument("requirements", metavar="FILE", help="the list")

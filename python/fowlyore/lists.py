@@ -317,7 +317,7 @@ def texts_of(answer: str) -> List[str]:
 
 
 def same(left: Requirements, right: Requirements, limit: int = LIMIT) -> Comparison:
-    """Whether two lists require the same of every package in every environment, and else where they first differ.
+    """Whether two lists require the same of every package, whatever their markers come to, and else where they first differ.
 
     >>> bool(same("foo>=1,<2", ["foo<2.0", "foo>=1"]))
     True
@@ -330,7 +330,7 @@ def same(left: Requirements, right: Requirements, limit: int = LIMIT) -> Compari
 
 
 def conflicts(requirements: Requirements, limit: int = LIMIT) -> List[Conflict]:
-    """The lines of a list that contradict each other in some environment.
+    """The lines of a list that contradict each other where they apply together.
 
     >>> conflicts(["numpy>=1.26", "numpy<1.26 ; sys_platform == 'win32'"])
     [Conflict(name='numpy', lines=(1, 2), names_prerelease=False)]

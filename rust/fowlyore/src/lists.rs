@@ -8,7 +8,7 @@ pub const LIMIT: u64 = 4096;
 /// What two lists require.
 #[derive(Clone, Debug, PartialEq, Eq, Hash)]
 pub enum Same {
-    /// The same of every package, in every environment with any extras.
+    /// The same of every package, whatever the markers come to.
     Yes,
     /// Different things: the first package by name that differs, and a marker that holds just where the first difference is,
     /// or `all environments`.
