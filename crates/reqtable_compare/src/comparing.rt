@@ -38,8 +38,8 @@ struct Place {
     meeting: Meeting,
 }
 
-/// Whether two lists require the same of each package under each valuation of markers: the package or not, the
-/// same extras of it, the same points in the ranges of all its specifiers (PEP 440, "Version
+/// Whether two lists require the same of each package under each valuation of markers: the package or not,
+/// the same extras of it, the same points in the ranges of all its specifiers (PEP 440, "Version
 /// specifiers"), also where no version lies between two, and whether any of these specifiers has a
 /// pre-release or developmental release (PEP 440, "Handling of pre-releases"). If not, the first package that
 /// differs, and the marker of the first pair of its cases that do.
