@@ -49,13 +49,13 @@ struct Place {
 /// one of the lists, whatever differs before it. Both lists must have been read with this interner.
 ///
 /// A package of which both lists have equal lines, in whatever order, is settled by these: the same extras,
-/// specifiers of the same operators and numbers, and equal markers. No case of it is made, where n lines of it
-/// can't have more cases than the limit, 2^n <= limit, in either list. n lines take O(n log n) comparisons of
-/// names, and a package with k and m of them at most 2 * k * m comparisons of lines.
+/// specifiers of the same operators and numbers, and equal markers. No case of it is made, where n lines of
+/// it can't have more cases than the limit, 2^n <= limit, in either list. n lines take O(n log n) comparisons
+/// of names, and a package with k and m of them at most 2 * k * m comparisons of lines.
 ///
-/// Of the lines of all other packages tables are made, of a copy, as `Table::build` does: so cases are counted
-/// in either list. A package with k and m cases takes at most k * m comparisons of what two cases require, and
-/// k where each case of it stands in both lists and requires the same there.
+/// Of the lines of all other packages tables are made, of a copy, as `Table::build` does: so cases are
+/// counted in either list. A package with k and m cases takes at most k * m comparisons of what two cases
+/// require, and k where each case of it stands in both lists and requires the same there.
 pub fn same<'a>(
     alloc: Global,
     left: &'a Requirements,

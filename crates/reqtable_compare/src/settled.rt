@@ -21,8 +21,8 @@ use std::collections::BTreeMap;
 type Groups<'a> = BTreeMap<&'a str, Vec<&'a Line>>;
 
 /// The names of the packages that have to be compared by their cases, each once and in the order of their
-/// bytes. The others are settled: both lists have equal lines of them, and so few that no sets of these can be
-/// more than the limit.
+/// bytes. The others are settled: both lists have equal lines of them, and so few that no sets of these can
+/// be more than the limit.
 ///
 /// n lines take O(n log n) comparisons of names. Of a package with k and m lines at most 2 * k * m pairs of
 /// lines are compared, and none where 2^k or 2^m is more than the limit.
