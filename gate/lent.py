@@ -24,7 +24,7 @@ LENT = {
     "uncounted_conjunction": ("pep508_tree", BORROWERS),
     "conjunction_of_all": ("pep508_conjunctions", ("pep508_marker_read",)),
     "copied_requirements": ("reqtable_requirements", ("reqtable_conflicts", "reqs_tests")),
-    "table_of_lent": ("reqtable_conflicts", ("reqtable_compare",)),
+    "copied_packages": ("reqtable_requirements", ("reqtable_compare",)),
 }
 PASSED_ON = re.compile(r"\bpub use ([^;]+);")
 

@@ -1,5 +1,8 @@
 -- A fault stands where only ASCII bytes were read, so that the text may be cut there.
-use Rattle.std.proofs.Common.{◌≡◌, ℕ, ◌+◌, ◌-◌, ◌<◌, ◌≤◌, ◌^◌, zero, suc, Bool, true, false, cond, eqb, nat_lt, length, drop, List, [], ◌∷◌, ◌++◌, Option, Some, None, unwrap_or, Result, Ok, Err, if◌then◌else◌, refl, ap, sym, subst, ◌∙◌, append_assoc, length-append, arith}
+use Rattle.std.proofs.Common.{◌≡◌, ℕ, ◌+◌, ◌-◌, ◌<◌, ◌≤◌, ◌^◌, zero, suc, Bool, true, false, cond, eqb}
+use Rattle.std.proofs.Common.{nat_lt, length, drop, List, [], ◌∷◌, ◌++◌, Option, Some, None, unwrap_or}
+use Rattle.std.proofs.Common.{Result, Ok, Err, if◌then◌else◌, refl, ap, sym, subst, ◌∙◌, append_assoc}
+use Rattle.std.proofs.Common.{length-append, arith}
 use Rattle.std.proofs.lemmas.Bool.{and_parts}
 use Rattle.std.proofs.lemmas.Bool.Decides.{nat_tests}
 use Rattle.std.proofs.lemmas.Str.{IsUtf8-drop, IsCharBoundary-after_ascii, IsCharBoundary-at_seam}
@@ -13,7 +16,14 @@ use Rattle.pep440_text.specs.declared.TextFault.{TextFault}
 use Rattle.pep440_text.specs.Record.{Segment, PatternRecord, epoch_record}
 use Rattle.pep440_text.specs.Text.{is_separator, pre_words, post_words, dev_words}
 use Rattle.pep440_text.specs.Faults.{StandsIn}
-use Rattle.pep440_text.specs.Reading.{◌>>=◌, at_left, after_white, after_v, after_separator, leading_digits, behind_digits, number_of, number_at, or_none, marked_number_at, epoch_by, epoch_at, with_front, more_numbers, numbers_at, release_by, release_at, head_at, behind_word, or_word, word_at, suffix_by, suffix_at, pre_at, plain_suffix_at, post_by, post_at, dev_at, segment_by, segment_at, more_segments, segments_at, local_at, end_by, end_at, suffixed, is_star, version_behind, read_version, pattern_behind, read_pattern}
+use Rattle.pep440_text.specs.Reading.{◌>>=◌, at_left, after_white, after_v, after_separator, leading_digits}
+use Rattle.pep440_text.specs.Reading.{behind_digits, number_of, number_at, or_none, marked_number_at}
+use Rattle.pep440_text.specs.Reading.{epoch_by, epoch_at, with_front, more_numbers, numbers_at, release_by}
+use Rattle.pep440_text.specs.Reading.{release_at, head_at, behind_word, or_word, word_at, suffix_by}
+use Rattle.pep440_text.specs.Reading.{suffix_at, pre_at, plain_suffix_at, post_by, post_at, dev_at}
+use Rattle.pep440_text.specs.Reading.{segment_by, segment_at, more_segments, segments_at, local_at, end_by}
+use Rattle.pep440_text.specs.Reading.{end_at, suffixed, is_star, version_behind, read_version, pattern_behind}
+use Rattle.pep440_text.specs.Reading.{read_pattern}
 
 -- what is left of a text behind ASCII bytes
 pub record Past (text rest : List ℕ) : Type 0 where

@@ -1,5 +1,6 @@
 -- Where a release has begun, nothing behind it is refused for want of a number.
-use Rattle.std.proofs.Common.{◌≡◌, ◌≢◌, ℕ, ◌^◌, zero, suc, Bool, true, false, eqb, nat_lt, length, List, [], ◌∷◌, Option, Some, None, Result, Ok, Err, if◌then◌else◌, ap, sym, subst}
+use Rattle.std.proofs.Common.{◌≡◌, ◌≢◌, ℕ, ◌^◌, zero, suc, Bool, true, false, eqb, nat_lt, length, List, []}
+use Rattle.std.proofs.Common.{◌∷◌, Option, Some, None, Result, Ok, Err, if◌then◌else◌, ap, sym, subst}
 use Rattle.std.specs.Char.{is_ascii_alphanumeric}
 use Rattle.std.specs.List.{take_while}
 use Rattle.std.specs.Str.Parse.{digits_value}
@@ -8,7 +9,13 @@ use Rattle.pep440_text.specs.declared.TextFault.{TextFault}
 use Rattle.pep440_text.specs.Record.{Segment, PatternRecord, epoch_record}
 use Rattle.pep440_text.specs.Text.{is_separator, pre_words, post_words, dev_words}
 use Rattle.pep440_text.specs.Faults.{HasNumber}
-use Rattle.pep440_text.specs.Reading.{◌>>=◌, at_left, after_white, after_separator, leading_digits, number_of, number_at, or_none, marked_number_at, with_front, more_numbers, numbers_at, release_by, release_at, head_at, word_at, suffix_by, suffix_at, pre_at, plain_suffix_at, post_by, post_at, dev_at, segment_by, segment_at, more_segments, segments_at, local_at, end_by, end_at, suffixed, is_star, version_behind, read_version, pattern_behind, read_pattern}
+use Rattle.pep440_text.specs.Reading.{◌>>=◌, at_left, after_white, after_separator, leading_digits, number_of}
+use Rattle.pep440_text.specs.Reading.{number_at, or_none, marked_number_at, with_front, more_numbers}
+use Rattle.pep440_text.specs.Reading.{numbers_at, release_by, release_at, head_at, word_at, suffix_by}
+use Rattle.pep440_text.specs.Reading.{suffix_at, pre_at, plain_suffix_at, post_by, post_at, dev_at}
+use Rattle.pep440_text.specs.Reading.{segment_by, segment_at, more_segments, segments_at, local_at, end_by}
+use Rattle.pep440_text.specs.Reading.{end_at, suffixed, is_star, version_behind, read_version, pattern_behind}
+use Rattle.pep440_text.specs.Reading.{read_pattern}
 
 -- a reading that finds no fault, or another one
 abbrev GoesOn : {A : Type 0} → Result A TextFault → Type 0

@@ -1,5 +1,7 @@
 -- The digits at the front of a text, and the parts that are a number, with a byte before it or behind it.
-use Rattle.std.proofs.Common.{◌≡◌, ℕ, ◌<◌, ◌≤◌, ◌^◌, ◌==◌, Bool, true, false, cond, nat_lt, if◌then◌else◌, length, List, [], ◌∷◌, ◌++◌, Some, None, Result, Ok, refl, ap, sym, subst, ◌∙◌, arith, append_assoc}
+use Rattle.std.proofs.Common.{◌≡◌, ℕ, ◌<◌, ◌≤◌, ◌^◌, ◌==◌, Bool, true, false, cond, nat_lt, if◌then◌else◌}
+use Rattle.std.proofs.Common.{length, List, [], ◌∷◌, ◌++◌, Some, None, Result, Ok, refl, ap, sym, subst, ◌∙◌}
+use Rattle.std.proofs.Common.{arith, append_assoc}
 use Rattle.std.proofs.lemmas.Bool.Decides.{nat_tests}
 use Rattle.std.proofs.lemmas.List.{append_cancel_right}
 use Rattle.std.specs.Prelude.{codes}
@@ -8,7 +10,8 @@ use Rattle.std.specs.Str.Parse.{AllDigits, digits_value}
 use Rattle.pep440_text.specs.declared.TextFault.{TextFault}
 use Rattle.pep440_text.specs.declared.FaultKind.TheVariants.{NumberTooBig}
 use Rattle.pep440_text.specs.Text.{Front, HasNoFront, IsNumber, IsEpoch, IsMarkedNumber}
-use Rattle.pep440_text.specs.Reading.{◌>>=◌, at_left, leading_digits, behind_digits, number_of, number_at, or_none, marked_number_at, epoch_by, epoch_at}
+use Rattle.pep440_text.specs.Reading.{◌>>=◌, at_left, leading_digits, behind_digits, number_of, number_at}
+use Rattle.pep440_text.specs.Reading.{or_none, marked_number_at, epoch_by, epoch_at}
 use Rattle.pep440_text.proofs.Fronts.{Ends, Whole, Broken, Reads, Absent, Present, Single}
 
 -- 64 bits hold it

@@ -1,5 +1,6 @@
 -- A part at the front of a text: a reading that finds the longest one, or that there is none, agrees with the grammar both ways.
-use Rattle.std.proofs.Common.{◌≡◌, ℕ, length, List, [], ◌∷◌, ◌++◌, Option, Some, None, Result, Ok, Err, refl, ap, sym, subst, ◌∙◌, arith}
+use Rattle.std.proofs.Common.{◌≡◌, ℕ, length, List, [], ◌∷◌, ◌++◌, Option, Some, None, Result, Ok, Err, refl}
+use Rattle.std.proofs.Common.{ap, sym, subst, ◌∙◌, arith}
 use Rattle.std.specs.Prelude.{IfSome}
 use Rattle.pep440_text.specs.declared.TextFault.{TextFault}
 use Rattle.pep440_text.specs.Text.{Front, HasNoFront, Optional}

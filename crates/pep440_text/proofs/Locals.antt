@@ -1,5 +1,7 @@
 -- White space, and the local part: what is read is in the grammar, and what is in the grammar is read.
-use Rattle.std.proofs.Common.{◌≡◌, ℕ, zero, suc, ◌<◌, ◌≤◌, ◌==◌, Bool, true, false, if◌then◌else◌, length, List, [], ◌∷◌, ◌++◌, Result, Ok, refl, ap, sym, subst, ◌∙◌, arith, length-append, append_assoc}
+use Rattle.std.proofs.Common.{◌≡◌, ℕ, zero, suc, ◌<◌, ◌≤◌, ◌==◌, Bool, true, false, if◌then◌else◌, length}
+use Rattle.std.proofs.Common.{List, [], ◌∷◌, ◌++◌, Result, Ok, refl, ap, sym, subst, ◌∙◌, arith}
+use Rattle.std.proofs.Common.{length-append, append_assoc}
 use Rattle.std.proofs.lemmas.Bool.Decides.{nat_tests}
 use Rattle.std.proofs.lemmas.List.{append-nil}
 use Rattle.std.specs.Prelude.{IsTrue}
@@ -7,8 +9,10 @@ use Rattle.std.specs.Char.{is_ascii_whitespace, is_ascii_alphanumeric}
 use Rattle.std.specs.List.{take_while}
 use Rattle.pep440_text.specs.declared.TextFault.{TextFault}
 use Rattle.pep440_text.specs.Record.{Segment}
-use Rattle.pep440_text.specs.Text.{AreWhite, is_separator, segment_said, IsSegment, AreSegments, IsLocalOrNone}
-use Rattle.pep440_text.specs.Reading.{◌>>=◌, after_white, with_front, segment_by, segment_at, more_segments, segments_at, local_by, local_at, end_by, end_at}
+use Rattle.pep440_text.specs.Text.{AreWhite, is_separator, segment_said, IsSegment, AreSegments}
+use Rattle.pep440_text.specs.Text.{IsLocalOrNone}
+use Rattle.pep440_text.specs.Reading.{◌>>=◌, after_white, with_front, segment_by, segment_at, more_segments}
+use Rattle.pep440_text.specs.Reading.{segments_at, local_by, local_at, end_by, end_at}
 use Rattle.pep440_text.proofs.Fronts.{value_or, good, same_value, ok_inside}
 use Rattle.pep440_text.proofs.FrontDigits.{this_byte}
 use Rattle.pep440_text.proofs.Spans.{behind, Passes, Stops, span_split, span_passes, span_again}

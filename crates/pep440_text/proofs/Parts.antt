@@ -1,17 +1,21 @@
 -- Pre-release, post-release and developmental release: suffixes, and of the post-release also `-` and a number.
-use Rattle.std.proofs.Common.{◌≡◌, ℕ, ◌<◌, ◌≤◌, inl, inr, length, List, [], ◌∷◌, ◌++◌, Option, Some, option_map, Result, Ok, refl, ap, sym, subst, ◌∙◌, arith}
+use Rattle.std.proofs.Common.{◌≡◌, ℕ, ◌<◌, ◌≤◌, inl, inr, length, List, [], ◌∷◌, ◌++◌, Option, Some}
+use Rattle.std.proofs.Common.{option_map, Result, Ok, refl, ap, sym, subst, ◌∙◌, arith}
 use Rattle.std.proofs.lemmas.List.{append-nil}
 use Rattle.std.specs.Char.{digit_value}
 use Rattle.std.specs.Str.Parse.{AllDigits}
 use Rattle.pep440_text.specs.declared.TextFault.{TextFault}
 use Rattle.pep440_text.specs.declared.Prerelease.{Prerelease}
 use Rattle.pep440_text.specs.declared.PrereleaseKind.{PrereleaseKind}
-use Rattle.pep440_text.specs.Text.{Front, HasNoFront, IsMarkedNumber, IsSuffix, IsPre, IsPost, IsDev, pre_words, post_words, dev_words}
-use Rattle.pep440_text.specs.Reading.{◌>>=◌, after_separator, marked_number_at, suffix_at, plain_suffix_at, pre_at, post_by, post_at, dev_at}
+use Rattle.pep440_text.specs.Text.{Front, HasNoFront, IsMarkedNumber, IsSuffix, IsPre, IsPost, IsDev}
+use Rattle.pep440_text.specs.Text.{pre_words, post_words, dev_words}
+use Rattle.pep440_text.specs.Reading.{◌>>=◌, after_separator, marked_number_at, suffix_at, plain_suffix_at}
+use Rattle.pep440_text.specs.Reading.{pre_at, post_by, post_at, dev_at}
 use Rattle.pep440_text.proofs.Fronts.{Ends, Whole, Broken, Reads, Absent, Present, Single}
 use Rattle.pep440_text.proofs.FrontDigits.{Small, ends_at, marked_reads, marked_single}
 use Rattle.pep440_text.proofs.WordTables.{AllLow, one_of_letters, pre_table, post_table, dev_table}
-use Rattle.pep440_text.proofs.SuffixTexts.{SmallSaid, suffix_inside, suffix_single, suffix_reads, digit_no_low}
+use Rattle.pep440_text.proofs.SuffixTexts.{SmallSaid, suffix_inside, suffix_single, suffix_reads}
+use Rattle.pep440_text.proofs.SuffixTexts.{digit_no_low}
 
 -- ---- the value in another form
 

@@ -1,5 +1,7 @@
 -- A printed epoch and release are read as what they print.
-use Rattle.std.proofs.Common.{◌≡◌, ℕ, zero, suc, ◌<◌, ◌≤◌, ◌==◌, Bool, true, false, if◌then◌else◌, length, map, List, [], ◌∷◌, ◌++◌, Option, Some, None, Result, Ok, refl, ap, sym, ◌∙◌, arith, length-append, append_assoc}
+use Rattle.std.proofs.Common.{◌≡◌, ℕ, zero, suc, ◌<◌, ◌≤◌, ◌==◌, Bool, true, false, if◌then◌else◌, length}
+use Rattle.std.proofs.Common.{map, List, [], ◌∷◌, ◌++◌, Option, Some, None, Result, Ok, refl, ap, sym, ◌∙◌}
+use Rattle.std.proofs.Common.{arith, length-append, append_assoc}
 use Rattle.std.proofs.lemmas.Bool.Decides.{nat_tests}
 use Rattle.std.specs.Prelude.{codes, unwrap_or}
 use Rattle.std.specs.Char.{is_ascii_whitespace, to_ascii_lowercase, digit_value}
@@ -7,7 +9,9 @@ use Rattle.std.specs.Fmt.{decimal}
 use Rattle.std.specs.Str.Parse.{AllDigits}
 use Rattle.pep440_text.specs.declared.TextFault.{TextFault}
 use Rattle.pep440_text.specs.Print.{epoch_text, release_text}
-use Rattle.pep440_text.specs.Reading.{◌>>=◌, after_white, after_v, number_of, number_at, or_none, marked_number_at, epoch_by, epoch_at, with_front, more_numbers, numbers_at, release_by, release_at, head_at}
+use Rattle.pep440_text.specs.Reading.{◌>>=◌, after_white, after_v, number_of, number_at, or_none}
+use Rattle.pep440_text.specs.Reading.{marked_number_at, epoch_by, epoch_at, with_front, more_numbers}
+use Rattle.pep440_text.specs.Reading.{numbers_at, release_by, release_at, head_at}
 use Rattle.pep440_text.proofs.FrontDigits.{Small, NoDigit, digits_again}
 use Rattle.pep440_text.proofs.Releases.{AllSmall, dotted, joined_dotted}
 use Rattle.pep440_text.proofs.Spans.{span_again}

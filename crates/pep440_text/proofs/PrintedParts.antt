@@ -1,5 +1,7 @@
 -- Printed numbers, pre-releases, post-releases and developmental releases are read as what they print.
-use Rattle.std.proofs.Common.{◌≡◌, ℕ, ◌<◌, ◌==◌, true, false, if◌then◌else◌, length, List, [], ◌∷◌, ◌++◌, Option, Some, None, Result, Ok, refl, ap, sym, subst, ◌∙◌, arith, option_map, drop}
+use Rattle.std.proofs.Common.{◌≡◌, ℕ, ◌<◌, ◌==◌, true, false, if◌then◌else◌, length, List, [], ◌∷◌, ◌++◌}
+use Rattle.std.proofs.Common.{Option, Some, None, Result, Ok, refl, ap, sym, subst, ◌∙◌, arith, option_map}
+use Rattle.std.proofs.Common.{drop}
 use Rattle.std.proofs.lemmas.Bool.Decides.{nat_tests}
 use Rattle.std.proofs.lemmas.Fmt.{decimal_is_IsNumeral}
 use Rattle.std.specs.Prelude.{codes, unwrap_or, IfSome}
@@ -13,7 +15,9 @@ use Rattle.pep440_text.specs.declared.PrereleaseKind.TheVariants.{Alpha, Beta, R
 use Rattle.pep440_text.specs.Record.{Segment}
 use Rattle.pep440_text.specs.Text.{IsNumber, pre_words, post_words, dev_words}
 use Rattle.pep440_text.specs.Print.{kind_text, prerelease_text, pre_text, numbered_text, local_text}
-use Rattle.pep440_text.specs.Reading.{◌>>=◌, after_separator, leading_digits, behind_digits, number_of, number_at, marked_number_at, behind_word, or_word, word_at, suffix_by, suffix_at, pre_at, post_at, dev_at}
+use Rattle.pep440_text.specs.Reading.{◌>>=◌, after_separator, leading_digits, behind_digits, number_of}
+use Rattle.pep440_text.specs.Reading.{number_at, marked_number_at, behind_word, or_word, word_at, suffix_by}
+use Rattle.pep440_text.specs.Reading.{suffix_at, pre_at, post_at, dev_at}
 use Rattle.pep440_text.proofs.Fronts.{Ends, Whole, Broken}
 use Rattle.pep440_text.proofs.FrontDigits.{Small, NoDigit, digits_again, number_ends, number_of_ends}
 use Rattle.pep440_text.proofs.Parts.{SmallPre, as_pre}

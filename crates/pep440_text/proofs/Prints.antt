@@ -9,7 +9,9 @@ use Rattle.pep440_text.specs.Reading.{local_at, suffixed, version_of}
 use Rattle.pep440_text.proofs.Releases.{by_recursion}
 use Rattle.pep440_text.proofs.Locals.{local_again, end_again}
 use Rattle.pep440_text.proofs.PrintedSegments.{local_printable, local_printed}
-use Rattle.pep440_text.proofs.PrintedParts.{behind_post, behind_pre, behind_release, dev_printed, post_printed, pre_printed, release_stops, no_more_numbers, no_mark}
+use Rattle.pep440_text.proofs.PrintedParts.{behind_post, behind_pre, behind_release, dev_printed}
+use Rattle.pep440_text.proofs.PrintedParts.{post_printed, pre_printed, release_stops, no_more_numbers}
+use Rattle.pep440_text.proofs.PrintedParts.{no_mark}
 use Rattle.pep440_text.proofs.PrintedHeads.{head_printed}
 use Rattle.pep440_text.proofs.Whole.{suffixed_chain, version_from, version_found}
 

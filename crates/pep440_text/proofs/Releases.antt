@@ -1,5 +1,7 @@
 -- The release: a number, and numbers behind dots as long as there are any.
-use Rattle.std.proofs.Common.{◌≡◌, ℕ, zero, suc, ◌+◌, ◌<◌, ◌≤◌, Bool, true, false, length, get_or, List, [], ◌∷◌, ◌++◌, Some, Result, Ok, Err, refl, ap, sym, subst, ◌∙◌, arith, length-append, append_assoc}
+use Rattle.std.proofs.Common.{◌≡◌, ℕ, zero, suc, ◌+◌, ◌<◌, ◌≤◌, Bool, true, false, length, get_or, List, []}
+use Rattle.std.proofs.Common.{◌∷◌, ◌++◌, Some, Result, Ok, Err, refl, ap, sym, subst, ◌∙◌, arith}
+use Rattle.std.proofs.Common.{length-append, append_assoc}
 use Rattle.std.proofs.lemmas.List.{append-nil}
 use Rattle.std.proofs.lemmas.Int.Digits.{digits_push}
 use Rattle.std.specs.Char.{is_ascii_digit}
@@ -8,9 +10,13 @@ use Rattle.std.specs.Str.Parse.{AllDigits, digits_value}
 use Rattle.pep440_text.specs.declared.TextFault.{TextFault}
 use Rattle.pep440_text.specs.declared.FaultKind.TheVariants.{NoLeadingNumber}
 use Rattle.pep440_text.specs.Text.{Front, HasNoFront, IsNumber, IsRelease, IsMarkedNumber}
-use Rattle.pep440_text.specs.Reading.{◌>>=◌, leading_digits, behind_digits, number_at, marked_number_at, with_front, more_numbers, numbers_at, release_by, release_at}
-use Rattle.pep440_text.proofs.Fronts.{Ends, Whole, Broken, Reads, Absent, Present, Single, same_value, never_both, same_front}
-use Rattle.pep440_text.proofs.FrontDigits.{Small, NoDigit, digits_split, none_behind, all_leading, digits_again, digits_most, number_single, number_none, number_ends, leading_number, no_number, marked_reads, digit_below}
+use Rattle.pep440_text.specs.Reading.{◌>>=◌, leading_digits, behind_digits, number_at, marked_number_at}
+use Rattle.pep440_text.specs.Reading.{with_front, more_numbers, numbers_at, release_by, release_at}
+use Rattle.pep440_text.proofs.Fronts.{Ends, Whole, Broken, Reads, Absent, Present, Single, same_value}
+use Rattle.pep440_text.proofs.Fronts.{never_both, same_front}
+use Rattle.pep440_text.proofs.FrontDigits.{Small, NoDigit, digits_split, none_behind, all_leading}
+use Rattle.pep440_text.proofs.FrontDigits.{digits_again, digits_most, number_single, number_none, number_ends}
+use Rattle.pep440_text.proofs.FrontDigits.{leading_number, no_number, marked_reads, digit_below}
 
 -- ---- numbers behind dots
 

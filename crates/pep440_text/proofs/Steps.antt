@@ -1,5 +1,7 @@
 -- One more number behind a dot, and one more segment.
-use Rattle.std.proofs.Common.{◌≡◌, ℕ, suc, ◌+◌, ◌-◌, ◌<◌, Bool, true, false, if◌then◌else◌, List, [], ◌∷◌, ◌++◌, length, map, Option, Some, None, Result, Ok, Err, refl, ap, sym, ◌∙◌, append_assoc, arith}
+use Rattle.std.proofs.Common.{◌≡◌, ℕ, suc, ◌+◌, ◌-◌, ◌<◌, Bool, true, false, if◌then◌else◌, List, [], ◌∷◌}
+use Rattle.std.proofs.Common.{◌++◌, length, map, Option, Some, None, Result, Ok, Err, refl, ap, sym, ◌∙◌}
+use Rattle.std.proofs.Common.{append_assoc, arith}
 use Rattle.std.proofs.lemmas.Grind.{common_steps}
 use Rattle.std.proofs.lemmas.List.{map-append}
 use Rattle.pep440_text.specs.declared.TextFault.{TextFault}
@@ -10,7 +12,8 @@ use Rattle.pep440_text.specs.Record.{Segment, segment_of}
 use Rattle.pep440_text.specs.Text.{is_separator}
 use Rattle.read_outcome.specs.Outcome.{Tells}
 use Rattle.pep440_text.specs.Faults.{told_read}
-use Rattle.pep440_text.specs.Reading.{◌>>=◌, with_front, more_numbers, numbers_at, marked_number_at, more_segments, segments_at, segment_at}
+use Rattle.pep440_text.specs.Reading.{◌>>=◌, with_front, more_numbers, numbers_at, marked_number_at}
+use Rattle.pep440_text.specs.Reading.{more_segments, segments_at, segment_at}
 
 one_less : (n k : ℕ) → k < n → n - k ≡ suc (n - (k + 1))
 one_less n k h = omega arith

@@ -1,15 +1,21 @@
 -- A suffix: a separator or none, a word, a separator or none, a number or none.
-use Rattle.std.proofs.Common.{◌≡◌, ℕ, ◌+◌, ◌<◌, ◌≤◌, Bool, true, false, inl, inr, cond, if◌then◌else◌, length, List, [], ◌∷◌, ◌++◌, Some, Result, Ok, refl, ap, sym, subst, ◌∙◌, arith, length-append, append_assoc}
+use Rattle.std.proofs.Common.{◌≡◌, ℕ, ◌+◌, ◌<◌, ◌≤◌, Bool, true, false, inl, inr, cond, if◌then◌else◌, length}
+use Rattle.std.proofs.Common.{List, [], ◌∷◌, ◌++◌, Some, Result, Ok, refl, ap, sym, subst, ◌∙◌, arith}
+use Rattle.std.proofs.Common.{length-append, append_assoc}
 use Rattle.std.proofs.lemmas.Bool.Decides.{nat_tests}
 use Rattle.std.specs.Prelude.{unwrap_or}
 use Rattle.std.specs.Char.{to_ascii_lowercase, is_ascii_lowercase, digit_value}
 use Rattle.std.specs.Str.Parse.{AllDigits, digits_value}
 use Rattle.pep440_text.specs.declared.TextFault.{TextFault}
-use Rattle.pep440_text.specs.Text.{Front, IsNumber, IsNumberOrNone, IsSeparatorOrNone, is_separator, IsOneOf, IsSuffix}
-use Rattle.pep440_text.specs.Reading.{◌>>=◌, after_separator, leading_digits, behind_digits, number_at, word_at, suffix_by, suffix_at}
+use Rattle.pep440_text.specs.Text.{Front, IsNumber, IsNumberOrNone, IsSeparatorOrNone, is_separator, IsOneOf}
+use Rattle.pep440_text.specs.Text.{IsSuffix}
+use Rattle.pep440_text.specs.Reading.{◌>>=◌, after_separator, leading_digits, behind_digits, number_at}
+use Rattle.pep440_text.specs.Reading.{word_at, suffix_by, suffix_at}
 use Rattle.pep440_text.proofs.Fronts.{Ends, Whole, Broken, Reads, Absent, Present, Single}
-use Rattle.pep440_text.proofs.FrontDigits.{Small, digits_split, digits_most, number_single, number_none, number_ends, leading_number, ends_then}
-use Rattle.pep440_text.proofs.WordTables.{IsTable, AllLow, one_of_letters, word_single, WordReads, NoWord, HasWord, word_reads}
+use Rattle.pep440_text.proofs.FrontDigits.{Small, digits_split, digits_most, number_single, number_none}
+use Rattle.pep440_text.proofs.FrontDigits.{number_ends, leading_number, ends_then}
+use Rattle.pep440_text.proofs.WordTables.{IsTable, AllLow, one_of_letters, word_single, WordReads, NoWord}
+use Rattle.pep440_text.proofs.WordTables.{HasWord, word_reads}
 
 -- ---- separators
 

@@ -1,9 +1,11 @@
 -- White space alone.
-use Rattle.std.proofs.Common.{◌≡◌, ℕ, suc, arith, ◌+◌, Bool, true, false, cond, eqb, length, drop, Ok, List, [], ◌∷◌, refl, ap, ◌∙◌, ◌&&◌}
+use Rattle.std.proofs.Common.{◌≡◌, ℕ, suc, arith, ◌+◌, Bool, true, false, cond, eqb, length, drop, Ok, List}
+use Rattle.std.proofs.Common.{[], ◌∷◌, refl, ap, ◌∙◌, ◌&&◌}
 use Rattle.std.specs.Char.{is_ascii_whitespace}
 use Rattle.std.specs.List.{prefix_len, list_all}
 use Rattle.pep440_text.specs.Record.{epoch_record}
-use Rattle.pep440_text.specs.Reading.{after_white, suffixed, pre_at, post_at, dev_at, local_at, end_at, suffix_at, word_at, number_at, marked_number_at}
+use Rattle.pep440_text.specs.Reading.{after_white, suffixed, pre_at, post_at, dev_at, local_at, end_at}
+use Rattle.pep440_text.specs.Reading.{suffix_at, word_at, number_at, marked_number_at}
 use Rattle.pep440_text.proofs.Digits.{not_none}
 
 one_more : (n : ℕ) → 1 + n ≡ suc n

@@ -1,5 +1,6 @@
 -- Whole versions and patterns: what is read is in the grammar, and what is in the grammar is read.
-use Rattle.std.proofs.Common.{◌≡◌, ℕ, ◌==◌, ◌&&◌, Bool, true, false, cond, if◌then◌else◌, ◌↔◌, List, [], ◌∷◌, ◌++◌, Option, Some, None, Result, Ok, Err, refl, ap, sym, subst, ◌∙◌}
+use Rattle.std.proofs.Common.{◌≡◌, ℕ, ◌==◌, ◌&&◌, Bool, true, false, cond, if◌then◌else◌, ◌↔◌, List, [], ◌∷◌}
+use Rattle.std.proofs.Common.{◌++◌, Option, Some, None, Result, Ok, Err, refl, ap, sym, subst, ◌∙◌}
 use Rattle.std.specs.Prelude.{codes}
 use Rattle.std.specs.Char.{is_ascii_whitespace}
 use Rattle.std.specs.List.{list_all}
@@ -8,11 +9,15 @@ use Rattle.pep440_text.specs.declared.TextFault.{TextFault}
 use Rattle.pep440_text.specs.declared.FaultKind.TheVariants.{Wildcard, UnexpectedEnd}
 use Rattle.pep440_text.specs.Record.{VersionRecord, PatternRecord, epoch_record}
 use Rattle.pep440_text.specs.Text.{AreWhite, IsPre, IsPost, IsDev, IsVersionText, IsStarText, IsPatternText}
-use Rattle.pep440_text.specs.Reading.{◌>>=◌, at_left, head_at, pre_at, post_at, dev_at, suffix_at, word_at, marked_number_at, number_at, local_at, end_at, suffixed, is_star, version_behind, read_version, pattern_behind, read_pattern, version_of, pattern_of}
+use Rattle.pep440_text.specs.Reading.{◌>>=◌, at_left, head_at, pre_at, post_at, dev_at, suffix_at, word_at}
+use Rattle.pep440_text.specs.Reading.{marked_number_at, number_at, local_at, end_at, suffixed, is_star}
+use Rattle.pep440_text.specs.Reading.{version_behind, read_version, pattern_behind, read_pattern, version_of}
+use Rattle.pep440_text.specs.Reading.{pattern_of}
 use Rattle.pep440_text.proofs.Fronts.{ok_same, good, ok_inside, part_found, part_again}
 use Rattle.pep440_text.proofs.FrontDigits.{Small, this_byte}
 use Rattle.pep440_text.proofs.Releases.{by_index, by_recursion}
-use Rattle.pep440_text.proofs.Parts.{SmallPre, pre_single, pre_reads, post_single, post_reads, dev_single, dev_reads}
+use Rattle.pep440_text.proofs.Parts.{SmallPre, pre_single, pre_reads, post_single, post_reads, dev_single}
+use Rattle.pep440_text.proofs.Parts.{dev_reads}
 use Rattle.pep440_text.proofs.Locals.{end_found, end_again, local_found, local_again}
 use Rattle.pep440_text.proofs.WordTables.{and_both}
 use Rattle.pep440_text.proofs.Heads.{SmallHead, head_found, head_again}

@@ -9,7 +9,8 @@ use Rattle.pep440_text.specs.declared.TextFault.{TextFault}
 use Rattle.pep440_text.specs.declared.ReadError.{ReadError}
 use Rattle.pep440_text.specs.declared.ReadError.TheVariants as errors
 use Rattle.pep440_text.specs.Faults.{told_read, HasNumber, StandsIn}
-use Rattle.pep440_version.specs.VersionReading.{VersionFault, NoLeadingNumber, fault_between, fault_in, with_texts}
+use Rattle.pep440_version.specs.VersionReading.{VersionFault, NoLeadingNumber, fault_between, fault_in}
+use Rattle.pep440_version.specs.VersionReading.{with_texts}
 
 -- an error that tells the fault which the reader's error tells, in this text, tells that of the reading
 pub tells : {Y : Type 0} (text : List ℕ) (error : ReadError) (told : Option VersionFault) (read : Result Y TextFault)

@@ -1,5 +1,6 @@
 -- Zeros at the end of a release do not count, and releases compare as if padded with zeros.
-use Rattle.std.proofs.Common.{◌≡◌, ℕ, zero, suc, ◌<◌, ◌==◌, Bool, true, false, cond, List, [], ◌∷◌, ◌++◌, replicate, refl, ap, sym, ◌∙◌, arith, IsTrue}
+use Rattle.std.proofs.Common.{◌≡◌, ℕ, zero, suc, ◌<◌, ◌==◌, Bool, true, false, cond, List, [], ◌∷◌, ◌++◌}
+use Rattle.std.proofs.Common.{replicate, refl, ap, sym, ◌∙◌, arith, IsTrue}
 use Rattle.std.proofs.lemmas.Bool.Decides.{nat_tests}
 use Rattle.std.specs.declared.cmp.Ordering.{Ordering}
 use Rattle.std.specs.declared.cmp.Ordering.TheVariants.{Less, Equal, Greater}
@@ -7,7 +8,8 @@ use Rattle.std.specs.Ordering.{ordering_then, nat_cmp, is_eq}
 use Rattle.std.specs.Cmp.{nat_cmp_is, tied_itself}
 use Rattle.std.specs.Cmp.Lexicographic.{slice_cmp}
 use Rattle.pep440_text.specs.Record.{VersionRecord, with_end_zeros}
-use Rattle.pep440_version.specs.Order.{before_stripped, stripped, key_of, key_cmp, version_cmp, version_eq, beside_zeros, zeros_beside, padded_cmp}
+use Rattle.pep440_version.specs.Order.{before_stripped, stripped, key_of, key_cmp, version_cmp, version_eq}
+use Rattle.pep440_version.specs.Order.{beside_zeros, zeros_beside, padded_cmp}
 use Rattle.pep440_version.specs.OrderLaws.{version_cmp_total}
 
 zeros_stripped : (count : ℕ) → stripped (replicate count 0) ≡ []

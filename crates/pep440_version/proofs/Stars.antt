@@ -1,5 +1,6 @@
 -- A star stands behind an epoch and a release alone.
-use Rattle.std.proofs.Common.{◌≡◌, ℕ, Bool, true, false, if◌then◌else◌, List, Result, Ok, Err, refl, ap, subst}
+use Rattle.std.proofs.Common.{◌≡◌, ℕ, Bool, true, false, if◌then◌else◌, List, Result, Ok, Err, refl, ap}
+use Rattle.std.proofs.Common.{subst}
 use Rattle.pep440_text.specs.declared.TextFault.{TextFault}
 use Rattle.pep440_text.specs.Record.{VersionRecord, PatternRecord, epoch_record}
 use Rattle.pep440_text.specs.Reading.{◌>>=◌, suffixed, is_star, head_at, pattern_behind, read_pattern}

@@ -1,5 +1,7 @@
 -- Where several sets are true: branches that are joined, and truths of constant children.
-use Rattle.std.proofs.Common.{◌≡◌, inl, inr, ◌<◌, Bool, true, false, not, ◌&&◌, List, [], ◌∷◌, ◌++◌, length, map, Some, None, refl, ap, ap₂, sym, subst, ◌∙◌, arith, true≢false, Ordering, Less, cond}
+use Rattle.std.proofs.Common.{◌≡◌, inl, inr, ◌<◌, Bool, true, false, not, ◌&&◌, List, [], ◌∷◌, ◌++◌, length}
+use Rattle.std.proofs.Common.{map, Some, None, refl, ap, ap₂, sym, subst, ◌∙◌, arith, true≢false, Ordering}
+use Rattle.std.proofs.Common.{Less, cond}
 use Rattle.std.specs.Prelude.{slice_get}
 use Rattle.std.specs.Bool.{beq}
 use Rattle.std.specs.List.{AllByRecursion}
@@ -15,7 +17,8 @@ use Rattle.pep508_diagram.proofs.Branching.{before_unreached}
 use Rattle.pep508_conjunctions.specs.declared.source.Source.{Source}
 use Rattle.pep508_tree.specs.Tree.{Tree}
 use Rattle.pep508_conjunctions.specs.declared.meet.Truths.{Truths}
-use Rattle.pep508_conjunctions.specs.Meets.{both_true, met, truth_at, truth_in, truth_branch, source_truth, all_true, AreLent, IsLeaf}
+use Rattle.pep508_conjunctions.specs.Meets.{both_true, met, truth_at, truth_in, truth_branch, source_truth}
+use Rattle.pep508_conjunctions.specs.Meets.{all_true, AreLent, IsLeaf}
 
 -- ---- branches that are joined
 

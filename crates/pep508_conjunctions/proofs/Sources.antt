@@ -1,5 +1,6 @@
 -- What the nodes of trees that ask for one key alone say.
-use Rattle.std.proofs.Common.{◌≡◌, ◌+◌, ◌<◌, ℕ, length, take, get_or, Bool, true, false, not, ◌&&◌, List, [], ◌∷◌, ◌++◌, map, refl, ap, ap₂, sym, subst, ◌∙◌, arith, Ordering}
+use Rattle.std.proofs.Common.{◌≡◌, ◌+◌, ◌<◌, ℕ, length, take, get_or, Bool, true, false, not, ◌&&◌, List, []}
+use Rattle.std.proofs.Common.{◌∷◌, ◌++◌, map, refl, ap, ap₂, sym, subst, ◌∙◌, arith, Ordering}
 use Rattle.std.proofs.lemmas.List.{take_more}
 use Rattle.std.specs.List.{AllByRecursion}
 use Rattle.version_ranges.specs.Boundaries.{boundary_cmp}
@@ -27,9 +28,11 @@ use Rattle.pep508_tree.proofs.Meanings.{holds_turned}
 use Rattle.pep508_tree.proofs.Storing.{same_boundaries, signed_chosen}
 use Rattle.pep508_conjunctions.specs.declared.meet.Truths.{Truths}
 use Rattle.pep508_conjunctions.specs.declared.source.Source.{Source}
-use Rattle.pep508_conjunctions.specs.Meets.{truth_in, truth_at, all_true, source_truth, source_later, AreSame, IsLeaf}
+use Rattle.pep508_conjunctions.specs.Meets.{truth_in, truth_at, all_true, source_truth, source_later, AreSame}
+use Rattle.pep508_conjunctions.specs.Meets.{IsLeaf}
 use Rattle.pep508_conjunctions.specs.Sources.{IsSource, AreMeet, all_hold}
-use Rattle.pep508_conjunctions.proofs.Meets.{truths_at, truths_differ, all_front, all_back, halves_true, and_true}
+use Rattle.pep508_conjunctions.proofs.Meets.{truths_at, truths_differ, all_front, all_back, halves_true}
+use Rattle.pep508_conjunctions.proofs.Meets.{and_true}
 
 constant_truth : (nodes : List NodeRecord) (t : Tree) → t.place ≡ 0 → (v : Valuation) → holds nodes t v ≡ not t.negated
 constant_truth nodes t here v = ap (λ d. truth d v) (diagram_top nodes t here) ∙ flipped t.negated

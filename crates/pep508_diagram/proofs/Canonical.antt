@@ -1,10 +1,14 @@
 -- Canonical diagrams of one meaning are one diagram.
-use Rattle.std.proofs.Common.{◌≡◌, ◌↔◌, ℕ, ◌+◌, ◌≤◌, ◌<◌, zero, suc, true, false, cond, inl, inr, refl, sym, ◌∙◌, Less, Equal, arith}
+use Rattle.std.proofs.Common.{◌≡◌, ◌↔◌, ℕ, ◌+◌, ◌≤◌, ◌<◌, zero, suc, true, false, cond, inl, inr, refl, sym}
+use Rattle.std.proofs.Common.{◌∙◌, Less, Equal, arith}
 use Rattle.std.proofs.lemmas.Bool.{cases_Bool}
 use Rattle.std.proofs.lemmas.Cmp.{tied_itself}
-use Rattle.pep508_diagram.specs.Diagram.{Diagram, Leaf, Test, Asking, IsAsking, OneDiagramBy, truth_by, IsAlike, RootAbove, RootAfter, front_by, IsCanonicalBy}
-use Rattle.pep508_diagram.proofs.Alike.{three_ways, alike_truth, alike_back, alike_on, after_equal, above_equal}
-use Rattle.pep508_diagram.proofs.Moved.{skip_below, skip_at, front_where_yes, at_low, at_high, at_between, above_shared}
+use Rattle.pep508_diagram.specs.Diagram.{Diagram, Leaf, Test, Asking, IsAsking, OneDiagramBy, truth_by}
+use Rattle.pep508_diagram.specs.Diagram.{IsAlike, RootAbove, RootAfter, front_by, IsCanonicalBy}
+use Rattle.pep508_diagram.proofs.Alike.{three_ways, alike_truth, alike_back, alike_on, after_equal}
+use Rattle.pep508_diagram.proofs.Alike.{above_equal}
+use Rattle.pep508_diagram.proofs.Moved.{skip_below, skip_at, front_where_yes, at_low, at_high, at_between}
+use Rattle.pep508_diagram.proofs.Moved.{above_shared}
 
 pub size : {Q : Type 0} → Diagram Q → ℕ
 size (Leaf b) = 1

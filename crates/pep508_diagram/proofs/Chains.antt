@@ -17,13 +17,19 @@ use Rattle.pep508_diagram.specs.Diagram.{Diagram, Leaf, Test, RootAbove}
 use Rattle.pep508_diagram.specs.Branches.{RisingBranches, branch_at, AllBranches}
 use Rattle.pep508_diagram.specs.Chains.{chain}
 use Rattle.pep508_diagram.specs.Children.{RootBehind, NeighboursApart, AreSameBranches}
-use Rattle.pep508_diagram.specs.Question.{Question, VersionBelow, TextBelow, IsSet, Valuation, version_rank, text_rank, flag_place, place_of, version_boundaries, text_boundaries, question_cmp, shares_variable, answer, marker, truth, AreOne, IsCanonical}
+use Rattle.pep508_diagram.specs.Question.{Question, VersionBelow, TextBelow, IsSet, Valuation, version_rank}
+use Rattle.pep508_diagram.specs.Question.{text_rank, flag_place, place_of, version_boundaries}
+use Rattle.pep508_diagram.specs.Question.{text_boundaries, question_cmp, shares_variable, answer, marker}
+use Rattle.pep508_diagram.specs.Question.{truth, AreOne, IsCanonical}
 use Rattle.pep508_diagram.proofs.Pairing.{weaker_branches}
 use Rattle.pep508_diagram.proofs.Places.{less_from, texts_same}
 use Rattle.version_ranges.specs.HashingLaws.{then_equal}
-use Rattle.pep508_diagram.proofs.Questions.{asks, versions_order, texts_order, versions_share, texts_share, places_share, no_mixed, version_keys, text_keys, flags_shared}
-use Rattle.pep508_diagram.proofs.Keyed.{IsKey, IsAboveAll, truth_chain, canonical_test, canonical_chain, chain_one}
-pub use Rattle.pep508_diagram.proofs.Branching.{all_children, branch_at_child, branch_at_below, branch_at_own, child_point}
+use Rattle.pep508_diagram.proofs.Questions.{asks, versions_order, texts_order, versions_share, texts_share}
+use Rattle.pep508_diagram.proofs.Questions.{places_share, no_mixed, version_keys, text_keys, flags_shared}
+use Rattle.pep508_diagram.proofs.Keyed.{IsKey, IsAboveAll, truth_chain, canonical_test, canonical_chain}
+use Rattle.pep508_diagram.proofs.Keyed.{chain_one}
+pub use Rattle.pep508_diagram.proofs.Branching.{all_children, branch_at_child, branch_at_below, branch_at_own}
+pub use Rattle.pep508_diagram.proofs.Branching.{child_point}
 pub use Rattle.pep508_diagram.proofs.Turns.{turns_held, turns_rise, turns_differ}
 
 pub versions_key : (key : VersionVariable) → IsKey marker version_cmp (VersionBelow key) (λ v. v.version key)

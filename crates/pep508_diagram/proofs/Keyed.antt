@@ -1,6 +1,7 @@
 -- Branches between the places of one variable as diagrams: their truth, that they are canonical, and when two
 -- are one.
-use Rattle.std.proofs.Common.{◌≡◌, inl, inr, true, false, not, List, [], ◌∷◌, refl, sym, ap, subst, ◌∙◌, true≢false}
+use Rattle.std.proofs.Common.{◌≡◌, inl, inr, true, false, not, List, [], ◌∷◌, refl, sym, ap, subst, ◌∙◌}
+use Rattle.std.proofs.Common.{true≢false}
 use Rattle.std.proofs.lemmas.Bool.{cases_Bool}
 use Rattle.std.specs.declared.cmp.Ordering.{Ordering}
 use Rattle.version_ranges.specs.declared.boundary.Boundary.{Boundary}
@@ -10,7 +11,8 @@ use Rattle.version_ranges.specs.Turns.{reaches}
 use Rattle.pep508_diagram.specs.declared.branch.Branch.{Branch}
 use Rattle.pep508_diagram.specs.Branches.{RisingBranches, branch_at, AllBranches}
 use Rattle.pep508_diagram.specs.Chains.{chain}
-use Rattle.pep508_diagram.specs.Diagram.{Diagram, Leaf, Test, Asking, IsAsking, truth_by, IsAlike, RootAbove, RootAfter, front_by, IsCanonicalBy}
+use Rattle.pep508_diagram.specs.Diagram.{Diagram, Leaf, Test, Asking, IsAsking, truth_by, IsAlike, RootAbove}
+use Rattle.pep508_diagram.specs.Diagram.{RootAfter, front_by, IsCanonicalBy}
 use Rattle.pep508_diagram.specs.Question.{lies_below}
 use Rattle.pep508_diagram.specs.Children.{NeighboursApart, AreSameBranches}
 use Rattle.pep508_diagram.proofs.Moved.{after_above}

@@ -1,7 +1,8 @@
 -- What a canonical diagram says where one variable was moved.
 use Rattle.std.proofs.Common.{◌≡◌, true, false, cond, inl, inr, refl, ap, ◌∙◌, Less, Equal, is_lt}
 use Rattle.std.proofs.lemmas.Bool.{cases_Bool}
-use Rattle.pep508_diagram.specs.Diagram.{Diagram, Leaf, Test, Asking, IsAsking, truth_by, RootAbove, RootAfter, front_by, IsCanonicalBy}
+use Rattle.pep508_diagram.specs.Diagram.{Diagram, Leaf, Test, Asking, IsAsking, truth_by, RootAbove}
+use Rattle.pep508_diagram.specs.Diagram.{RootAfter, front_by, IsCanonicalBy}
 
 module _ {Q V : Type 0} (ask : Asking Q V) where
   -- the valuations differ in the question's variable at most

@@ -1,15 +1,26 @@
 -- The variables of questions: what two orderings joined say, and which variables have one place.
-use Rattle.std.proofs.Common.{◌≡◌, ℕ, ◌<◌, ◌==◌, true, false, cond, List, [], ◌∷◌, refl, sym, ap, ap₂, ◌∙◌, true≢false, arith, Ordering, Less, Equal, Greater, is_eq, is_lt, is_gt, nat_cmp}
+use Rattle.std.proofs.Common.{◌≡◌, ℕ, ◌<◌, ◌==◌, true, false, cond, List, [], ◌∷◌, refl, sym, ap, ap₂, ◌∙◌}
+use Rattle.std.proofs.Common.{true≢false, arith, Ordering, Less, Equal, Greater, is_eq, is_lt, is_gt, nat_cmp}
 use Rattle.std.specs.Ordering.{ordering_then, then_cmp, eq_by_cmp}
 use Rattle.version_ranges.specs.HashingLaws.{then_equal}
 use Rattle.std.specs.Cmp.{IsTotalOrder, alike_right}
 use Rattle.std.proofs.lemmas.Cmp.{ranked}
 use Rattle.pep508_marker.specs.declared.keys.MarkerValueString.{MarkerValueString}
-use Rattle.pep508_marker.specs.declared.keys.MarkerValueString.TheVariants.{ImplementationName, OsName, OsNameDeprecated, PlatformMachine, PlatformMachineDeprecated, PlatformPythonImplementation, PlatformPythonImplementationDeprecated}
-use Rattle.pep508_marker.specs.declared.keys.MarkerValueString.TheVariants.{PythonImplementationDeprecated, PlatformRelease, PlatformSystem, PlatformVersion, PlatformVersionDeprecated, SysPlatform, SysPlatformDeprecated}
+use Rattle.pep508_marker.specs.declared.keys.MarkerValueString.TheVariants.{ImplementationName, OsName}
+use Rattle.pep508_marker.specs.declared.keys.MarkerValueString.TheVariants.{OsNameDeprecated, PlatformMachine}
+use Rattle.pep508_marker.specs.declared.keys.MarkerValueString.TheVariants.{PlatformMachineDeprecated}
+use Rattle.pep508_marker.specs.declared.keys.MarkerValueString.TheVariants.{PlatformPythonImplementation}
+use Rattle.pep508_marker.specs.declared.keys.MarkerValueString.TheVariants.{PlatformPythonImplementationDeprecated}
+use Rattle.pep508_marker.specs.declared.keys.MarkerValueString.TheVariants.{PythonImplementationDeprecated}
+use Rattle.pep508_marker.specs.declared.keys.MarkerValueString.TheVariants.{PlatformRelease, PlatformSystem}
+use Rattle.pep508_marker.specs.declared.keys.MarkerValueString.TheVariants.{PlatformVersion}
+use Rattle.pep508_marker.specs.declared.keys.MarkerValueString.TheVariants.{PlatformVersionDeprecated}
+use Rattle.pep508_marker.specs.declared.keys.MarkerValueString.TheVariants.{SysPlatform}
+use Rattle.pep508_marker.specs.declared.keys.MarkerValueString.TheVariants.{SysPlatformDeprecated}
 use Rattle.pep508_marker.specs.Keys.{text_key_rank}
 use Rattle.pep508_diagram.specs.declared.variable.VersionVariable.{VersionVariable}
-use Rattle.pep508_diagram.specs.declared.variable.VersionVariable.TheVariants.{ImplementationVersion, PythonFullVersion}
+use Rattle.pep508_diagram.specs.declared.variable.VersionVariable.TheVariants.{ImplementationVersion}
+use Rattle.pep508_diagram.specs.declared.variable.VersionVariable.TheVariants.{PythonFullVersion}
 use Rattle.pep508_diagram.specs.declared.variable.Flag.{Flag}
 use Rattle.pep508_diagram.specs.declared.variable.Flag.TheVariants.{In, Contains, Extra, Arbitrary}
 use Rattle.pep508_diagram.specs.Text.{text_cmp}

@@ -1,7 +1,10 @@
 -- Questions about markers obey the laws of questions.
-use Rattle.std.proofs.Common.{◌≡◌, ℕ, ◌+◌, ◌<◌, ◌==◌, Bool, true, false, cond, not, List, [], refl, sym, ap, ◌∙◌, inl, inr, true≢false, arith, Ordering, Less, Equal, Greater, is_eq, is_lt, is_gt, nat_cmp}
+use Rattle.std.proofs.Common.{◌≡◌, ℕ, ◌+◌, ◌<◌, ◌==◌, Bool, true, false, cond, not, List, [], refl, sym, ap}
+use Rattle.std.proofs.Common.{◌∙◌, inl, inr, true≢false, arith, Ordering, Less, Equal, Greater, is_eq, is_lt}
+use Rattle.std.proofs.Common.{is_gt, nat_cmp}
 use Rattle.std.specs.Ordering.{ordering_then, ordering_reverse, then_cmp, on}
-use Rattle.std.specs.Cmp.{IsTotalOrder, unsigned_tied, unsigned_Decides, upto, then_total, on_total, tied_itself, eq_by_cmp_equiv, IsEquivalence}
+use Rattle.std.specs.Cmp.{IsTotalOrder, unsigned_tied, unsigned_Decides, upto, then_total, on_total}
+use Rattle.std.specs.Cmp.{tied_itself, eq_by_cmp_equiv, IsEquivalence}
 use Rattle.std.specs.Cmp.Lexicographic.{slice_cmp, lists_total, nat_list_cmp_total}
 use Rattle.std.proofs.lemmas.Bool.{cases_Bool}
 use Rattle.version_ranges.specs.declared.boundary.Boundary.{Boundary}
@@ -18,8 +21,13 @@ use Rattle.pep508_diagram.specs.declared.variable.VersionVariable.{VersionVariab
 use Rattle.pep508_diagram.specs.declared.variable.Flag.{Flag}
 use Rattle.pep508_diagram.specs.Text.{text_cmp}
 use Rattle.pep508_diagram.specs.Diagram.{IsAsking}
-use Rattle.pep508_diagram.specs.Question.{Question, VersionBelow, TextBelow, IsSet, Valuation, version_rank, text_rank, flag_rank, flag_text, flag_place, place_of, version_boundaries, text_boundaries, question_cmp, shares_variable, lies_below, answer, below_all, at_place, marker, OneDiagram}
-use Rattle.pep508_diagram.proofs.Places.{not_less, apart_then, equal_from, neighbours, versions_same, text_keys_same, version_rank_below, rank_below, flag_rank_from, flag_from_place}
+use Rattle.pep508_diagram.specs.Question.{Question, VersionBelow, TextBelow, IsSet, Valuation, version_rank}
+use Rattle.pep508_diagram.specs.Question.{text_rank, flag_rank, flag_text, flag_place, place_of}
+use Rattle.pep508_diagram.specs.Question.{version_boundaries, text_boundaries, question_cmp, shares_variable}
+use Rattle.pep508_diagram.specs.Question.{lies_below, answer, below_all, at_place, marker, OneDiagram}
+use Rattle.pep508_diagram.proofs.Places.{not_less, apart_then, equal_from, neighbours, versions_same}
+use Rattle.pep508_diagram.proofs.Places.{text_keys_same, version_rank_below, rank_below, flag_rank_from}
+use Rattle.pep508_diagram.proofs.Places.{flag_from_place}
 use Rattle.version_ranges.specs.HashingLaws.{then_equal}
 use Rattle.pep440_version.proofs.Stripped.{then_equal_last}
 use Rattle.pep508_diagram.proofs.Canonical.{one_diagram}

@@ -1,5 +1,6 @@
 -- A version in its shortest spelling stands where it stood.
-use Rattle.std.proofs.Common.{◌≡◌, ℕ, ◌==◌, Bool, true, false, if◌then◌else◌, List, [], ◌∷◌, Option, Some, None, map, refl, ap, sym, subst, ◌∙◌}
+use Rattle.std.proofs.Common.{◌≡◌, ℕ, ◌==◌, Bool, true, false, if◌then◌else◌, List, [], ◌∷◌, Option, Some}
+use Rattle.std.proofs.Common.{None, map, refl, ap, sym, subst, ◌∙◌}
 use Rattle.std.specs.Ordering.{ordering_then}
 use Rattle.std.specs.Cmp.{tied_itself}
 use Rattle.std.specs.Cmp.Lexicographic.{slice_cmp}
@@ -13,13 +14,15 @@ use Rattle.version_ranges.proofs.Membership.{tied_rises}
 use Rattle.pep440_text.specs.declared.Prerelease.{Prerelease}
 use Rattle.pep440_text.specs.Record.{VersionRecord}
 use Rattle.pep440_version.specs.Changes.{or_zero}
-use Rattle.pep440_version.specs.Order.{before_stripped, stripped, suffix_class, class_below, post_key, key_of, key_cmp, version_cmp}
+use Rattle.pep440_version.specs.Order.{before_stripped, stripped, suffix_class, class_below, post_key, key_of}
+use Rattle.pep440_version.specs.Order.{key_cmp, version_cmp}
 use Rattle.pep440_version.specs.OrderLaws.{version_cmp_total}
 use Rattle.pep508_diagram.specs.declared.branch.Branch.{Branch}
 use Rattle.pep508_diagram.specs.Diagram.{Diagram, Leaf, Test, turned_by}
 use Rattle.pep508_diagram.specs.Question.{Question}
 use Rattle.pep508_diagram.specs.Branches.{RisingBranches, AllBranches, NeighboursDiffer}
-use Rattle.pep508_diagram.specs.Shortened.{post_beside, shortest, shortened, shortened_branch, AllShort, HasShortVersions}
+use Rattle.pep508_diagram.specs.Shortened.{post_beside, shortest, shortened, shortened_branch, AllShort}
+use Rattle.pep508_diagram.specs.Shortened.{HasShortVersions}
 
 -- ---- releases
 

@@ -3,7 +3,8 @@
 use Rattle.std.proofs.Common.{◌≡◌, ◌≢◌, ◌⊎◌, inl, inr, true, false, refl, sym, subst, ◌∙◌}
 use Rattle.std.proofs.lemmas.Bool.{cases_Bool}
 use Rattle.std.proofs.lemmas.Cmp.{tied_itself}
-use Rattle.pep508_diagram.specs.Diagram.{Diagram, Leaf, Test, Asking, IsAsking, truth_by, IsAlike, front_by, IsCanonicalBy}
+use Rattle.pep508_diagram.specs.Diagram.{Diagram, Leaf, Test, Asking, IsAsking, truth_by, IsAlike, front_by}
+use Rattle.pep508_diagram.specs.Diagram.{IsCanonicalBy}
 use Rattle.pep508_diagram.specs.Question.{Question, Valuation, truth, IsCanonical}
 use Rattle.pep508_diagram.proofs.Moved.{front_where_yes, at_low, at_high}
 use Rattle.pep508_diagram.proofs.Questions.{asks, lowest}

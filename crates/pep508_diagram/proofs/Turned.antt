@@ -1,7 +1,8 @@
 -- Diagrams with each leaf turned, their leaves that are reached by yes alone, and diagrams of one truth.
 use Rattle.std.proofs.Common.{◌≡◌, Bool, true, false, cond, refl, sym, ap, ◌∙◌, true≢false}
 use Rattle.version_ranges.specs.Turns.{flips}
-use Rattle.pep508_diagram.specs.Diagram.{Diagram, Leaf, Test, Asking, IsAsking, truth_by, IsAlike, RootAbove, RootAfter, front_by, IsCanonicalBy, turned_by, leftmost}
+use Rattle.pep508_diagram.specs.Diagram.{Diagram, Leaf, Test, Asking, IsAsking, truth_by, IsAlike, RootAbove}
+use Rattle.pep508_diagram.specs.Diagram.{RootAfter, front_by, IsCanonicalBy, turned_by, leftmost}
 use Rattle.pep508_diagram.proofs.Canonical.{one_diagram}
 
 pub flips_twice : (t b : Bool) → flips t (flips t b) ≡ b

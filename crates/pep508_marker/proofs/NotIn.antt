@@ -1,5 +1,6 @@
 -- What follows `not`, by the words of std.
-use Rattle.std.proofs.Common.{◌≡◌, Bool, true, false, if◌then◌else◌, eqb, ℕ, List, codes, length, drop, Option, Some, None, option_copied, ap, sym, ◌∙◌}
+use Rattle.std.proofs.Common.{◌≡◌, Bool, true, false, if◌then◌else◌, eqb, ℕ, List, codes, length, drop}
+use Rattle.std.proofs.Common.{Option, Some, None, option_copied, ap, sym, ◌∙◌}
 use Rattle.std.specs.Prelude.{MatchOption, IsCharBoundary}
 use Rattle.std.specs.Borrow.{Bor}
 use Rattle.std.specs.List.{starts_with}

@@ -1,5 +1,6 @@
 -- The trees of chains, and how they are joined.
-use Rattle.std.proofs.Common.{◌≡◌, ◌==◌, length, true≢false, Bool, true, false, not, ◌&&◌, ◌||◌, List, [], ◌∷◌}
+use Rattle.std.proofs.Common.{◌≡◌, ◌==◌, length, true≢false, Bool, true, false, not, ◌&&◌, ◌||◌, List, []}
+use Rattle.std.proofs.Common.{◌∷◌}
 use Rattle.std.proofs.Common.{◌++◌, map, Some, None, refl, ap, sym, subst, ◌∙◌}
 use Rattle.std.specs.Prelude.{Option, option_map, IfSome}
 use Rattle.std.specs.List.{AllByRecursion}

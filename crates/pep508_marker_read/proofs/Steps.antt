@@ -1,5 +1,6 @@
 -- How a reading's levels change, step by step.
-use Rattle.std.proofs.Common.{◌≡◌, ℕ, zero, suc, ◌+◌, ◌<◌, ◌≤◌, ◌==◌, arith, true, false, List, [], ◌∷◌, ◌++◌, length}
+use Rattle.std.proofs.Common.{◌≡◌, ℕ, zero, suc, ◌+◌, ◌<◌, ◌≤◌, ◌==◌, arith, true, false, List, [], ◌∷◌, ◌++◌}
+use Rattle.std.proofs.Common.{length}
 use Rattle.std.proofs.Common.{Some, None, Ok, refl, ap, sym, subst, ◌∙◌, append_assoc, reverse}
 use Rattle.std.specs.Prelude.{Option, IfSome, map, option_map}
 use Rattle.std.proofs.lemmas.List.{reverse-append, length-reverse, append-nil}
@@ -25,15 +26,20 @@ use Rattle.pep508_marker_read.specs.declared.levels.Level.{Level}
 use Rattle.pep508_marker_read.specs.declared.levels.Levels.{Levels}
 use Rattle.pep508_marker_read.specs.MarkerReading.{Marker, Connective, And, Or, is_next, behind_run}
 use Rattle.pep508_marker_read.specs.MarkerReading.{comparison_at, closed, part_of}
-use Rattle.pep508_marker_read.specs.TreeReading.{inner_at, piece_at, chain_at, chain_truth, listed, IsPartTree}
+use Rattle.pep508_marker_read.specs.TreeReading.{inner_at, piece_at, chain_at, chain_truth, listed}
+use Rattle.pep508_marker_read.specs.TreeReading.{IsPartTree}
 use Rattle.pep508_marker_read.specs.Levels.{Begun, Standing, warned_in, waiting_warned, join_on}
-use Rattle.pep508_marker_read.specs.Levels.{all_on, waiting_on, further_at, AreTreesOf, IsBegun, AreBegun, Stands}
-use Rattle.pep508_marker_read.specs.Levels.{Opens, Closes, EndsChain, IsAtPart, IsBehindPart, IsBehindFormula, IsAtEnd}
+use Rattle.pep508_marker_read.specs.Levels.{all_on, waiting_on, further_at, AreTreesOf, IsBegun, AreBegun}
+use Rattle.pep508_marker_read.specs.Levels.{Stands}
+use Rattle.pep508_marker_read.specs.Levels.{Opens, Closes, EndsChain, IsAtPart, IsBehindPart, IsBehindFormula}
+use Rattle.pep508_marker_read.specs.Levels.{IsAtEnd}
 use Rattle.pep508_marker_read.specs.Levels.{IsStep, WarnsAndStepsTo}
 use Rattle.pep508_marker_read.proofs.Kept.{run_length, skipped_length}
 use Rattle.pep508_marker_read.proofs.ChainTrees.{none_said, trees_kept, next_tree, joined_tree}
-use Rattle.pep508_marker_read.proofs.Chains.{nothing, both_said, either_said, all_begins, opened, too_deep, part_other}
-use Rattle.pep508_marker_read.proofs.Chains.{goes_both, chain_over, goes_either, formula_over, closes, tells_on, behind_on}
+use Rattle.pep508_marker_read.proofs.Chains.{nothing, both_said, either_said, all_begins, opened, too_deep}
+use Rattle.pep508_marker_read.proofs.Chains.{part_other}
+use Rattle.pep508_marker_read.proofs.Chains.{goes_both, chain_over, goes_either, formula_over, closes}
+use Rattle.pep508_marker_read.proofs.Chains.{tells_on, behind_on}
 
 -- ---- levels
 

@@ -1,11 +1,13 @@
 -- Normal names.
-use Rattle.std.proofs.Common.{◌≡◌, ◌↔◌, ℕ, IsTrue, inl, inr, Bool, true, false, List, [], ◌∷◌, Option, Some, None, option_map, refl, ap, sym, ◌∙◌, arith}
+use Rattle.std.proofs.Common.{◌≡◌, ◌↔◌, ℕ, IsTrue, inl, inr, Bool, true, false, List, [], ◌∷◌, Option, Some}
+use Rattle.std.proofs.Common.{None, option_map, refl, ap, sym, ◌∙◌, arith}
 use Rattle.std.proofs.lemmas.Bool.Decides.{nat_tests}
 use Rattle.std.proofs.lemmas.Slice.Eq.{bytes_eq-Decides}
 use Rattle.std.proofs.lemmas.Str.Ascii.{lowercase-lowercase}
 use Rattle.std.specs.Char.{to_ascii_lowercase}
 use Rattle.pep508_name.specs.Name.{is_alphanumeric, is_separator, is_name, normal_name, name_of, name_eq}
-use Rattle.pep508_name.proofs.Walk.{with_byte, behind, written, two, behind_separator, behind_letter, behind_none}
+use Rattle.pep508_name.proofs.Walk.{with_byte, behind, written, two, behind_separator, behind_letter}
+use Rattle.pep508_name.proofs.Walk.{behind_none}
 use Rattle.pep508_name.proofs.Parts.{name_of-empty, name_of-refused, name_of-begun, named}
 
 lowercase_letter : (b : ℕ) → is_alphanumeric b ≡ true → is_alphanumeric (to_ascii_lowercase b) ≡ true

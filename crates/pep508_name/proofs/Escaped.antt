@@ -1,5 +1,6 @@
 -- Names with `_` for each `-`.
-use Rattle.std.proofs.Common.{◌≡◌, ℕ, ◌<◌, ◌==◌, ◌&&◌, ◌||◌, Bool, true, false, if◌then◌else◌, List, [], ◌∷◌, map, Some, None, refl, ap, ◌∙◌, inl, inr, arith}
+use Rattle.std.proofs.Common.{◌≡◌, ℕ, ◌<◌, ◌==◌, ◌&&◌, ◌||◌, Bool, true, false, if◌then◌else◌, List, [], ◌∷◌}
+use Rattle.std.proofs.Common.{map, Some, None, refl, ap, ◌∙◌, inl, inr, arith}
 use Rattle.std.specs.Prelude.{encode_utf8_all}
 use Rattle.std.specs.List.{list_all, list_any, All}
 use Rattle.std.specs.Str.{IsAscii, chars}
@@ -7,7 +8,8 @@ use Rattle.std.proofs.lemmas.Bool.Decides.{nat_tests}
 use Rattle.std.proofs.lemmas.List.Sums.{AllPass-from_list_all}
 use Rattle.std.proofs.lemmas.Str.{chars-IsAscii, encodes-IsAscii}
 use Rattle.std.proofs.lemmas.Str.Ascii.{IsAscii-from_all, IsAscii-map}
-use Rattle.pep508_name.specs.Name.{is_alphanumeric, is_separator, is_name_byte, is_name, normal_name, name_of, dist_info_byte, dist_info_name}
+use Rattle.pep508_name.specs.Name.{is_alphanumeric, is_separator, is_name_byte, is_name, normal_name, name_of}
+use Rattle.pep508_name.specs.Name.{dist_info_byte, dist_info_name}
 use Rattle.pep508_name.proofs.Walk.{two, small}
 
 small_separator : (b : ℕ) → is_separator b ≡ true → b < 128

@@ -1,11 +1,15 @@
 -- What is read byte by byte is what the definition says.
-use Rattle.std.proofs.Common.{◌≡◌, ℕ, suc, ◌-◌, ◌&&◌, ◌||◌, inl, inr, Bool, true, false, not, cond, if◌then◌else◌, List, [], ◌∷◌, ◌++◌, length, map, filter, Option, Some, None, option_map, refl, ap, sym, ◌∙◌, arith}
+use Rattle.std.proofs.Common.{◌≡◌, ℕ, suc, ◌-◌, ◌&&◌, ◌||◌, inl, inr, Bool, true, false, not, cond}
+use Rattle.std.proofs.Common.{if◌then◌else◌, List, [], ◌∷◌, ◌++◌, length, map, filter, Option, Some, None}
+use Rattle.std.proofs.Common.{option_map, refl, ap, sym, ◌∙◌, arith}
 use Rattle.std.proofs.lemmas.Grind.{common_steps}
 use Rattle.std.specs.Char.{to_ascii_lowercase}
 use Rattle.std.specs.Option.{option_map_or}
 use Rattle.std.specs.List.{slice_get, slice_split, onto_first, join_with_byte, list_all}
-use Rattle.pep508_name.specs.Name.{is_alphanumeric, is_separator, is_name_byte, is_alphanumeric_at, is_name, is_part, normal_name, name_of}
-use Rattle.pep508_name.proofs.Walk.{with_byte, behind, written, two, separators_apart, no_separator, behind_separator, behind_letter, behind_none}
+use Rattle.pep508_name.specs.Name.{is_alphanumeric, is_separator, is_name_byte, is_alphanumeric_at, is_name}
+use Rattle.pep508_name.specs.Name.{is_part, normal_name, name_of}
+use Rattle.pep508_name.proofs.Walk.{with_byte, behind, written, two, separators_apart, no_separator}
+use Rattle.pep508_name.proofs.Walk.{behind_separator, behind_letter, behind_none}
 
 -- the last of a byte and more
 abbrev pub last_from : ℕ → List ℕ → ℕ

@@ -1,11 +1,13 @@
 -- The steps of the loop that reads a name.
-use Rattle.std.proofs.Common.{◌≡◌, ℕ, ◌+◌, ◌<◌, ◌≤◌, Bool, true, false, List, [], ◌∷◌, ◌++◌, length, drop, get_or, Option, Some, None, option_map, refl, ap, sym, ◌∙◌, arith}
+use Rattle.std.proofs.Common.{◌≡◌, ℕ, ◌+◌, ◌<◌, ◌≤◌, Bool, true, false, List, [], ◌∷◌, ◌++◌, length, drop}
+use Rattle.std.proofs.Common.{get_or, Option, Some, None, option_map, refl, ap, sym, ◌∙◌, arith}
 use Rattle.std.proofs.lemmas.Grind.{common_steps}
 use Rattle.std.proofs.lemmas.List.{drop_all}
 use Rattle.std.specs.Char.{to_ascii_lowercase}
 use Rattle.std.proofs.lemmas.Str.Ascii.{lowercase_ascii}
 use Rattle.pep508_name.specs.Name.{is_alphanumeric, is_separator, name_of}
-use Rattle.pep508_name.proofs.Walk.{with_byte, behind, written, small, behind_separator, behind_letter, behind_none}
+use Rattle.pep508_name.proofs.Walk.{with_byte, behind, written, small, behind_separator, behind_letter}
+use Rattle.pep508_name.proofs.Walk.{behind_none}
 use Rattle.pep508_name.proofs.Parts.{no_more, name_of-empty, name_of-refused, name_of-begun}
 
 -- the list from a place on

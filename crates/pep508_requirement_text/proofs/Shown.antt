@@ -12,7 +12,8 @@ use Rattle.pep440_specifier.specs.SpecifierReading.{SpecifierFault, specifier_re
 use Rattle.pep440_operator.specs.OperatorReading.{ends_operator}
 use Rattle.pep440_specifier.specs.SpecifierReading.{front_in, before_operator}
 use Rattle.pep440_specifier_list.specs.ListReading.{ListFault, ListReading, fault_at, placed_reading}
-use Rattle.pep440_specifier_list.specs.ListReading.{with_first, pieces_reading, line_reading, list_reading, pieces_of}
+use Rattle.pep440_specifier_list.specs.ListReading.{with_first, pieces_reading, line_reading, list_reading}
+use Rattle.pep440_specifier_list.specs.ListReading.{pieces_of}
 use Rattle.pep508_error.specs.declared.cursor.Cursor.{Cursor}
 use Rattle.pep508_error.specs.declared.refusal.Refusal.{Refusal}
 use Rattle.pep508_error.specs.Cursors.{rest_of, IsBehind}

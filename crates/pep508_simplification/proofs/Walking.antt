@@ -1,6 +1,7 @@
 -- A walk over plain trees that wait for those that stand in their nodes.
 use Rattle.std.proofs.Common.{◌≡◌, ◌∙◌, ℕ, zero, suc, ◌+◌, ◌-◌, ◌*◌, ◌<◌, ◌≤◌, Bool, List, [], ◌∷◌, ◌++◌}
-use Rattle.std.proofs.Common.{length, length-append, get_or, take, refl, ap, sym, subst, arith, Option, Some, None}
+use Rattle.std.proofs.Common.{length, length-append, get_or, take, refl, ap, sym, subst, arith, Option, Some}
+use Rattle.std.proofs.Common.{None}
 use Rattle.std.proofs.lemmas.List.{get_or_append_left, take_more, take_all}
 use Rattle.std.proofs.Math.Nat.{mul-le-mul_left}
 use Rattle.std.specs.declared.cmp.Ordering.TheVariants.{Less}

@@ -1,5 +1,6 @@
 -- Equal versions have one number.
-use Rattle.std.proofs.Common.{◌≡◌, ◌∙◌, ℕ, zero, suc, ◌==◌, Bool, true, false, if◌then◌else◌, List, [], ◌∷◌, get_or, refl, ap, sym, Equal, is_eq, arith}
+use Rattle.std.proofs.Common.{◌≡◌, ◌∙◌, ℕ, zero, suc, ◌==◌, Bool, true, false, if◌then◌else◌, List, [], ◌∷◌}
+use Rattle.std.proofs.Common.{get_or, refl, ap, sym, Equal, is_eq, arith}
 use Rattle.std.proofs.lemmas.Bool.Decides.{nat_tests}
 use Rattle.pep440_text.specs.Record.{VersionRecord}
 use Rattle.pep440_version.specs.Order.{before_stripped, stripped, key_of, version_cmp}

@@ -1,6 +1,8 @@
 -- Conjunctions of trees: how they last while nodes are added, and how they are put together from those of the
 -- pairs that stand in two trees.
-use Rattle.std.proofs.Common.{◌≡◌, ◌⊎◌, inl, inr, ℕ, zero, suc, ◌<◌, Bool, true, false, ◌&&◌, List, [], ◌∷◌, ◌++◌, length, get_or, map, refl, ap, ap₂, sym, subst, ◌∙◌, arith, length-append, append_assoc, Ordering, Less, is_eq, true≢false}
+use Rattle.std.proofs.Common.{◌≡◌, ◌⊎◌, inl, inr, ℕ, zero, suc, ◌<◌, Bool, true, false, ◌&&◌, List, [], ◌∷◌}
+use Rattle.std.proofs.Common.{◌++◌, length, get_or, map, refl, ap, ap₂, sym, subst, ◌∙◌, arith, length-append}
+use Rattle.std.proofs.Common.{append_assoc, Ordering, Less, is_eq, true≢false}
 use Rattle.std.proofs.lemmas.Bool.{cases_Bool}
 use Rattle.std.proofs.lemmas.List.{get_or_append_left}
 use Rattle.std.specs.List.{AllByRecursion}
@@ -19,7 +21,8 @@ use Rattle.pep508_diagram.proofs.Places.{equal_from}
 use Rattle.pep508_diagram.proofs.Branching.{before_unreached}
 use Rattle.pep508_tree.specs.Tree.{Tree}
 use Rattle.pep508_tree.specs.Meaning.{NodeOf, NodeRecord, Versions, Texts, Flagged, holds, IsTree, Extends}
-use Rattle.pep508_tree.specs.Nodes.{AllChildren, IsRising, IsJoined, Above, Splits, Made, chosen, no_node, node_at, node_place, tree_cmp, turned}
+use Rattle.pep508_tree.specs.Nodes.{AllChildren, IsRising, IsJoined, Above, Splits, Made, chosen, no_node}
+use Rattle.pep508_tree.specs.Nodes.{node_at, node_place, tree_cmp, turned}
 use Rattle.pep508_tree.specs.Joining.{children, joined, head, tail, node_joined}
 use Rattle.pep508_tree.specs.Conjunctions.{Conjunction, ArePairs, Meet}
 use Rattle.pep508_tree.proofs.Diagrams.{holds_kept}

@@ -1,6 +1,7 @@
 -- How many pairs of trees of the first so many places are not known: a number that falls with each conjunction
 -- that is remembered.
-use Rattle.std.proofs.Common.{◌≡◌, ◌⊎◌, inl, inr, ℕ, zero, suc, ◌+◌, ◌<◌, ◌≤◌, Bool, true, false, cond, Option, Some, None, ap, sym, subst, arith, Ordering, Less, Equal, Greater}
+use Rattle.std.proofs.Common.{◌≡◌, ◌⊎◌, inl, inr, ℕ, zero, suc, ◌+◌, ◌<◌, ◌≤◌, Bool, true, false, cond}
+use Rattle.std.proofs.Common.{Option, Some, None, ap, sym, subst, arith, Ordering, Less, Equal, Greater}
 use Rattle.std.specs.BTreeMap.{BTreeMap, get, Updates}
 use Rattle.std.specs.Cmp.{ranks}
 use Rattle.std.specs.Ordering.{MatchOrdering, is_eq, nat_cmp}

@@ -1,6 +1,7 @@
 -- The diagrams at the places of an interner: what was made earlier keeps its diagram, and the diagram of a
 -- node is made of its children's.
-use Rattle.std.proofs.Common.{◌≡◌, ℕ, ◌+◌, ◌≤◌, ◌<◌, Bool, true, List, [], ◌∷◌, ◌++◌, length, get_or, take, drop, refl, ap, ap₂, sym, ◌∙◌, append_assoc, arith, length-append}
+use Rattle.std.proofs.Common.{◌≡◌, ℕ, ◌+◌, ◌≤◌, ◌<◌, Bool, true, List, [], ◌∷◌, ◌++◌, length, get_or, take}
+use Rattle.std.proofs.Common.{drop, refl, ap, ap₂, sym, ◌∙◌, append_assoc, arith, length-append}
 use Rattle.std.proofs.lemmas.List.{get_or_append_left, length-take}
 use Rattle.std.proofs.lemmas.Grind.{common_steps}
 use Rattle.std.proofs.Math.Seq.{get_or-append_seam}
@@ -11,7 +12,8 @@ use Rattle.pep508_diagram.specs.Chains.{chain}
 use Rattle.version_ranges.specs.declared.boundary.Boundary.{Boundary}
 use Rattle.pep508_diagram.specs.Question.{Question, VersionBelow, TextBelow, IsSet, Valuation, truth}
 use Rattle.pep508_tree.specs.Tree.{Tree}
-use Rattle.pep508_tree.specs.Meaning.{NodeOf, NodeRecord, Versions, Texts, Flagged, node_diagram, tree_diagram, fill, diagrams, diagram_of, holds, IsTree, Extends}
+use Rattle.pep508_tree.specs.Meaning.{NodeOf, NodeRecord, Versions, Texts, Flagged, node_diagram}
+use Rattle.pep508_tree.specs.Meaning.{tree_diagram, fill, diagrams, diagram_of, holds, IsTree, Extends}
 use Rattle.pep508_tree.specs.Nodes.{AllChildren, node_at}
 
 pub length_fill : (ds : List (Diagram Question)) (ns : List NodeRecord) →

@@ -1,6 +1,7 @@
 -- What trees with a node mean: what stands in the node at a valuation. A tree whose variables come after that
 -- of the node does not change where that variable is moved.
-use Rattle.std.proofs.Common.{◌≡◌, ◌⊎◌, inl, inr, ℕ, ◌+◌, ◌<◌, Bool, true, false, cond, List, [], ◌∷◌, length, get_or, refl, ap, sym, subst, ◌∙◌}
+use Rattle.std.proofs.Common.{◌≡◌, ◌⊎◌, inl, inr, ℕ, ◌+◌, ◌<◌, Bool, true, false, cond, List, [], ◌∷◌, length}
+use Rattle.std.proofs.Common.{get_or, refl, ap, sym, subst, ◌∙◌}
 use Rattle.version_ranges.specs.Turns.{flips}
 use Rattle.pep440_version.specs.Order.{version_cmp}
 use Rattle.pep508_diagram.specs.declared.branch.Branch.{Branch}
@@ -11,10 +12,12 @@ use Rattle.pep508_diagram.specs.Chains.{IsChild}
 use Rattle.pep508_diagram.specs.Question.{Question, Valuation, place_of, answer, marker, truth}
 use Rattle.pep508_diagram.proofs.Moved.{DiffersAt, skip}
 use Rattle.pep508_diagram.proofs.Questions.{asks}
-use Rattle.pep508_diagram.proofs.Chains.{truth_chain_versions, truth_chain_texts, all_children, branch_at_child, behind_above}
+use Rattle.pep508_diagram.proofs.Chains.{truth_chain_versions, truth_chain_texts, all_children}
+use Rattle.pep508_diagram.proofs.Chains.{branch_at_child, behind_above}
 use Rattle.pep508_diagram.proofs.Turned.{turned_truth}
 use Rattle.pep508_tree.specs.Tree.{Tree}
-use Rattle.pep508_tree.specs.Meaning.{NodeOf, NodeRecord, Versions, Texts, Flagged, node_diagram, diagrams, diagram_of, holds, IsTree}
+use Rattle.pep508_tree.specs.Meaning.{NodeOf, NodeRecord, Versions, Texts, Flagged, node_diagram, diagrams}
+use Rattle.pep508_tree.specs.Meaning.{diagram_of, holds, IsTree}
 use Rattle.pep508_tree.specs.Nodes.{AllChildren, IsChildIn, Above, AreSound, chosen, node_at, turned}
 use Rattle.pep508_tree.proofs.OneTree.{tree_at, root_behind, canonical_trees}
 

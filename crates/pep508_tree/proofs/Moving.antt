@@ -1,5 +1,6 @@
 -- Each child of a node stands at some valuation, which can be one that differs in the node's variable alone.
-use Rattle.std.proofs.Common.{◌≡◌, inl, inr, ℕ, ◌<◌, Bool, true, false, cond, List, [], ◌∷◌, refl, ap, sym, ◌∙◌}
+use Rattle.std.proofs.Common.{◌≡◌, inl, inr, ℕ, ◌<◌, Bool, true, false, cond, List, [], ◌∷◌, refl, ap, sym}
+use Rattle.std.proofs.Common.{◌∙◌}
 use Rattle.std.specs.Ordering.{is_eq}
 use Rattle.std.specs.Cmp.{unsigned_Decides, tied_itself}
 use Rattle.std.specs.Cmp.Lexicographic.{nat_list_cmp_total}
@@ -15,7 +16,8 @@ use Rattle.pep508_diagram.specs.declared.variable.Flag.{Flag}
 use Rattle.pep508_diagram.specs.Text.{text_cmp}
 use Rattle.pep508_diagram.specs.Branches.{branch_at}
 use Rattle.pep508_diagram.specs.Question.{VersionBelow, TextBelow, IsSet, Valuation, version_rank, flag_place}
-use Rattle.pep508_diagram.specs.Question.{flag_rank, flag_text, lies_below, with_version, with_text, with_flag}
+use Rattle.pep508_diagram.specs.Question.{flag_rank, flag_text, lies_below, with_version, with_text}
+use Rattle.pep508_diagram.specs.Question.{with_flag}
 use Rattle.pep508_diagram.specs.Question.{shares_variable, answer, marker}
 use Rattle.pep508_diagram.proofs.Moved.{DiffersAt}
 use Rattle.pep508_diagram.proofs.Questions.{before_differs, versions_share, texts_share}

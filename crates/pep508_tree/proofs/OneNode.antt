@@ -14,13 +14,17 @@ use Rattle.pep508_diagram.specs.Diagram.{Diagram, Leaf, Test, turned_by}
 use Rattle.pep508_diagram.specs.Branches.{AllBranches, NeighboursDiffer}
 use Rattle.pep508_diagram.specs.Chains.{chain}
 use Rattle.pep508_diagram.specs.Children.{RootBehind, NeighboursApart, AreSameBranches}
-use Rattle.pep508_diagram.specs.Question.{Question, VersionBelow, TextBelow, IsSet, version_rank, text_rank, flag_place, marker, AreOne, IsCanonical}
+use Rattle.pep508_diagram.specs.Question.{Question, VersionBelow, TextBelow, IsSet, version_rank, text_rank}
+use Rattle.pep508_diagram.specs.Question.{flag_place, marker, AreOne, IsCanonical}
 use Rattle.pep508_diagram.proofs.Alike.{alike_back}
 use Rattle.pep508_diagram.proofs.Questions.{asks}
-use Rattle.pep508_diagram.proofs.Chains.{canonical_chain_versions, canonical_chain_texts, canonical_flag, chain_one_versions, chain_one_texts, one_version_keys, one_text_keys, one_flags, versions_not_texts, versions_not_flag, texts_not_flag}
+use Rattle.pep508_diagram.proofs.Chains.{canonical_chain_versions, canonical_chain_texts, canonical_flag}
+use Rattle.pep508_diagram.proofs.Chains.{chain_one_versions, chain_one_texts, one_version_keys, one_text_keys}
+use Rattle.pep508_diagram.proofs.Chains.{one_flags, versions_not_texts, versions_not_flag, texts_not_flag}
 use Rattle.pep508_tree.specs.Tree.{Tree}
 use Rattle.pep508_tree.specs.Meaning.{NodeOf, NodeRecord, Versions, Texts, Flagged, node_diagram}
-use Rattle.pep508_tree.specs.Nodes.{AllChildren, ChildrenDiffer, HasBoundary, IsRising, node_place, node_cmp, branch_cmp, tree_cmp}
+use Rattle.pep508_tree.specs.Nodes.{AllChildren, ChildrenDiffer, HasBoundary, IsRising, node_place, node_cmp}
+use Rattle.pep508_tree.specs.Nodes.{branch_cmp, tree_cmp}
 use Rattle.pep508_tree.proofs.NodeChildren.{first_of_branches}
 
 pub tied_trees : (a b : Tree) → a ≡ b → tree_cmp a b ≡ Equal

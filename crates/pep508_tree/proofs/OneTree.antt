@@ -1,18 +1,21 @@
 -- Trees of a sound interner: their diagrams are canonical, each stands at one place, and so one meaning has
 -- one tree.
-use Rattle.std.proofs.Common.{◌≡◌, ◌↔◌, ◌⊎◌, inl, inr, ℕ, zero, suc, ◌+◌, ◌≤◌, ◌<◌, Bool, true, false, not, List, length, get_or, refl, ap, sym, subst, ◌∙◌, true≢false, arith, Equal}
+use Rattle.std.proofs.Common.{◌≡◌, ◌↔◌, ◌⊎◌, inl, inr, ℕ, zero, suc, ◌+◌, ◌≤◌, ◌<◌, Bool, true, false, not}
+use Rattle.std.proofs.Common.{List, length, get_or, refl, ap, sym, subst, ◌∙◌, true≢false, arith, Equal}
 use Rattle.version_ranges.specs.Turns.{flips}
 use Rattle.pep508_diagram.specs.Diagram.{Diagram, Leaf, turned_by, leftmost}
 use Rattle.pep508_diagram.specs.Children.{RootBehind}
 use Rattle.pep508_diagram.specs.Question.{Question, Valuation, marker, truth, AreOne, IsCanonical}
 use Rattle.pep508_diagram.proofs.Alike.{alike_back}
 use Rattle.pep508_diagram.proofs.Questions.{asks, one_marker_diagram}
-use Rattle.pep508_diagram.proofs.Turned.{leftmost_turned, alike_leftmost, alike_turned_back, turned_canonical, turned_truth}
+use Rattle.pep508_diagram.proofs.Turned.{leftmost_turned, alike_leftmost, alike_turned_back, turned_canonical}
+use Rattle.pep508_diagram.proofs.Turned.{turned_truth}
 use Rattle.pep508_tree.specs.Tree.{Tree, always, never, negation}
 use Rattle.pep508_tree.specs.Meaning.{NodeRecord, node_diagram, diagrams, diagram_of, holds, IsTree}
 use Rattle.pep508_tree.specs.Nodes.{AllChildren, Above, AreSound, node_at, node_place, node_cmp, first_child}
 use Rattle.pep508_tree.proofs.Diagrams.{diagram_top, diagram_node}
-use Rattle.pep508_tree.proofs.NodeChildren.{weaker_children, both_children, first_of_children, behind_turned, leftmost_node, root_node}
+use Rattle.pep508_tree.proofs.NodeChildren.{weaker_children, both_children, first_of_children, behind_turned}
+use Rattle.pep508_tree.proofs.NodeChildren.{leftmost_node, root_node}
 use Rattle.pep508_tree.proofs.OneNode.{AreBehind, leaf_not_node, canonical_node, one_node}
 
 pub top_or_node : (n : ℕ) → (n ≡ 0) ⊎ ((k : ℕ) × (n ≡ k + 1))

@@ -11,11 +11,13 @@ use Rattle.pep508_diagram.specs.Branches.{RisingBranches, branch_at, AllBranches
 use Rattle.pep508_diagram.specs.Chains.{IsChild}
 use Rattle.pep508_diagram.specs.declared.variable.Flag.{Flag}
 use Rattle.pep508_diagram.specs.Question.{version_rank, text_rank, flag_rank}
-use Rattle.pep508_diagram.proofs.Places.{numbers_same, texts_same, versions_same, text_keys_same, flags_same, version_rank_below, rank_below, flag_rank_from}
+use Rattle.pep508_diagram.proofs.Places.{numbers_same, texts_same, versions_same, text_keys_same, flags_same}
+use Rattle.pep508_diagram.proofs.Places.{version_rank_below, rank_below, flag_rank_from}
 use Rattle.version_ranges.specs.HashingLaws.{then_equal}
 use Rattle.pep508_tree.specs.Tree.{Tree}
 use Rattle.pep508_tree.specs.Meaning.{NodeRecord, Versions, Texts, Flagged}
-use Rattle.pep508_tree.specs.Nodes.{counterpart, Paired, node_rank, node_text, node_place, first_child, second_child, version_branches, text_branches}
+use Rattle.pep508_tree.specs.Nodes.{counterpart, Paired, node_rank, node_text, node_place, first_child}
+use Rattle.pep508_tree.specs.Nodes.{second_child, version_branches, text_branches}
 
 pub versions_paired : (a : NodeRecord) (key : VersionVariable) (own : Tree)
     (later : List (Branch VersionRecord Tree))

@@ -1,5 +1,6 @@
 -- The node at a tree's root.
-use Rattle.std.proofs.Common.{◌≡◌, ◌∙◌, ◌+◌, ◌-◌, ◌<◌, ◌≤◌, Bool, true, false, not, List, length, refl, ap, sym, subst, arith}
+use Rattle.std.proofs.Common.{◌≡◌, ◌∙◌, ◌+◌, ◌-◌, ◌<◌, ◌≤◌, Bool, true, false, not, List, length, refl, ap}
+use Rattle.std.proofs.Common.{sym, subst, arith}
 use Rattle.pep508_diagram.specs.Question.{Valuation}
 use Rattle.pep508_tree.specs.Tree.{Tree}
 use Rattle.pep508_tree.specs.Meaning.{NodeRecord, holds, IsTree}
@@ -9,7 +10,8 @@ use Rattle.pep508_tree.proofs.NodeChildren.{weaker_children}
 use Rattle.pep508_tree.proofs.Meanings.{holds_at, holds_turned}
 use Rattle.pep508_tree.proofs.OneTree.{tree_is}
 use Rattle.pep508_tree.proofs.Disjoint.{always_holds, never_holds}
-use Rattle.pep508_tree.proofs.Storing.{signed_children, signed_place, signed_rises, signed_differ, signed_wide, signed_chosen, above_negation}
+use Rattle.pep508_tree.proofs.Storing.{signed_children, signed_place, signed_rises, signed_differ}
+use Rattle.pep508_tree.proofs.Storing.{signed_wide, signed_chosen, above_negation}
 
 pub root_is : (nodes : List NodeRecord) → AreSound nodes → (t : Tree) → 0 < t.place → IsTree nodes t →
     IsRoot nodes t (signed t.negated (node_at nodes (t.place - 1)))

@@ -1,6 +1,7 @@
 -- Nodes whose versions are in their shortest spelling: equal to those that they were, and so are the trees'
 -- diagrams.
-use Rattle.std.proofs.Common.{◌≡◌, ◌∙◌, inl, inr, ℕ, zero, suc, ◌+◌, ◌≤◌, ◌<◌, List, [], ◌∷◌, map, length, refl, sym, subst, arith, Equal}
+use Rattle.std.proofs.Common.{◌≡◌, ◌∙◌, inl, inr, ℕ, zero, suc, ◌+◌, ◌≤◌, ◌<◌, List, [], ◌∷◌, map, length}
+use Rattle.std.proofs.Common.{refl, sym, subst, arith, Equal}
 use Rattle.std.specs.Cmp.{tied_itself}
 use Rattle.std.specs.Cmp.Lexicographic.{slice_cmp, nat_list_cmp_total}
 use Rattle.pep440_text.specs.Record.{VersionRecord}
@@ -13,10 +14,14 @@ use Rattle.pep508_diagram.specs.Question.{Question, VersionBelow, TextBelow}
 use Rattle.pep508_diagram.specs.Branches.{AllBranches}
 use Rattle.pep508_diagram.specs.Chains.{chain}
 use Rattle.pep508_diagram.specs.Shortened.{shortened_branch, AllShort, HasShortVersions}
-use Rattle.pep508_diagram.proofs.Shortened.{shortened_tied, shortened_rise, shortened_differ, shortened_all, shortened_none, shortened_short, turned_short}
+use Rattle.pep508_diagram.proofs.Shortened.{shortened_tied, shortened_rise, shortened_differ, shortened_all}
+use Rattle.pep508_diagram.proofs.Shortened.{shortened_none, shortened_short, turned_short}
 use Rattle.pep508_tree.specs.Tree.{Tree}
-use Rattle.pep508_tree.specs.Meaning.{NodeOf, NodeRecord, Versions, Texts, Flagged, node_diagram, diagram_of, IsTree}
-use Rattle.pep508_tree.specs.Nodes.{AllChildren, IsRising, ChildrenDiffer, HasBoundary, HasShortBounds, AreSound, first_child, node_at, node_place, branch_cmp, node_cmp, short_node}
+use Rattle.pep508_tree.specs.Meaning.{NodeOf, NodeRecord, Versions, Texts, Flagged, node_diagram, diagram_of}
+use Rattle.pep508_tree.specs.Meaning.{IsTree}
+use Rattle.pep508_tree.specs.Nodes.{AllChildren, IsRising, ChildrenDiffer, HasBoundary, HasShortBounds}
+use Rattle.pep508_tree.specs.Nodes.{AreSound, first_child, node_at, node_place, branch_cmp, node_cmp}
+use Rattle.pep508_tree.specs.Nodes.{short_node}
 use Rattle.pep508_tree.specs.NodeLaws.{trees_total, nodes_total}
 use Rattle.pep508_tree.proofs.Diagrams.{diagram_top}
 use Rattle.pep508_tree.proofs.NodeChildren.{weaker_children}

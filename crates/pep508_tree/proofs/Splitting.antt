@@ -1,5 +1,7 @@
 -- Two trees by the variable that comes first in them.
-use Rattle.std.proofs.Common.{◌≡◌, inl, inr, ℕ, zero, suc, ◌+◌, ◌-◌, ◌<◌, ◌≤◌, Bool, true, false, List, [], ◌∷◌, length, get_or, refl, ap, sym, subst, ◌∙◌, arith, Ordering, Less, Equal, Greater, is_eq, is_gt, true≢false}
+use Rattle.std.proofs.Common.{◌≡◌, inl, inr, ℕ, zero, suc, ◌+◌, ◌-◌, ◌<◌, ◌≤◌, Bool, true, false, List, []}
+use Rattle.std.proofs.Common.{◌∷◌, length, get_or, refl, ap, sym, subst, ◌∙◌, arith, Ordering, Less, Equal}
+use Rattle.std.proofs.Common.{Greater, is_eq, is_gt, true≢false}
 use Rattle.std.specs.Ordering.{ordering_reverse}
 use Rattle.std.specs.Cmp.Lexicographic.{nat_list_cmp_total}
 use Rattle.std.specs.declared.rc.Rc.{Rc}
@@ -9,7 +11,8 @@ use Rattle.pep508_diagram.proofs.Places.{texts_same}
 use Rattle.pep508_diagram.proofs.Turned.{flips_twice}
 use Rattle.pep508_tree.specs.Tree.{Tree}
 use Rattle.pep508_tree.specs.Meaning.{NodeOf, NodeRecord, Versions, Texts, Flagged, holds, IsTree}
-use Rattle.pep508_tree.specs.Nodes.{AllChildren, IsChildIn, Above, AreSound, Paired, Splits, chosen, counterpart, node_at, node_place, turned}
+use Rattle.pep508_tree.specs.Nodes.{AllChildren, IsChildIn, Above, AreSound, Paired, Splits, chosen}
+use Rattle.pep508_tree.specs.Nodes.{counterpart, node_at, node_place, turned}
 use Rattle.pep508_tree.specs.Places.{nodes_of}
 use Rattle.pep508_tree.proofs.NodeChildren.{weaker_children}
 use Rattle.pep508_tree.proofs.Meanings.{chosen_child, each_child, holds_at, holds_turned}

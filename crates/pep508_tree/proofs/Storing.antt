@@ -1,5 +1,7 @@
 -- Nodes that are stored: sound interners with one more node, and the tree of a stored node.
-use Rattle.std.proofs.Common.{◌≡◌, ◌⊎◌, inl, inr, ℕ, ◌+◌, ◌≤◌, ◌<◌, Bool, true, false, not, cond, List, [], ◌∷◌, ◌++◌, map, length, refl, ap, ap₂, sym, subst, ◌∙◌, true≢false, arith, length-append, Ordering, Less, Equal, is_gt, nat_cmp}
+use Rattle.std.proofs.Common.{◌≡◌, ◌⊎◌, inl, inr, ℕ, ◌+◌, ◌≤◌, ◌<◌, Bool, true, false, not, cond, List, []}
+use Rattle.std.proofs.Common.{◌∷◌, ◌++◌, map, length, refl, ap, ap₂, sym, subst, ◌∙◌, true≢false, arith}
+use Rattle.std.proofs.Common.{length-append, Ordering, Less, Equal, is_gt, nat_cmp}
 use Rattle.std.specs.Ordering.{bool_cmp, ordering_then}
 use Rattle.std.specs.Cmp.{IsTotalOrder}
 use Rattle.std.specs.Cmp.Lexicographic.{slice_cmp, nat_list_cmp_total}
@@ -17,17 +19,22 @@ use Rattle.pep508_diagram.specs.declared.branch.Branch.{Branch}
 use Rattle.pep508_diagram.specs.Text.{text_cmp}
 use Rattle.pep508_diagram.specs.Branches.{branch_at, AllBranches, NeighboursDiffer}
 use Rattle.pep508_diagram.specs.Question.{Valuation, version_rank, text_rank, flag_rank, flag_text}
-use Rattle.pep508_diagram.proofs.Places.{not_less, numbers_same, texts_same, versions_same, text_keys_same, version_rank_below, rank_below, flag_rank_from, flag_from_place}
+use Rattle.pep508_diagram.proofs.Places.{not_less, numbers_same, texts_same, versions_same, text_keys_same}
+use Rattle.pep508_diagram.proofs.Places.{version_rank_below, rank_below, flag_rank_from, flag_from_place}
 use Rattle.version_ranges.specs.HashingLaws.{then_equal}
 use Rattle.pep508_diagram.proofs.Turned.{flips_twice, flips_back}
 use Rattle.pep508_tree.specs.Tree.{Tree, negation}
 use Rattle.pep508_tree.specs.Meaning.{NodeRecord, Versions, Texts, Flagged, holds, IsTree, Extends}
-use Rattle.pep508_tree.specs.Nodes.{AllChildren, IsRising, IsJoined, ChildrenDiffer, HasBoundary, IsAlone, Above, AreSound, IsSoundNode, Made, chosen, first_child, second_child, version_branches, text_branches, no_node, node_at, node_place, node_cmp, tree_cmp, branch_cmp, turned, turned_branch, signed, short_node}
+use Rattle.pep508_tree.specs.Nodes.{AllChildren, IsRising, IsJoined, ChildrenDiffer, HasBoundary, IsAlone}
+use Rattle.pep508_tree.specs.Nodes.{Above, AreSound, IsSoundNode, Made, chosen, first_child, second_child}
+use Rattle.pep508_tree.specs.Nodes.{version_branches, text_branches, no_node, node_at, node_place, node_cmp}
+use Rattle.pep508_tree.specs.Nodes.{tree_cmp, branch_cmp, turned, turned_branch, signed, short_node}
 use Rattle.pep508_tree.specs.NodeLaws.{nodes_total}
 use Rattle.pep508_tree.proofs.NodeChildren.{weaker_children, both_children, first_of_children}
 use Rattle.pep508_tree.proofs.Diagrams.{holds_kept}
 use Rattle.pep508_tree.proofs.Meanings.{chosen_all, holds_at, holds_turned}
-use Rattle.pep508_tree.proofs.Shortened.{short_place, short_first, short_children, short_rises, short_differ, short_wide, short_short}
+use Rattle.pep508_tree.proofs.Shortened.{short_place, short_first, short_children, short_rises, short_differ}
+use Rattle.pep508_tree.proofs.Shortened.{short_wide, short_short}
 
 -- ---- what stays when a node is added
 

@@ -1,5 +1,6 @@
 -- Equal nodes have one number, so the order by numbers first has the same equality.
-use Rattle.std.proofs.Common.{◌≡◌, ◌∙◌, ℕ, true, false, List, [], ◌∷◌, refl, ap, sym, Ordering, Less, Equal, Greater, is_eq, is_gt, true≢false, inl, inr}
+use Rattle.std.proofs.Common.{◌≡◌, ◌∙◌, ℕ, true, false, List, [], ◌∷◌, refl, ap, sym, Ordering, Less, Equal}
+use Rattle.std.proofs.Common.{Greater, is_eq, is_gt, true≢false, inl, inr}
 use Rattle.std.specs.Ordering.{nat_cmp, ordering_then}
 use Rattle.std.specs.Cmp.{tied_itself, nat_cmp_total}
 use Rattle.std.specs.Cmp.Lexicographic.{slice_cmp}
@@ -13,7 +14,8 @@ use Rattle.pep508_tags.specs.Tags.{mixed, text_tag, version_tag}
 use Rattle.pep508_tags.proofs.Tags.{equal_versions}
 use Rattle.pep508_tree.specs.Tree.{Tree}
 use Rattle.pep508_tree.specs.Meaning.{NodeRecord}
-use Rattle.pep508_tree.specs.Nodes.{node_rank, node_text, node_place, version_branches, text_branches, branch_cmp, tree_cmp, node_cmp}
+use Rattle.pep508_tree.specs.Nodes.{node_rank, node_text, node_place, version_branches, text_branches}
+use Rattle.pep508_tree.specs.Nodes.{branch_cmp, tree_cmp, node_cmp}
 use Rattle.pep508_tree.specs.Tags.{boundary_tag, branches_tag, node_tag, tagged_cmp}
 use Rattle.pep508_tree.proofs.Storing.{trees_same, alike_parts}
 

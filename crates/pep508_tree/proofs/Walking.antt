@@ -1,5 +1,7 @@
 -- A walk over pairs of trees whose conjunctions wait for those of the pairs that stand in them.
-use Rattle.std.proofs.Common.{◌≡◌, ℕ, zero, suc, ◌+◌, ◌*◌, ◌<◌, ◌≤◌, Bool, true, false, cond, List, [], ◌∷◌, ◌++◌, length, length-append, get_or, take, refl, ap, sym, subst, ◌∙◌, arith, Some, None, IfSome}
+use Rattle.std.proofs.Common.{◌≡◌, ℕ, zero, suc, ◌+◌, ◌*◌, ◌<◌, ◌≤◌, Bool, true, false, cond, List, [], ◌∷◌}
+use Rattle.std.proofs.Common.{◌++◌, length, length-append, get_or, take, refl, ap, sym, subst, ◌∙◌, arith}
+use Rattle.std.proofs.Common.{Some, None, IfSome}
 use Rattle.std.proofs.lemmas.List.{take_more, take_all}
 use Rattle.std.proofs.Math.Nat.{mul-le-mul_left}
 use Rattle.std.specs.declared.cmp.Ordering.TheVariants.{Less}
@@ -20,7 +22,10 @@ use Rattle.pep508_tree.specs.PairOrder.{pair_cmp, places}
 use Rattle.pep508_tree.specs.Conjunctions.{Conjunction, ArePairs, Meet}
 use Rattle.pep508_tree.specs.Known.{IsKnown, AreKnown}
 use Rattle.pep508_tree.specs.Pending.{IsPending}
-use Rattle.pep508_tree.proofs.Conjoining.{extends_on, tree_kept, above_back, conjunction_earlier, conjunction_later, conjunction_now, meet_push, meet_weaker, meet_with, children_list, made_children, above_children, conjunction_made}
+use Rattle.pep508_tree.proofs.Conjoining.{extends_on, tree_kept, above_back, conjunction_earlier}
+use Rattle.pep508_tree.proofs.Conjoining.{conjunction_later, conjunction_now, meet_push, meet_weaker}
+use Rattle.pep508_tree.proofs.Conjoining.{meet_with, children_list, made_children, above_children}
+use Rattle.pep508_tree.proofs.Conjoining.{conjunction_made}
 use Rattle.pep508_tree.proofs.Counting.{unknown, unknown_less}
 use Rattle.pep508_tree.proofs.Diagrams.{holds_kept}
 use Rattle.pep508_tree.proofs.Meanings.{chosen_all}

@@ -1,5 +1,7 @@
 -- Cuts of a text, by the words of std.
-use Rattle.std.proofs.Common.{◌≡◌, ℕ, ◌-◌, ◌<◌, nat_lt, Bool, true, false, if◌then◌else◌, eqb, List, length, take, drop, Option, Some, None, option_map, option_copied, ap, sym, subst, ◌∙◌, arith}
+use Rattle.std.proofs.Common.{◌≡◌, ℕ, ◌-◌, ◌<◌, nat_lt, Bool, true, false, if◌then◌else◌, eqb, List, length}
+use Rattle.std.proofs.Common.{take, drop, Option, Some, None, option_map, option_copied, ap, sym, subst, ◌∙◌}
+use Rattle.std.proofs.Common.{arith}
 use Rattle.std.specs.Prelude.{MatchOption, IsUtf8, IsCharBoundary, slice_range}
 use Rattle.std.specs.Borrow.{Bor}
 use Rattle.std.specs.List.{starts_with, position_or_len, before_first, after_first, prefix_len}

@@ -1,13 +1,17 @@
 -- A normal path is its own normal path.
-use Rattle.std.proofs.Common.{◌≡◌, ℕ, zero, suc, ◌-◌, ◌==◌, Bool, true, false, if◌then◌else◌, eqb, List, [], ◌∷◌, ◌++◌, length, take, Option, Some, None, option_map, inl, inr, refl, ap, sym, subst, ◌∙◌, append_assoc}
+use Rattle.std.proofs.Common.{◌≡◌, ℕ, zero, suc, ◌-◌, ◌==◌, Bool, true, false, if◌then◌else◌, eqb, List, []}
+use Rattle.std.proofs.Common.{◌∷◌, ◌++◌, length, take, Option, Some, None, option_map, inl, inr, refl, ap}
+use Rattle.std.proofs.Common.{sym, subst, ◌∙◌, append_assoc}
 use Rattle.std.specs.Prelude.{bytes_eq, codes, fold, All}
 use Rattle.std.specs.List.{slice_split, onto_first, join_with_byte}
 use Rattle.std.proofs.lemmas.List.{append-nil}
 use Rattle.std.proofs.lemmas.List.Elements.{All-nil, All-cons, All-head}
 use Rattle.std.proofs.lemmas.List.Folds.{fold_stays}
-use Rattle.std.proofs.lemmas.List.Splits.{slice_split-cons_no, slice_split-cons_yes, slice_split_none, slice_split_at}
+use Rattle.std.proofs.lemmas.List.Splits.{slice_split-cons_no, slice_split-cons_yes, slice_split_none}
+use Rattle.std.proofs.lemmas.List.Splits.{slice_split_at}
 use Rattle.pep508_url.specs.Cuts.{is_absolute}
-use Rattle.pep508_url.specs.Paths.{changes_nothing, without_last, behind_parts, normal_parts, root_of, normal_path}
+use Rattle.pep508_url.specs.Paths.{changes_nothing, without_last, behind_parts, normal_parts, root_of}
+use Rattle.pep508_url.specs.Paths.{normal_path}
 use Rattle.pep508_url.proofs.Expansion.{two, some_same}
 use Rattle.pep508_url.proofs.PathParts.{part_nothing, part_parent, part_kept}
 

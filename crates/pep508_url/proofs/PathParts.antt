@@ -1,5 +1,7 @@
 -- The parts of a path, one after another.
-use Rattle.std.proofs.Common.{◌≡◌, ℕ, suc, ◌+◌, ◌-◌, ◌<◌, ◌==◌, Bool, true, false, if◌then◌else◌, List, [], ◌∷◌, ◌++◌, length, map, take, get_or, Option, Some, None, refl, ap, sym, ◌∙◌, arith, length-append}
+use Rattle.std.proofs.Common.{◌≡◌, ℕ, suc, ◌+◌, ◌-◌, ◌<◌, ◌==◌, Bool, true, false, if◌then◌else◌, List, []}
+use Rattle.std.proofs.Common.{◌∷◌, ◌++◌, length, map, take, get_or, Option, Some, None, refl, ap, sym, ◌∙◌}
+use Rattle.std.proofs.Common.{arith, length-append}
 use Rattle.std.specs.Prelude.{bytes_eq, codes, flat_map}
 use Rattle.std.specs.Borrow.{Bor}
 use Rattle.std.specs.List.{join_with_byte}
@@ -11,7 +13,8 @@ use Rattle.std.proofs.lemmas.List.Folds.{fold_stuck}
 use Rattle.std.proofs.lemmas.List.Sums.{fold_more}
 use Rattle.std.proofs.lemmas.Str.{IsUtf8-from_is_utf8, is_utf8-from_IsUtf8}
 use Rattle.percent_encoding.specs.Percent.{percent_decode}
-use Rattle.pep508_url.specs.Paths.{changes_nothing, without_last, with_part, behind_parts, normal_parts, utf8_decoded}
+use Rattle.pep508_url.specs.Paths.{changes_nothing, without_last, with_part, behind_parts, normal_parts}
+use Rattle.pep508_url.specs.Paths.{utf8_decoded}
 
 -- what stands at a place, whatever stands past the end
 at_place : (all : List (List ℕ)) (n : ℕ) (part : List ℕ) → (n < length all) × (part ≡ get_or all n part) → part ≡ get_or all n []

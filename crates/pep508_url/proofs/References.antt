@@ -1,15 +1,20 @@
 -- What expansion does with the leftmost reference to a known variable.
-use Rattle.std.proofs.Common.{◌≡◌, ◌≢◌, ℕ, suc, ◌+◌, ◌<◌, nat_lt, not, ◌&&◌, Bool, true, false, cond, if◌then◌else◌, eqb, List, [], ◌∷◌, ◌++◌, length, take, drop, Option, Some, None, inl, inr, refl, ap, ap₂, sym, subst, ◌∙◌, arith}
+use Rattle.std.proofs.Common.{◌≡◌, ◌≢◌, ℕ, suc, ◌+◌, ◌<◌, nat_lt, not, ◌&&◌, Bool, true, false, cond}
+use Rattle.std.proofs.Common.{if◌then◌else◌, eqb, List, [], ◌∷◌, ◌++◌, length, take, drop, Option, Some, None}
+use Rattle.std.proofs.Common.{inl, inr, refl, ap, ap₂, sym, subst, ◌∙◌, arith}
 use Rattle.std.specs.Prelude.{flat_map, codes, option_and_then, option_map}
 use Rattle.std.specs.List.{slice_split, onto_first, position_or_len, list_all, starts_with}
 use Rattle.std.proofs.lemmas.Bool.Decides.{nat_tests}
 use Rattle.std.proofs.lemmas.List.Splits.{slice_split-cons_no, slice_split-cons_yes}
 use Rattle.pep508_url.specs.Cuts.{behind, cut}
 use Rattle.pep508_url.specs.Vars.{Variables, value_of}
-use Rattle.pep508_url.specs.Expansion.{is_variable_byte, is_variable_name, with_value, reference, replaced, behind_dollar, expanded_parts, expanded, reference_text, IsKnown, LacksReference}
+use Rattle.pep508_url.specs.Expansion.{is_variable_byte, is_variable_name, with_value, reference, replaced}
+use Rattle.pep508_url.specs.Expansion.{behind_dollar, expanded_parts, expanded, reference_text, IsKnown}
+use Rattle.pep508_url.specs.Expansion.{LacksReference}
 use Rattle.pep508_url.proofs.CutTexts.{cut_by}
 use Rattle.pep508_url.proofs.Expansion.{two, some_same}
-use Rattle.pep508_url.proofs.UrlLaws.{cut_whole, first_of_parts, same_number, nothing_behind, no_brace, split_some, onto_parts}
+use Rattle.pep508_url.proofs.UrlLaws.{cut_whole, first_of_parts, same_number, nothing_behind, no_brace}
+use Rattle.pep508_url.proofs.UrlLaws.{split_some, onto_parts}
 
 abbrev parts_of : List ℕ → List (List ℕ)
 parts_of text = slice_split (λ b. eqb b 36) text

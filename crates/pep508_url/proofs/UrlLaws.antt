@@ -1,5 +1,7 @@
 -- What the laws of this crate rest on.
-use Rattle.std.proofs.Common.{◌≡◌, ◌≢◌, ℕ, ◌+◌, ◌<◌, nat_lt, not, ◌&&◌, Bool, true, false, if◌then◌else◌, eqb, List, [], ◌∷◌, ◌++◌, length, take, drop, get_or, Option, Some, None, inl, inr, refl, ap, sym, subst, ◌∙◌, arith}
+use Rattle.std.proofs.Common.{◌≡◌, ◌≢◌, ℕ, ◌+◌, ◌<◌, nat_lt, not, ◌&&◌, Bool, true, false, if◌then◌else◌, eqb}
+use Rattle.std.proofs.Common.{List, [], ◌∷◌, ◌++◌, length, take, drop, get_or, Option, Some, None, inl, inr}
+use Rattle.std.proofs.Common.{refl, ap, sym, subst, ◌∙◌, arith}
 use Rattle.std.specs.Prelude.{flat_map, codes, option_and_then}
 use Rattle.std.specs.List.{slice_split, onto_first, position_or_len, before_first, after_first, starts_with}
 use Rattle.std.proofs.lemmas.Bool.Decides.{nat_tests}
@@ -9,7 +11,8 @@ use Rattle.std.proofs.lemmas.List.Sums.{prefix_len_stops}
 use Rattle.url.specs.Input.{trim_c0_control_and_space}
 use Rattle.pep508_url.specs.Cuts.{behind, cut}
 use Rattle.pep508_url.specs.Vars.{Variables}
-use Rattle.pep508_url.specs.Expansion.{LacksOpening, expanded_parts, expanded, replaced, with_value, behind_dollar, reference}
+use Rattle.pep508_url.specs.Expansion.{LacksOpening, expanded_parts, expanded, replaced, with_value}
+use Rattle.pep508_url.specs.Expansion.{behind_dollar, reference}
 use Rattle.pep508_url.proofs.CutTexts.{cut_by}
 use Rattle.pep508_url.proofs.Expansion.{two, reached, some_same}
 use Rattle.pep508_url.specs.Schemes.{is_scheme, if_scheme, scheme_split}

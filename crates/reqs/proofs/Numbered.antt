@@ -1,5 +1,6 @@
 -- Answers for environments one after another.
-use Rattle.std.proofs.Common.{◌≡◌, ◌∙◌, ◌++◌, ◌+◌, ◌<◌, ◌≤◌, ◌∷◌, [], ℕ, suc, List, length, drop, get_or, ap, refl, sym, subst, append_assoc, append-nil, add-one, drop-cons}
+use Rattle.std.proofs.Common.{◌≡◌, ◌∙◌, ◌++◌, ◌+◌, ◌<◌, ◌≤◌, ◌∷◌, [], ℕ, suc, List, length, drop, get_or, ap}
+use Rattle.std.proofs.Common.{refl, sym, subst, append_assoc, append-nil, add-one, drop-cons}
 use Rattle.std.specs.List.{AllZip}
 use Rattle.std.proofs.lemmas.List.{drop_all}
 use Rattle.pep508_tree.specs.Meaning.{NodeRecord}

@@ -1,5 +1,6 @@
 -- The project's directory, looked for from variable to variable.
-use Rattle.std.proofs.Common.{◌≡◌, ◌∙◌, ◌<◌, ◌≤◌, ◌+◌, ◌∷◌, ℕ, true, false, List, length, map, drop, suc, get_or, ap, sym, codes, drop-cons, add-one}
+use Rattle.std.proofs.Common.{◌≡◌, ◌∙◌, ◌<◌, ◌≤◌, ◌+◌, ◌∷◌, ℕ, true, false, List, length, map, drop, suc}
+use Rattle.std.proofs.Common.{get_or, ap, sym, codes, drop-cons, add-one}
 use Rattle.std.proofs.lemmas.List.{drop_all}
 use Rattle.reqs_cli.specs.Variables.{is_root, root_in}
 

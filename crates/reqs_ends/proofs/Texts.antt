@@ -1,5 +1,6 @@
 -- Bytes that are text, and bytes that are none.
-use Rattle.std.proofs.Common.{◌≡◌, ◌∙◌, ◌++◌, ℕ, Bool, true, false, List, Option, Some, None, Result, Ok, Err, IfOk, IfSome, String, string_bytes, length, take, ap, refl, subst}
+use Rattle.std.proofs.Common.{◌≡◌, ◌∙◌, ◌++◌, ℕ, Bool, true, false, List, Option, Some, None, Result, Ok, Err}
+use Rattle.std.proofs.Common.{IfOk, IfSome, String, string_bytes, length, take, ap, refl, subst}
 use Rattle.std.proofs.Math.Seq.{take-append_seam}
 use Rattle.std.proofs.lemmas.Grind.{put_two}
 use Rattle.std.specs.Fmt.{◌++?◌, WritesOnOk, DisplaysOnOk}

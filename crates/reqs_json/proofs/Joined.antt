@@ -1,5 +1,6 @@
 -- The objects of environments, one behind another.
-use Rattle.std.proofs.Common.{◌≡◌, ◌∙◌, ◌+◌, ◌<◌, ◌++◌, ◌∷◌, ℕ, suc, List, [], length, Bool, true, false, nat_lt, codes, ap, refl, sym, arith, append_assoc, append-nil, add-zero}
+use Rattle.std.proofs.Common.{◌≡◌, ◌∙◌, ◌+◌, ◌<◌, ◌++◌, ◌∷◌, ℕ, suc, List, [], length, Bool, true, false}
+use Rattle.std.proofs.Common.{nat_lt, codes, ap, refl, sym, arith, append_assoc, append-nil, add-zero}
 use Rattle.std.proofs.lemmas.Bool.{lt-ltb}
 use Rattle.serde_json.specs.Data.{Data, Items, no_items, item}
 use Rattle.serde_json.specs.Written.{compact_text, items_text, comma_if}

@@ -10,7 +10,8 @@ use Rattle.reqs_ends.specs.declared.fault.RunFault.TheVariants.{Requirement, Num
 use Rattle.reqs_ends.specs.declared.fault.RunFault.TheVariants.{Member, Version, Candidate, TooManyCases}
 use Rattle.reqs_ends.specs.declared.fault.RunFault.TheVariants.{Refused}
 use Rattle.reqs_json.specs.Lines.{line_of}
-use Rattle.reqs_json.specs.Faults.{kind_of, input_in, place_in, message_of, place_text, error_value, IsFaultLine}
+use Rattle.reqs_json.specs.Faults.{kind_of, input_in, place_in, message_of, place_text, error_value}
+use Rattle.reqs_json.specs.Faults.{IsFaultLine}
 use Rattle.reqs_json.specs.declared.faults.Place.{Place}
 
 pub behind_place : (said : Input → List ℕ) (fault : RunFault)

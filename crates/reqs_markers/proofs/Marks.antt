@@ -1,5 +1,6 @@
 -- Marks of markers.
-use Rattle.std.proofs.Common.{◌≡◌, ◌≢◌, ◌∙◌, ℕ, Bool, true, false, if◌then◌else◌, List, Option, Some, None, Result, Ok, Err, IfOk, OnOk, ap, refl, sym}
+use Rattle.std.proofs.Common.{◌≡◌, ◌≢◌, ◌∙◌, ℕ, Bool, true, false, if◌then◌else◌, List, Option, Some, None}
+use Rattle.std.proofs.Common.{Result, Ok, Err, IfOk, OnOk, ap, refl, sym}
 use Rattle.std.proofs.lemmas.Str.{is_utf8-from_IsUtf8}
 use Rattle.std.specs.Str.{is_utf8, IsUtf8, chars}
 use Rattle.pep508_diagram.specs.Question.{Valuation}

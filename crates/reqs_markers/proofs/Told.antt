@@ -1,5 +1,6 @@
 -- What is said of texts that are refused.
-use Rattle.std.proofs.Common.{◌≡◌, ◌≢◌, ◌∙◌, ℕ, true, List, Result, Ok, Err, Option, Some, None, String, string_bytes, MatchResult, IfOk, IfSome, ap, inr, refl, sym, subst}
+use Rattle.std.proofs.Common.{◌≡◌, ◌≢◌, ◌∙◌, ℕ, true, List, Result, Ok, Err, Option, Some, None, String}
+use Rattle.std.proofs.Common.{string_bytes, MatchResult, IfOk, IfSome, ap, inr, refl, sym, subst}
 use Rattle.pep508_url.specs.UrlFaults.{url_error_text}
 use Rattle.pep508_url.specs.UrlTexts.{Verbatim}
 use Rattle.pep508_url.specs.declared.error.VerbatimUrlError.{VerbatimUrlError}

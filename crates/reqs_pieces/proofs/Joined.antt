@@ -1,8 +1,10 @@
 -- Texts of pieces.
-use Rattle.std.proofs.Common.{◌≡◌, ◌∙◌, ◌+◌, ◌<◌, ◌≤◌, ℕ, suc, List, [], ◌∷◌, ◌++◌, length, get_or, take, drop, map, All, refl, sym, ap, arith}
+use Rattle.std.proofs.Common.{◌≡◌, ◌∙◌, ◌+◌, ◌<◌, ◌≤◌, ℕ, suc, List, [], ◌∷◌, ◌++◌, length, get_or, take}
+use Rattle.std.proofs.Common.{drop, map, All, refl, sym, ap, arith}
 use Rattle.std.specs.List.{flat_map}
 use Rattle.std.proofs.lemmas.List.Concat.{flat_map-append}
-use Rattle.std.proofs.lemmas.List.{take-append-drop, take_more, take_all, flat_map_more, get_or_append_left, get_or-map, length-map}
+use Rattle.std.proofs.lemmas.List.{take-append-drop, take_more, take_all, flat_map_more, get_or_append_left}
+use Rattle.std.proofs.lemmas.List.{get_or-map, length-map}
 use Rattle.reqs_pieces.specs.Pieces.{text_of}
 
 -- one more piece

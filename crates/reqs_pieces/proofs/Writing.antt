@@ -1,5 +1,6 @@
 -- Texts that are written one behind another.
-use Rattle.std.proofs.Common.{◌≡◌, ◌∙◌, ℕ, List, [], ◌∷◌, ◌++◌, Option, Some, None, refl, sym, ap, subst, append_assoc, append-nil, arith, length-append}
+use Rattle.std.proofs.Common.{◌≡◌, ◌∙◌, ℕ, List, [], ◌∷◌, ◌++◌, Option, Some, None, refl, sym, ap, subst}
+use Rattle.std.proofs.Common.{append_assoc, append-nil, arith, length-append}
 use Rattle.std.specs.Io.KnownBytes.{Appends}
 use Rattle.reqs_io.specs.Front.{WritesWhole, AppendsFront}
 use Rattle.reqs_pieces.specs.Waiting.{IsWaiting}

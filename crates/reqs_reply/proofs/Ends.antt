@@ -1,5 +1,6 @@
 -- How calls end.
-use Rattle.std.proofs.Common.{◌≡◌, ℕ, Bool, true, false, List, Result, Ok, Err, String, string_bytes, MatchResult, IfOk, refl, sym, subst}
+use Rattle.std.proofs.Common.{◌≡◌, ℕ, Bool, true, false, List, Result, Ok, Err, String, string_bytes}
+use Rattle.std.proofs.Common.{MatchResult, IfOk, refl, sym, subst}
 use Rattle.std.proofs.lemmas.Str.{IsUtf8-from_is_utf8}
 use Rattle.std.specs.Str.{is_utf8, IsUtf8}
 use Rattle.reqs_reply.specs.declared.place.Place.{Place}

@@ -1,5 +1,6 @@
 -- From package to package.
-use Rattle.std.proofs.Common.{◌≡◌, ◌≢◌, ◌∙◌, ◌≤◌, ◌<◌, ◌+◌, ℕ, zero, suc, Bool, List, [], ◌∷◌, ◌++◌, length, get_or, take, Option, Some, None, sym, ap, subst, inl, inr, arith, append-nil}
+use Rattle.std.proofs.Common.{◌≡◌, ◌≢◌, ◌∙◌, ◌≤◌, ◌<◌, ◌+◌, ℕ, zero, suc, Bool, List, [], ◌∷◌, ◌++◌, length}
+use Rattle.std.proofs.Common.{get_or, take, Option, Some, None, sym, ap, subst, inl, inr, arith, append-nil}
 use Rattle.std.proofs.lemmas.Bool.{cases_eq}
 use Rattle.std.proofs.lemmas.List.{take_more, flat_map_more}
 use Rattle.std.specs.List.{AllZip}
@@ -11,7 +12,8 @@ use Rattle.pep508_tree.specs.Meaning.{NodeRecord}
 use Rattle.reqtable_text.specs.declared.candidates.Candidate.{Candidate}
 use Rattle.reqtable_answer.specs.Admission.{Admits}
 use Rattle.reqtable_answer.specs.Answer.{RowRecord, row_text, answer_text}
-use Rattle.reqtable_table.specs.Answers.{AreRowsFor, IsRowIf, SamePackage, own_candidates, most_tests, most_tests_in, most_tests_of}
+use Rattle.reqtable_table.specs.Answers.{AreRowsFor, IsRowIf, SamePackage, own_candidates, most_tests}
+use Rattle.reqtable_table.specs.Answers.{most_tests_in, most_tests_of}
 use Rattle.reqtable_table.specs.Counts.{all_tests}
 use Rattle.reqtable_table.specs.Kept.{KeptPackage}
 use Rattle.reqtable_table.proofs.Placed.{same_back}

@@ -1,5 +1,6 @@
 -- What is said of texts that are refused.
-use Rattle.std.proofs.Common.{◌≡◌, ℕ, List, Result, Ok, Err, String, string_bytes, MatchResult, IfOk, IfSome, refl, sym, subst}
+use Rattle.std.proofs.Common.{◌≡◌, ℕ, List, Result, Ok, Err, String, string_bytes, MatchResult, IfOk, IfSome}
+use Rattle.std.proofs.Common.{refl, sym, subst}
 use Rattle.reqs_ends.specs.declared.fault.RunFault.{RunFault}
 use Rattle.reqs_ends.specs.declared.fault.RunFault.TheVariants as faults
 use Rattle.reqs_ends.specs.Ends.{of_input}

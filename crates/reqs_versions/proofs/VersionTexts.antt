@@ -1,11 +1,13 @@
 -- Versions in bytes, and bytes that are none.
-use Rattle.std.proofs.Common.{◌≡◌, ◌∙◌, ◌⊎◌, ℕ, ℤ, pos, negsuc, inl, inr, option_map, true, false, List, length, Option, Some, None, Ok, Err, string_bytes, ap, refl, sym, subst}
+use Rattle.std.proofs.Common.{◌≡◌, ◌∙◌, ◌⊎◌, ℕ, ℤ, pos, negsuc, inl, inr, option_map, true, false, List}
+use Rattle.std.proofs.Common.{length, Option, Some, None, Ok, Err, string_bytes, ap, refl, sym, subst}
 use Rattle.std.specs.Str.{is_utf8, IsUtf8}
 use Rattle.std.proofs.lemmas.Str.{is_utf8-from_IsUtf8}
 use Rattle.read_outcome.specs.Outcome.{Tells}
 use Rattle.pep440_version.specs.Record.{VersionRecord}
 use Rattle.pep440_version.specs.Reading.{version_of}
-use Rattle.pep440_version.specs.VersionReading.{VersionFault, Wildcard, NumberTooBig, NoLeadingNumber, LocalEmpty, UnexpectedEnd}
+use Rattle.pep440_version.specs.VersionReading.{VersionFault, Wildcard, NumberTooBig, NoLeadingNumber}
+use Rattle.pep440_version.specs.VersionReading.{LocalEmpty, UnexpectedEnd}
 use Rattle.pep440_version.specs.VersionReading.{version_reading, told_version}
 use Rattle.pep440_version.specs.ErrorPrints.{version_error_text}
 use Rattle.pep440_version.specs.declared.parse_error.VersionParseError.{VersionParseError}

@@ -1,5 +1,6 @@
 -- Asks that say the same of each package have the same answers.
-use Rattle.std.proofs.Common.{◌≡◌, ℕ, Bool, cond, not, ◌&&◌, List, [], ◌∷◌, filter, option_map, sym, ap, subst, ◌∙◌}
+use Rattle.std.proofs.Common.{◌≡◌, ℕ, Bool, cond, not, ◌&&◌, List, [], ◌∷◌, filter, option_map, sym, ap}
+use Rattle.std.proofs.Common.{subst, ◌∙◌}
 use Rattle.std.specs.List.{list_any, list_all, enumerate_from, AllByRecursion}
 use Rattle.std.specs.List.Sorted.{IsPermutation}
 use Rattle.std.proofs.lemmas.List.Sorted.{list_any-IsPermutation}
@@ -7,8 +8,10 @@ use Rattle.reqtable_answer.proofs.Tests.{any_kept, all_any}
 use Rattle.pep440_version.specs.Record.{VersionRecord}
 use Rattle.pep508_requirement_text.specs.FrontReading.{Front}
 use Rattle.reqtable_text.specs.declared.candidates.Candidate.{Candidate}
-use Rattle.reqtable_answer.specs.Asks.{is_of, has_extra, has_url, ask_takes, has_prerelease, names_prerelease, is_candidate}
-use Rattle.reqtable_answer.specs.Answer.{Admits, RowRecord, IsRowOf, IsRow, IsAnswer, outcome_of, chosen, first_greatest, by_version}
+use Rattle.reqtable_answer.specs.Asks.{is_of, has_extra, has_url, ask_takes, has_prerelease, names_prerelease}
+use Rattle.reqtable_answer.specs.Asks.{is_candidate}
+use Rattle.reqtable_answer.specs.Answer.{Admits, RowRecord, IsRowOf, IsRow, IsAnswer, outcome_of, chosen}
+use Rattle.reqtable_answer.specs.Answer.{first_greatest, by_version}
 use Rattle.reqtable_answer.specs.declared.answer.Outcome.TheVariants.{Direct}
 
 -- the same of one package

@@ -1,5 +1,6 @@
 -- The first among the greatest of a list, kept while the list grows at its end.
-use Rattle.std.proofs.Common.{◌≡◌, ◌++◌, Bool, true, false, not, cond, ◌&&◌, List, [], ◌∷◌, Option, Some, None, refl, sym, ap, ◌∙◌, append_assoc, append-nil, find, filter, subst}
+use Rattle.std.proofs.Common.{◌≡◌, ◌++◌, Bool, true, false, not, cond, ◌&&◌, List, [], ◌∷◌, Option, Some}
+use Rattle.std.proofs.Common.{None, refl, sym, ap, ◌∙◌, append_assoc, append-nil, find, filter, subst}
 use Rattle.std.proofs.lemmas.List.Elements.{filter-append}
 use Rattle.std.specs.List.{list_all, AllByRecursion}
 use Rattle.std.specs.Ordering.{is_gt, ordering_reverse}

@@ -13,7 +13,8 @@ use Rattle.std.proofs.lemmas.Map.Text.{is_eq-slice_cmp}
 use Rattle.pep508_requirement_text.specs.FrontReading.{Front}
 use Rattle.reqtable_text.specs.declared.candidates.Candidate.{Candidate}
 use Rattle.reqtable_answer.specs.Asks.{is_of, is_candidate}
-use Rattle.reqtable_answer.specs.Answer.{Admits, RowRecord, IsRow, IsAnswer, IsAnswerText, answer_text, outcome_of}
+use Rattle.reqtable_answer.specs.Answer.{Admits, RowRecord, IsRow, IsAnswer, IsAnswerText, answer_text}
+use Rattle.reqtable_answer.specs.Answer.{outcome_of}
 
 any_at : (q : List ℕ) (xs : List (List ℕ)) → list_any (is_at (slice_cmp nat_cmp q)) xs ≡ list_any (bytes_eq q) xs
 any_at q [] = refl

@@ -1,5 +1,7 @@
 -- A row's text goes by its own package's candidates alone.
-use Rattle.std.proofs.Common.{◌≡◌, ℕ, ◌+◌, Bool, true, false, cond, not, ◌&&◌, List, [], ◌∷◌, ◌++◌, Option, Some, None, filter, map, find, option_map, codes, refl, sym, ap, length, append_assoc, length-append, arith, ◌∙◌}
+use Rattle.std.proofs.Common.{◌≡◌, ℕ, ◌+◌, Bool, true, false, cond, not, ◌&&◌, List, [], ◌∷◌, ◌++◌, Option}
+use Rattle.std.proofs.Common.{Some, None, filter, map, find, option_map, codes, refl, sym, ap, length}
+use Rattle.std.proofs.Common.{append_assoc, length-append, arith, ◌∙◌}
 use Rattle.std.specs.Option.{option_map_or}
 use Rattle.std.specs.List.{list_all, list_any, enumerate_from, slice_get, AllByRecursion}
 use Rattle.std.specs.Ordering.{is_gt}
@@ -12,8 +14,10 @@ use Rattle.pep508_requirement_text.specs.FrontReading.{Front}
 use Rattle.reqtable_text.specs.declared.candidates.Candidate.{Candidate}
 use Rattle.reqtable_answer.specs.declared.answer.Outcome.{Outcome}
 use Rattle.reqtable_answer.specs.declared.answer.Outcome.TheVariants.{Direct}
-use Rattle.reqtable_answer.specs.Asks.{is_of, has_url, ask_takes, names_prerelease, is_candidate, may_be_taken}
-use Rattle.reqtable_answer.specs.Answer.{Admits, RowRecord, IsRow, outcome_of, chosen, first_greatest, by_version, outcome_text, extras_text, row_text}
+use Rattle.reqtable_answer.specs.Asks.{is_of, has_url, ask_takes, names_prerelease, is_candidate}
+use Rattle.reqtable_answer.specs.Asks.{may_be_taken}
+use Rattle.reqtable_answer.specs.Answer.{Admits, RowRecord, IsRow, outcome_of, chosen, first_greatest}
+use Rattle.reqtable_answer.specs.Answer.{by_version, outcome_text, extras_text, row_text}
 use Rattle.reqtable_answer.proofs.OneAnswer.{same_texts}
 
 -- ---- places

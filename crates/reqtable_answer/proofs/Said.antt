@@ -8,7 +8,8 @@ use Rattle.pep440_specifier.specs.Matching as matching
 use Rattle.pep440_specifier_list.specs.Lists.{matches_all, any_prerelease}
 use Rattle.pep508_requirement_text.specs.FrontReading.{Source, Front}
 use Rattle.pep508_requirement_text.specs.FrontReading.Source.{Any, Specifiers, Url}
-use Rattle.reqtable_answer.specs.Asks.{specifiers_of, is_url, is_of, has_extra, has_url, ask_takes, has_prerelease}
+use Rattle.reqtable_answer.specs.Asks.{specifiers_of, is_url, is_of, has_extra, has_url, ask_takes}
+use Rattle.reqtable_answer.specs.Asks.{has_prerelease}
 use Rattle.reqtable_answer.specs.Says.{SaysSource, Says}
 use Rattle.reqtable_answer.proofs.Tests.{any_kept, any_zip, all_any}
 use Rattle.reqtable_answer.proofs.InOrder.{same_all, same_any}

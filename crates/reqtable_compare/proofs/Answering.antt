@@ -1,5 +1,6 @@
 -- What comparing two lists answers, from what is known of their lines and their tables.
-use Rattle.std.proofs.Common.{◌≡◌, ◌∙◌, ℕ, List, [], ◌∷◌, Option, Some, None, Result, Ok, refl, sym, ap, subst}
+use Rattle.std.proofs.Common.{◌≡◌, ◌∙◌, ℕ, List, [], ◌∷◌, Option, Some, None, Result, Ok, refl, sym, ap}
+use Rattle.std.proofs.Common.{subst}
 use Rattle.std.specs.Option.{option_map}
 use Rattle.std.specs.List.{AllZip, AllByRecursion}
 use Rattle.pep508_url.specs.Vars.{Variables}
@@ -22,9 +23,12 @@ use Rattle.reqtable_compare.specs.declared.refusing.Refused.{Refused}
 use Rattle.reqtable_compare.specs.Differences.{ComparesTables, FindsPlace, IsFirstPlace, listed, place_seen}
 use Rattle.reqtable_compare.specs.Refusals.{line_refusal, refusal_in}
 use Rattle.reqtable_compare.specs.RefusedLines.{lines_refusal, refused_seen}
+use Rattle.reqtable_compare.specs.Settled.{AreOpen, said_among}
+use Rattle.reqtable_compare.proofs.Among.{none_too_many}
 use Rattle.reqtable_compare.proofs.ByNumber.{Rise}
 use Rattle.reqtable_compare.proofs.Causes.{refusal_said}
 use Rattle.reqtable_compare.proofs.Comparable.{both_comparable}
+use Rattle.reqtable_compare.proofs.Outside.{outside}
 use Rattle.reqtable_compare.proofs.Whole.{compares, side_of}
 
 -- ---- what lasts while nodes are added
@@ -85,17 +89,35 @@ place_found nodes l l' r r' lt rt ns ns' found place el er en ef h =
 
 -- ---- two tables
 
-pub answered : (vars : Variables) (old one two new : List NodeRecord) (limit : ℕ) (left right : List Line)
-    (ours theirs : List KeptPackage) (said others : List LineRecord) (result : Result Same SameError) →
-    AllZip (StandsFor vars old) left said → AllZip (StandsFor vars old) right others → Rise left → Rise right →
-    lines_refusal Left left (lines_refusal Right right None) ≡ None → Extends old one → Extends one two →
-    TablesSide Left limit one said (Ok ours) → TablesSide Right limit two others (Ok theirs) →
-    ComparesTables two new (listed left ours) (listed right theirs) result → Compares limit new said others result
-answered vars old one two new limit left right ours theirs said others result h h' rise rise' none keeps more built built' is =
+pub answered : (vars : Variables) (old one two new : List NodeRecord) (limit : ℕ) (names : List (List ℕ))
+    (left right : List Line) (ours theirs : List KeptPackage) (said others : List LineRecord)
+    (result : Result Same SameError) → AllZip (StandsFor vars old) left said → AllZip (StandsFor vars old) right others →
+    Rise left → Rise right → lines_refusal Left left (lines_refusal Right right None) ≡ None →
+    AreOpen limit left right names → Extends old one → Extends one two →
+    TablesSide Left limit one (said_among names said) (Ok ours) →
+    TablesSide Right limit two (said_among names others) (Ok theirs) →
+    ComparesTables two new (listed left ours) (listed right theirs) names result → Compares limit new said others result
+answered vars old one two new limit names left right ours theirs said others result h h' rise rise' none are_open keeps more
+    built built' is =
     let none' = sym (refusal_of vars old left right said others h h') ∙ none in
     let comparable = both_comparable said others none' in
-    compares two (listed left ours) (listed right theirs) said others
-    (side_of vars old one two limit left ours said h rise comparable.0 built more)
-    (side_of vars one two two limit right theirs others (lines_kept vars old one keeps right others h') rise' comparable.1
-    built' (extends_itself two))
-    new limit result (record { lines = none'; ours = built.2; theirs = built'.2 }) is
+    let away = outside vars old limit left right said others names h h' are_open in
+    compares two limit names (listed left ours) (listed right theirs) said others
+    (side_of vars old one two limit names left ours said h rise comparable.0 built more)
+    (side_of vars one two two limit names right theirs others (lines_kept vars old one keeps right others h') rise'
+    comparable.1 built' (extends_itself two))
+    away new result are_open.rising
+    (record {
+      lines = none';
+      ours = none_too_many limit names said away.few built.2;
+      theirs = none_too_many limit names others away.few_others built'.2;
+    })
+    is
+
+-- ---- the open packages
+
+pub open_at : (limit : ℕ) (l l' r r' : List Line) (ns ns' : List (List ℕ)) → l ≡ l' → r ≡ r' → ns ≡ ns' →
+    AreOpen limit l r ns → AreOpen limit l' r' ns'
+open_at limit l l' r r' ns ns' el er en h =
+    subst (λ x. AreOpen limit x r' ns') el
+    (subst (λ x. AreOpen limit l x ns') er (subst (AreOpen limit l r) en h))

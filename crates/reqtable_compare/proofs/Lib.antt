@@ -13,3 +13,9 @@ pub mod Trees
 pub mod Whole
 pub mod Answering
 pub mod Apart
+pub mod Covered
+pub mod Meant
+pub mod Few
+pub mod Among
+pub mod Outside
+pub mod Opening

@@ -14,7 +14,7 @@ use Rattle.reqtable_compare.specs.Pairs.{AreOfTrees}
 use Rattle.reqtable_compare.specs.declared.sides.Same.{Same}
 use Rattle.reqtable_compare.specs.declared.sides.Same.TheVariants.{Yes, No}
 use Rattle.reqtable_compare.specs.declared.sides.SameError.{SameError}
-use Rattle.reqtable_compare.specs.Differences.{Listed, Place, IsFirstPlace, AreNames, AnswersPlace, ComparesTables}
+use Rattle.reqtable_compare.specs.Differences.{Listed, Place, IsFirstPlace, AnswersPlace, ComparesTables}
 use Rattle.reqtable_compare.proofs.Packages.{summed_under}
 
 made_each : (nodes : List NodeRecord) (marking : Marking) (lines : List Line) (kept : List KeptLine)
@@ -77,15 +77,13 @@ place_meets nodes left right names place ours theirs first =
     }
 
 pub answers_are : (old new : List NodeRecord) (left right : Listed) (names : List (List ℕ)) (place : Place)
-    (result : Result Same SameError) → AreNames left right names → IsFirstPlace old left right names place →
-    AnswersPlace old new place result → ComparesTables old new left right result
-answers_are old new left right names place (Ok Yes) are first h = absurd h
-answers_are old new left right names place (Ok (No name tree)) are first h = record {
-  names = names;
-  are = are;
+    (result : Result Same SameError) → IsFirstPlace old left right names place → AnswersPlace old new place result →
+    ComparesTables old new left right names result
+answers_are old new left right names place (Ok Yes) first h = absurd h
+answers_are old new left right names place (Ok (No name tree)) first h = record {
   place = place;
   first = first;
   named = h.0;
   both = h.1;
 }
-answers_are old new left right names place (Err error) are first h = h
+answers_are old new left right names place (Err error) first h = h

@@ -1,12 +1,13 @@
 -- What the tables of two lists say of what the lists require.
-use Rattle.std.proofs.Common.{◌≡◌, ◌∙◌, ◌||◌, ℕ, Bool, true, false, cond, List, [], ◌∷◌, ◌++◌, filter, Option, Some, None}
+use Rattle.std.proofs.Common.{◌≡◌, ◌∙◌, ◌||◌, ℕ, Bool, true, false, cond, List, [], ◌∷◌, ◌++◌, filter, Option}
+use Rattle.std.proofs.Common.{Some, None}
 use Rattle.std.proofs.Common.{Result, Ok, Err, refl, sym, ap, subst, true≢false, Less, Greater}
 use Rattle.std.specs.List.{list_any, AllZip, AllByRecursion}
 use Rattle.std.specs.List.Sorted.{IsStrictlySortedBy}
 use Rattle.std.specs.Ordering.{nat_cmp, ordering_reverse}
 use Rattle.std.specs.Cmp.Lexicographic.{slice_cmp}
 use Rattle.std.specs.Str.{bytes_eq}
-use Rattle.std.proofs.lemmas.Cmp.{nat_list_cmp_total}
+use Rattle.std.proofs.lemmas.Cmp.{nat_list_cmp_total, nat_list_eq_equiv}
 use Rattle.pep508_diagram.specs.Question.{Valuation}
 use Rattle.pep508_tree.specs.Tree.{Tree}
 use Rattle.pep508_tree.specs.Meaning.{NodeRecord, Extends}
@@ -14,14 +15,13 @@ use Rattle.pep508_cases.proofs.Keeping.{cases_kept}
 use Rattle.pep508_url.specs.Vars.{Variables}
 use Rattle.reqtable_answer.specs.Asks.{is_of}
 use Rattle.reqtable_answer.proofs.Tests.{same_bytes}
-use Rattle.reqtable_requirements.specs.Asks.{lines_of, asks_of}
+use Rattle.reqtable_requirements.specs.Asks.{lines_of}
 use Rattle.reqtable_requirements.specs.LineReading.{LineRecord}
 use Rattle.reqtable_requirements.specs.Requirements.{StandsFor}
 use Rattle.reqtable_requirements.specs.declared.requirements.Line.{Line}
-use Rattle.reqtable_cases.specs.Lines.{is_named, line_marks}
+use Rattle.reqtable_cases.specs.Lines.{line_marks}
 use Rattle.reqtable_cases.specs.Requires.{RequireAlike, RequireTheSame, IsFirstDifference, asked_of}
 use Rattle.reqtable_table.specs.Cases.{AreCasesOf, cases_under, Builds}
-use Rattle.reqtable_table.specs.Given.{is_under}
 use Rattle.reqtable_table.specs.Kept.{KeptCase, KeptPackage}
 use Rattle.reqtable_table.proofs.CasesOfLines.{cases_of_lines, none_of_lines}
 use Rattle.reqtable_compare.specs.declared.sides.Same.{Same}
@@ -30,46 +30,29 @@ use Rattle.reqtable_compare.specs.declared.sides.SameError.{SameError}
 use Rattle.reqtable_compare.specs.declared.sides.SameError.TheVariants as errors
 use Rattle.reqtable_compare.specs.declared.sides.Side.TheVariants.{Left, Right}
 use Rattle.reqtable_compare.specs.Compared.{NoneTooMany, MayCompare, Compares, TablesSide}
-use Rattle.reqtable_compare.specs.Differences.{Listed, Sums, AgreeOn, IsFirstPlace, Place, AreNames, IsBoth}
+use Rattle.reqtable_compare.specs.Differences.{Listed, Sums, AgreeOn, IsFirstPlace, Place, IsBoth}
 use Rattle.reqtable_compare.specs.Differences.{ComparesTables, listed}
 use Rattle.reqtable_compare.specs.Refusals.{line_refusal}
+use Rattle.reqtable_compare.specs.Settled.{said_among}
 use Rattle.reqtable_compare.specs.Summed.{SummaryRecord, AreSummaries}
 use Rattle.reqtable_compare.specs.Totals.{AreSummed}
 use Rattle.reqtable_compare.proofs.ByNumber.{Rise, HasExtras, extras_said}
 use Rattle.reqtable_compare.proofs.Comparable.{AreComparable}
 use Rattle.reqtable_compare.proofs.Summaries.{no_summaries, some_summaries}
 use Rattle.reqtable_compare.proofs.Paired.{all_pass, differs}
-
--- ---- lines by their names
-
-unnamed_by : {A : Type 0} (b : Bool) (rest : Bool) (x : A) (ys : List A) → (b || rest) ≡ false →
-    (rest ≡ false → ys ≡ []) → cond b (x ∷ ys) ys ≡ []
-unnamed_by true rest x ys h below = absurd (true≢false h)
-unnamed_by false rest x ys h below = below h
-
-unnamed : {A : Type 0} (p : A → Bool) (xs : List A) → list_any p xs ≡ false → filter p xs ≡ []
-unnamed p [] h = refl
-unnamed p (x ∷ xs) h = unnamed_by (p x) (list_any p xs) x (filter p xs) h (unnamed p xs)
-
-named_alike : (vars : Variables) (nodes : List NodeRecord) (lines : List Line) (said : List LineRecord)
-    (q : List ℕ) → AllZip (StandsFor vars nodes) lines said → list_any (is_under q) lines ≡ is_named q said
-named_alike vars nodes [] [] q h = refl
-named_alike vars nodes [] (one ∷ said) q h = absurd h
-named_alike vars nodes (line ∷ lines) [] q h = absurd h
-named_alike vars nodes (line ∷ lines) (one ∷ said) q h =
-    let first = ap (bytes_eq q) h.0.name in
-    let rest = named_alike vars nodes lines said q h.1 in
-    λ i. first i || rest i
+use Rattle.reqtable_compare.proofs.Among.{among_lines, none_too_many, first_too_many}
+use Rattle.reqtable_compare.proofs.Outside.{AreOutside, unnamed}
 
 -- ---- a list with its table, and what its lines say
 
-pub record SideOf (nodes : List NodeRecord) (side : Listed) (said : List LineRecord) : Type 0 where
+pub record SideOf (nodes : List NodeRecord) (names : List (List ℕ)) (side : Listed) (said : List LineRecord)
+    : Type 0 where
   pub extras : AllByRecursion (HasExtras side.lines) said
-  pub named : (q : List ℕ) → list_any (is_under q) side.lines ≡ is_named q said
   pub comparable : AreComparable said
-  pub some : (q : List ℕ) (cases : List KeptCase) → cases_under q side.table ≡ Some cases →
-      AreCasesOf nodes (lines_of q said) cases
-  pub none : (q : List ℕ) → cases_under q side.table ≡ None → is_named q said ≡ false
+  pub some : (q : List ℕ) (cases : List KeptCase) → list_any (bytes_eq q) names ≡ true →
+      cases_under q side.table ≡ Some cases → AreCasesOf nodes (lines_of q said) cases
+  pub none : (q : List ℕ) → list_any (bytes_eq q) names ≡ true → cases_under q side.table ≡ None →
+      lines_of q said ≡ []
 
 kept_cases : (old new : List NodeRecord) (lines : List LineRecord) (cases : List KeptCase) → Extends old new →
     AreCasesOf old lines cases → AreCasesOf new lines cases
@@ -79,86 +62,69 @@ kept_cases old new lines cases keeps of = record {
   each = of.each;
 }
 
-pub side_of : (vars : Variables) (old made new : List NodeRecord) (limit : ℕ) (lines : List Line)
+pub side_of : (vars : Variables) (old made new : List NodeRecord) (limit : ℕ) (names : List (List ℕ)) (lines : List Line)
     (table : List KeptPackage) (said : List LineRecord) → AllZip (StandsFor vars old) lines said → Rise lines →
-    AreComparable said → Builds limit made said (Ok table) → Extends made new →
-    SideOf new (listed lines table) said
-side_of vars old made new limit lines table said stand rise comparable built keeps = record {
+    AreComparable said → Builds limit made (said_among names said) (Ok table) → Extends made new →
+    SideOf new names (listed lines table) said
+side_of vars old made new limit names lines table said stand rise comparable built keeps = record {
   extras = extras_said vars old lines said stand rise;
-  named = λ q. named_alike vars old lines said q stand;
   comparable = comparable;
-  some = λ q cases is. kept_cases made new (lines_of q said) cases keeps
-      (cases_of_lines made table said q cases built.0 built.1 is);
-  none = λ q is. none_of_lines made table said q built.0 is;
+  some = λ q cases there is. kept_cases made new (lines_of q said) cases keeps
+      (subst (λ l. AreCasesOf made l cases) (among_lines names q said there)
+      (cases_of_lines made table (said_among names said) q cases built.0 built.1 is));
+  none = λ q there is. sym (among_lines names q said there)
+      ∙ unnamed (λ line. is_of q line.front) (said_among names said)
+      (none_of_lines made table (said_among names said) q built.0 is);
 }
 
-sums_by : (nodes : List NodeRecord) (side : Listed) (said : List LineRecord) (q : List ℕ)
-    (summaries : List SummaryRecord) (cases : Option (List KeptCase)) → SideOf nodes side said →
-    cases_under q side.table ≡ cases → AreSummed side.lines cases summaries →
+sums_by : (nodes : List NodeRecord) (names : List (List ℕ)) (side : Listed) (said : List LineRecord) (q : List ℕ)
+    (summaries : List SummaryRecord) (cases : Option (List KeptCase)) → SideOf nodes names side said →
+    list_any (bytes_eq q) names ≡ true → cases_under q side.table ≡ cases → AreSummed side.lines cases summaries →
     AreSummaries nodes (lines_of q said) summaries
-sums_by nodes side said q summaries None of is sums =
-    no_summaries nodes (lines_of q said) summaries (unnamed (λ line. is_of q line.front) said (of.none q is)) sums
-sums_by nodes side said q summaries (Some cases) of is sums =
-    some_summaries nodes side.lines q said summaries cases of.extras of.comparable sums (of.some q cases is)
+sums_by nodes names side said q summaries None of there is sums =
+    no_summaries nodes (lines_of q said) summaries (of.none q there is) sums
+sums_by nodes names side said q summaries (Some cases) of there is sums =
+    some_summaries nodes side.lines q said summaries cases of.extras of.comparable sums (of.some q cases there is)
 
-sums_of : (nodes : List NodeRecord) (side : Listed) (said : List LineRecord) (q : List ℕ)
-    (summaries : List SummaryRecord) → SideOf nodes side said → Sums side q summaries →
-    AreSummaries nodes (lines_of q said) summaries
-sums_of nodes side said q summaries of sums =
-    sums_by nodes side said q summaries (cases_under q side.table) of refl sums
+sums_of : (nodes : List NodeRecord) (names : List (List ℕ)) (side : Listed) (said : List LineRecord) (q : List ℕ)
+    (summaries : List SummaryRecord) → SideOf nodes names side said → list_any (bytes_eq q) names ≡ true →
+    Sums side q summaries → AreSummaries nodes (lines_of q said) summaries
+sums_of nodes names side said q summaries of there sums =
+    sums_by nodes names side said q summaries (cases_under q side.table) of there refl sums
 
 -- ---- both require the same
 
-module _ (nodes : List NodeRecord) (left right : Listed) (said others : List LineRecord)
-    (ours : SideOf nodes left said) (theirs : SideOf nodes right others) where
+module _ (nodes : List NodeRecord) (limit : ℕ) (names : List (List ℕ)) (left right : Listed)
+    (said others : List LineRecord) (ours : SideOf nodes names left said) (theirs : SideOf nodes names right others)
+    (outside : AreOutside limit names said others) where
   abbrev AlikeOn : List ℕ → Type 0
   AlikeOn q = (v : Valuation) → RequireAlike (asked_of q v said) (asked_of q v others)
 
-  agree : (q : List ℕ) → AgreeOn nodes left right q → AlikeOn q
-  agree q a v =
+  agree : (q : List ℕ) → list_any (bytes_eq q) names ≡ true → AgreeOn nodes left right q → AlikeOn q
+  agree q there a v =
       all_pass nodes (lines_of q said) (lines_of q others) a.ours a.theirs
-      (sums_of nodes left said q a.ours ours a.our_sums) (sums_of nodes right others q a.theirs theirs a.their_sums)
-      a.pass v
-
-  neither : (q : List ℕ) → lines_of q said ≡ [] → lines_of q others ≡ [] → AlikeOn q
-  neither q none none' v =
-      subst (λ l. RequireAlike (asks_of v l) (asked_of q v others)) (sym none)
-      (subst (λ l. RequireAlike [] (asks_of v l)) (sym none') tt)
-
-  parts_false : (a b : Bool) → (a || (b || false)) ≡ false → (a ≡ false) × (b ≡ false)
-  parts_false true b h = absurd (true≢false h)
-  parts_false false true h = absurd (true≢false h)
-  parts_false false false h = (refl, refl)
-
-  absent : (names : List (List ℕ)) (q : List ℕ) → AreNames left right names → list_any (bytes_eq q) names ≡ false →
-      AlikeOn q
-  absent names q are h =
-      let parts = parts_false (list_any (is_under q) left.lines) (list_any (is_under q) right.lines) (sym (are.are q) ∙ h) in
-      neither q (unnamed (λ line. is_of q line.front) said (sym (ours.named q) ∙ parts.0))
-      (unnamed (λ line. is_of q line.front) others (sym (theirs.named q) ∙ parts.1))
+      (sums_of nodes names left said q a.ours ours there a.our_sums)
+      (sums_of nodes names right others q a.theirs theirs there a.their_sums) a.pass v
 
   member_by : (P : List ℕ → Type 0) (q n : List ℕ) (rest : Bool) (b : Bool) → bytes_eq q n ≡ b → P n →
       (b || rest) ≡ true → (rest ≡ true → P q) → P q
   member_by P q n rest true e one h below = subst P (sym (same_bytes q n e)) one
   member_by P q n rest false e one h below = below h
 
-  member : (P : List ℕ → Type 0) (q : List ℕ) (names : List (List ℕ)) → AllByRecursion P names →
-      list_any (bytes_eq q) names ≡ true → P q
+  member : (P : List ℕ → Type 0) (q : List ℕ) (some : List (List ℕ)) → AllByRecursion P some →
+      list_any (bytes_eq q) some ≡ true → P q
   member P q [] all h = absurd (cc)
-  member P q (n ∷ names) all h =
-      member_by P q n (list_any (bytes_eq q) names) (bytes_eq q n) refl all.0 h (member P q names all.1)
+  member P q (n ∷ some) all h =
+      member_by P q n (list_any (bytes_eq q) some) (bytes_eq q n) refl all.0 h (member P q some all.1)
 
-  either_way : (names front : List (List ℕ)) (q : List ℕ) (b : Bool) → AreNames left right names →
-      list_any (bytes_eq q) names ≡ b → AllByRecursion (AgreeOn nodes left right) front →
+  either_way : (front : List (List ℕ)) (q : List ℕ) (b : Bool) → list_any (bytes_eq q) names ≡ b →
+      AllByRecursion (AgreeOn nodes left right) front →
       (list_any (bytes_eq q) names ≡ true → list_any (bytes_eq q) front ≡ true) → AlikeOn q
-  either_way names front q true are e all there =
-      agree q (member (AgreeOn nodes left right) q front all (there e))
-  either_way names front q false are e all there = absent names q are e
+  either_way front q true e all there = agree q e (member (AgreeOn nodes left right) q front all (there e))
+  either_way front q false e all there = outside.alike q e
 
-  same_all : (names : List (List ℕ)) → AreNames left right names → AllByRecursion (AgreeOn nodes left right) names →
-      RequireTheSame said others
-  same_all names are all q =
-      either_way names names q (list_any (bytes_eq q) names) are refl all (λ h. h)
+  same_all : AllByRecursion (AgreeOn nodes left right) names → RequireTheSame said others
+  same_all all q = either_way names q (list_any (bytes_eq q) names) refl all (λ h. h)
 
   -- ---- or not
 
@@ -175,6 +141,10 @@ module _ (nodes : List NodeRecord) (left right : Listed) (said others : List Lin
   in_front_by q n front back false e rise less h =
       earlier q n less (member (λ y. slice_cmp nat_cmp n y ≡ Less) q back rise h)
 
+  or_true : (b : Bool) → (b || true) ≡ true
+  or_true true = refl
+  or_true false = refl
+
   or_there : (b c d : Bool) → (b || c) ≡ true → (c ≡ true → d ≡ true) → (b || d) ≡ true
   or_there true c d h f = refl
   or_there false c d h f = f h
@@ -188,15 +158,23 @@ module _ (nodes : List NodeRecord) (left right : Listed) (said others : List Lin
       or_there (bytes_eq q f) (list_any (bytes_eq q) (front ++ n ∷ back)) (list_any (bytes_eq q) front) h
       (in_front q n front back rise.1 less)
 
-  first_difference : (new : List NodeRecord) (names : List (List ℕ)) (place : Place) (tree : Tree) →
-      AreNames left right names → IsFirstPlace nodes left right names place →
+  in_middle : (n : List ℕ) (front back : List (List ℕ)) → list_any (bytes_eq n) (front ++ n ∷ back) ≡ true
+  in_middle n [] back = ap (λ b. b || list_any (bytes_eq n) back) (nat_list_eq_equiv.refl n)
+  in_middle n (f ∷ front) back =
+      or_there (bytes_eq n f) true (list_any (bytes_eq n) (front ++ n ∷ back)) (or_true (bytes_eq n f))
+      (λ h. in_middle n front back)
+
+  first_difference : (new : List NodeRecord) (place : Place) (tree : Tree) →
+      IsStrictlySortedBy (slice_cmp nat_cmp) names → IsFirstPlace nodes left right names place →
       IsBoth nodes new place.1.0 place.1.1 tree → IsFirstDifference said others new place.0 tree
-  first_difference new names place tree are first both =
+  first_difference new place tree rising first both =
       let d = first.differ in
       let n = place.0 in
+      let there : list_any (bytes_eq n) names ≡ true =
+      subst (λ ns. list_any (bytes_eq n) ns ≡ true) (sym first.split) (in_middle n first.front first.back) in
       let all = differs nodes new (lines_of n said) (lines_of n others) d.ours d.theirs place.1.0 place.1.1 tree
-      (sums_of nodes left said n d.ours ours d.our_sums)
-      (sums_of nodes right others n d.theirs theirs d.their_sums) d.pair both in
+      (sums_of nodes names left said n d.ours ours there d.our_sums)
+      (sums_of nodes names right others n d.theirs theirs there d.their_sums) d.pair both in
       record {
         pair = all.pair;
         made = all.made;
@@ -204,36 +182,43 @@ module _ (nodes : List NodeRecord) (left right : Listed) (said others : List Lin
         means = all.means;
         differ = all.differ;
         first = all.first;
-        before = λ q v less. either_way names first.front q (list_any (bytes_eq q) names) are refl first.before
+        before = λ q v less. either_way first.front q (list_any (bytes_eq q) names) refl first.before
             (λ h. in_front q n first.front first.back
-            (subst (IsStrictlySortedBy (slice_cmp nat_cmp)) first.split are.rising) less
+            (subst (IsStrictlySortedBy (slice_cmp nat_cmp)) first.split rising) less
             (subst (λ ns. list_any (bytes_eq q) ns ≡ true) first.split h)) v;
       }
 
-  pub compares : (new : List NodeRecord) (limit : ℕ) (result : Result Same SameError) → MayCompare limit said others →
-      ComparesTables nodes new left right result → Compares limit new said others result
-  compares new limit (Ok Yes) may h = (may, same_all h.0 h.1 h.2)
-  compares new limit (Ok (No name tree)) may h = (
+  pub compares : (new : List NodeRecord) (result : Result Same SameError) →
+      IsStrictlySortedBy (slice_cmp nat_cmp) names → MayCompare limit said others →
+      ComparesTables nodes new left right names result → Compares limit new said others result
+  compares new (Ok Yes) rising may h = (may, same_all h)
+  compares new (Ok (No name tree)) rising may h = (
     may,
     subst (λ n. IsFirstDifference said others new n tree) (sym h.named)
-        (first_difference new h.names h.place tree h.are h.first h.both),
+        (first_difference new h.place tree rising h.first h.both),
   )
-  compares new limit (Err error) may h = subst (λ e. Compares limit new said others (Err e)) (sym h) tt
+  compares new (Err error) rising may h = subst (λ e. Compares limit new said others (Err e)) (sym h) tt
 
 -- ---- a table that is refused
 
-pub left_refused : (limit : ℕ) (nodes new : List NodeRecord) (said others : List LineRecord) (error : SameError) →
-    line_refusal said others ≡ None → TablesSide Left limit nodes said (Err error) →
-    Compares limit new said others (Err error)
-left_refused limit nodes new said others (errors.Line side number cause) none h = absurd h
-left_refused limit nodes new said others (errors.TooManyCases Left name) none h = (none, h.1)
-left_refused limit nodes new said others (errors.TooManyCases Right name) none h = let wrong = h.0 in absurd (cc)
-left_refused limit nodes new said others errors.Memory none h = tt
+module _ (limit : ℕ) (names : List (List ℕ)) (said others : List LineRecord)
+    (outside : AreOutside limit names said others) where
+  pub left_refused : (nodes new : List NodeRecord) (error : SameError) → line_refusal said others ≡ None →
+      TablesSide Left limit nodes (said_among names said) (Err error) → Compares limit new said others (Err error)
+  left_refused nodes new (errors.Line side number cause) none h = absurd h
+  left_refused nodes new (errors.TooManyCases Left name) none h =
+      (none, first_too_many limit names said outside.few name h.1)
+  left_refused nodes new (errors.TooManyCases Right name) none h = let wrong = h.0 in absurd (cc)
+  left_refused nodes new errors.Memory none h = tt
 
-pub right_refused : (limit : ℕ) (nodes new : List NodeRecord) (said others : List LineRecord) (error : SameError) →
-    line_refusal said others ≡ None → NoneTooMany limit said → TablesSide Right limit nodes others (Err error) →
-    Compares limit new said others (Err error)
-right_refused limit nodes new said others (errors.Line side number cause) none few h = absurd h
-right_refused limit nodes new said others (errors.TooManyCases Left name) none few h = let wrong = h.0 in absurd (cc)
-right_refused limit nodes new said others (errors.TooManyCases Right name) none few h = (none, few, h.1)
-right_refused limit nodes new said others errors.Memory none few h = tt
+  pub right_refused : (nodes new : List NodeRecord) (error : SameError) → line_refusal said others ≡ None →
+      NoneTooMany limit (said_among names said) → TablesSide Right limit nodes (said_among names others) (Err error) →
+      Compares limit new said others (Err error)
+  right_refused nodes new (errors.Line side number cause) none few h = absurd h
+  right_refused nodes new (errors.TooManyCases Left name) none few h = let wrong = h.0 in absurd (cc)
+  right_refused nodes new (errors.TooManyCases Right name) none few h = (
+    none,
+    none_too_many limit names said outside.few few,
+    first_too_many limit names others outside.few_others name h.1,
+  )
+  right_refused nodes new errors.Memory none few h = tt

@@ -1,17 +1,12 @@
 -- The first of some packages of which two lists require different things.
-use Rattle.std.specs.Prelude.{◌≡◌, ◌&&◌, ◌||◌, ℕ, true, false, List, ◌∷◌, ◌++◌, Option, Some, None}
+use Rattle.std.specs.Prelude.{◌≡◌, ◌&&◌, ℕ, true, List, ◌∷◌, ◌++◌, Option, Some, None}
 use Rattle.std.specs.Prelude.{Result, Ok, Err}
-use Rattle.std.specs.List.{list_any, AllByRecursion}
-use Rattle.std.specs.List.Sorted.{IsStrictlySortedBy}
-use Rattle.std.specs.Ordering.{nat_cmp}
-use Rattle.std.specs.Cmp.Lexicographic.{slice_cmp}
-use Rattle.std.specs.Str.{bytes_eq}
+use Rattle.std.specs.List.{AllByRecursion}
 use Rattle.pep508_diagram.specs.Question.{Valuation}
 use Rattle.pep508_tree.specs.Tree.{Tree}
 use Rattle.pep508_tree.specs.Meaning.{NodeRecord, IsTree, holds}
 use Rattle.reqtable_requirements.specs.declared.requirements.Line.{Line}
 use Rattle.reqtable_table.specs.Cases.{cases_under}
-use Rattle.reqtable_table.specs.Given.{is_under}
 use Rattle.reqtable_table.specs.Kept.{KeptPackage}
 use Rattle.reqtable_compare.specs.declared.comparing.Place.{Place as Found}
 use Rattle.reqtable_compare.specs.declared.sides.Same.{Same}
@@ -64,12 +59,6 @@ abbrev pub FindsPlace : List NodeRecord → Listed → Listed → List (List ℕ
 FindsPlace nodes left right names None = AllByRecursion (AgreeOn nodes left right) names
 FindsPlace nodes left right names (Some place) = IsFirstPlace nodes left right names place
 
--- the names of the packages that either list names, each once and rising
-pub record AreNames (left right : Listed) (names : List (List ℕ)) : Type 0 where
-  pub rising : IsStrictlySortedBy (slice_cmp nat_cmp) names
-  pub are : (name : List ℕ) → list_any (bytes_eq name) names
-      ≡ (list_any (is_under name) left.lines || (list_any (is_under name) right.lines || false))
-
 -- ---- and what comes of it
 
 abbrev pub listed : List Line → List KeptPackage → Listed
@@ -90,19 +79,17 @@ AnswersPlace old new place (Ok (No name tree)) =
     (name ≡ place.0) × IsBoth old new place.1.0 place.1.1 tree
 AnswersPlace old new place (Err error) = error ≡ Memory
 
--- what comparing the tables of two lists answers
-pub record DiffersFirst (old new : List NodeRecord) (left right : Listed) (name : List ℕ) (tree : Tree)
-    : Type 0 where
-  pub names : List (List ℕ)
-  pub are : AreNames left right names
+-- what comparing the tables of two lists on some packages answers
+pub record DiffersFirst (old new : List NodeRecord) (left right : Listed) (names : List (List ℕ))
+    (name : List ℕ) (tree : Tree) : Type 0 where
   pub place : Place
   pub first : IsFirstPlace old left right names place
   pub named : name ≡ place.0
   pub both : IsBoth old new place.1.0 place.1.1 tree
 
-abbrev pub ComparesTables : List NodeRecord → List NodeRecord → Listed → Listed → Result Same SameError
-    → Type 0
-ComparesTables old new left right (Ok Yes) =
-    (names : List (List ℕ)) × AreNames left right names × AllByRecursion (AgreeOn old left right) names
-ComparesTables old new left right (Ok (No name tree)) = DiffersFirst old new left right name tree
-ComparesTables old new left right (Err error) = error ≡ Memory
+abbrev pub ComparesTables : List NodeRecord → List NodeRecord → Listed → Listed → List (List ℕ)
+    → Result Same SameError → Type 0
+ComparesTables old new left right names (Ok Yes) = AllByRecursion (AgreeOn old left right) names
+ComparesTables old new left right names (Ok (No name tree)) =
+    DiffersFirst old new left right names name tree
+ComparesTables old new left right names (Err error) = error ≡ Memory

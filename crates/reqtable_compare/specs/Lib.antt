@@ -8,4 +8,5 @@ pub mod Totals
 pub mod Pairs
 pub mod Differences
 pub mod Answered
+pub mod Settled
 pub mod Errors

@@ -1,11 +1,10 @@
 //! Two lists, compared package by package.
 
-ghost use Rattle.std.specs.Prelude.{◌≡◌, ◌||◌, ℕ, false, List, map, IfOk};
-ghost use Rattle.std.specs.List.{list_any, AllZip, AllByRecursion};
+ghost use Rattle.std.specs.Prelude.{◌≡◌, None, List, map, IfOk};
+ghost use Rattle.std.specs.List.{AllZip, AllByRecursion};
 ghost use Rattle.std.specs.List.Sorted.{IsStrictlySortedBy};
 ghost use Rattle.std.specs.Ordering.{nat_cmp};
 ghost use Rattle.std.specs.Cmp.Lexicographic.{slice_cmp};
-ghost use Rattle.std.specs.Str.{bytes_eq};
 ghost use Rattle.std.specs.Option.{option_map};
 ghost use Rattle.pep508_url.specs.Vars.{Variables};
 ghost use Rattle.pep508_tree.specs.Meaning.{IsTree, Extends};
@@ -13,21 +12,22 @@ ghost use Rattle.pep508_tree.specs.Disjoint.{AreDisjoint};
 ghost use Rattle.reqtable_requirements.specs.Asks.{AreOfNodes};
 ghost use Rattle.reqtable_requirements.specs.LineReading.{LineRecord};
 ghost use Rattle.reqtable_requirements.specs.Requirements.{StandsFor};
-ghost use Rattle.reqtable_table.specs.Cases.{HasItsCases};
-ghost use Rattle.reqtable_table.specs.Given.{is_under};
+ghost use Rattle.reqtable_table.specs.Cases.{Builds, HasItsCases};
 ghost use Rattle.reqtable_compare.specs.Compared.{Compares, TablesSide};
 ghost use Rattle.reqtable_compare.specs.Differences.{FindsPlace, place_seen, listed, AnswersPlace};
 ghost use Rattle.reqtable_compare.specs.Differences.{ComparesTables};
+ghost use Rattle.reqtable_compare.specs.RefusedLines.{lines_refusal};
+ghost use Rattle.reqtable_compare.specs.Settled.{AreOpen, said_among};
 
 use crate::pairing::{Meeting, first_trees};
 use crate::refusing::first_refusal;
+use crate::settled::open_packages;
 use crate::sides::{Same, SameError, Side};
 use crate::summing::summaries;
 use pep508_name::PackageName;
 use pep508_tree::Interner;
 use pep508_tree_laws::{a_tree_holds_somewhere, constants_are_named};
-use reqtable_conflicts::{package_names, table_of_lent};
-use reqtable_requirements::{Line, Requirements};
+use reqtable_requirements::{Line, Requirements, copied_packages};
 use reqtable_table::{Table, TableError};
 use std::alloc::{AllocError, Global};
 
@@ -38,8 +38,8 @@ struct Place {
     meeting: Meeting,
 }
 
-/// Whether two lists require the same of each package under each valuation of markers: the package or not, the
-/// same extras of it, the same points in the ranges of all its specifiers (PEP 440, "Version
+/// Whether two lists require the same of each package under each valuation of markers: the package or not,
+/// the same extras of it, the same points in the ranges of all its specifiers (PEP 440, "Version
 /// specifiers"), also where no version lies between two, and whether any of these specifiers has a
 /// pre-release or developmental release (PEP 440, "Handling of pre-releases"). If not, the first package that
 /// differs, and the marker of the first pair of its cases that do.
@@ -48,9 +48,14 @@ struct Place {
 /// can't be compared, even where it never applies; and a package can't that has more cases than the limit in
 /// one of the lists, whatever differs before it. Both lists must have been read with this interner.
 ///
-/// The tables of both lists are made, as `Table::build` does: so cases are counted in either. A package with k
-/// and m cases takes at most k * m comparisons of what two cases require, and k where each case of it stands
-/// in both lists and requires the same there, as where its lines are equal, in whatever order.
+/// A package of which both lists have equal lines, in whatever order, is settled by these: the same extras,
+/// specifiers of the same operators and numbers, and equal markers. No case of it is made, where n lines of
+/// it can't have more cases than the limit, 2^n <= limit, in either list. n lines take O(n log n) comparisons
+/// of names, and a package with k and m of them at most 2 * k * m comparisons of lines.
+///
+/// Of the lines of all other packages tables are made, of a copy, as `Table::build` does: so cases are
+/// counted in either list. A package with k and m cases takes at most k * m comparisons of what two cases
+/// require, and k where each case of it stands in both lists and requires the same there.
 pub fn same<'a>(
     alloc: Global,
     left: &'a Requirements,
@@ -66,8 +71,6 @@ pub fn same<'a>(
         Compares limit interner.new.nodes said others result }
     ensures keeps { Extends interner.old.nodes interner.new.nodes }
 {
-    left.are_read();
-    right.are_read();
     if let Some(refused) = first_refusal(alloc, left.lines(), right.lines())? {
         return Err(SameError::Line {
             side: refused.side,
@@ -75,49 +78,105 @@ pub fn same<'a>(
             cause: refused.cause,
         });
     }
-    let left_table = side_table(alloc, Side::Left, left, interner, limit)?;
-    let right_table = side_table(alloc, Side::Right, right, interner, limit)?;
-    compared(alloc, left, &left_table, right, &right_table, interner)
+    let names = open_packages(alloc, left.lines(), right.lines(), limit)?;
+    compared_on(alloc, left, right, &names, interner, limit)
 }
 
-/// The table of one of two lists.
+/// Compares two lists on the open ones of their packages.
+fn compared_on(
+    alloc: Global,
+    left: &Requirements,
+    right: &Requirements,
+    names: &[&PackageName],
+    interner: &mut Interner,
+    limit: u64,
+) -> Result<Same, SameError>
+    requires left { AreOfNodes interner.old.nodes left.now }
+    requires right { AreOfNodes interner.old.nodes right.now }
+    requires none { lines_refusal Side.Left left.now (lines_refusal Side.Right right.now None) ≡ None }
+    requires others { AreOpen limit left.now right.now (map (λ name. name.now) names.now) }
+    ensures compared { (vars : Variables) (said others : List LineRecord) →
+        AllZip (StandsFor vars interner.old.nodes) left.now said →
+        AllZip (StandsFor vars interner.old.nodes) right.now others →
+        Compares limit interner.new.nodes said others result }
+    ensures keeps { Extends interner.old.nodes interner.new.nodes }
+{
+    left.are_read();
+    right.are_read();
+    let left_table = side_table(alloc, Side::Left, left, names, interner, limit)?;
+    let right_table = side_table(alloc, Side::Right, right, names, interner, limit)?;
+    compared(
+        alloc,
+        left,
+        &left_table,
+        right,
+        &right_table,
+        names,
+        interner,
+    )
+}
+
+/// The table of some packages of one of two lists.
 fn side_table(
     alloc: Global,
     side: Side,
     requirements: &Requirements,
+    names: &[&PackageName],
     interner: &mut Interner,
     limit: u64,
 ) -> Result<Table, SameError>
-    requires { AreOfNodes interner.old.nodes requirements.now }
+    requires rising { IsStrictlySortedBy (slice_cmp nat_cmp) (map (λ name. name.now) names.now) }
+    requires trees { AreOfNodes interner.old.nodes requirements.now }
     ensures made { (vars : Variables) (said : List LineRecord) →
         AllZip (StandsFor vars interner.old.nodes) requirements.now said →
-        TablesSide side limit interner.new.nodes said result }
+        TablesSide side limit interner.new.nodes (said_among (map (λ name. name.now) names.now) said) result }
     ensures cases { IfOk result (AllByRecursion (HasItsCases interner.new.nodes)) }
     ensures keeps { Extends interner.old.nodes interner.new.nodes }
 {
-    match table_of_lent(alloc, requirements, interner, limit) {
+    match packages_table(alloc, requirements, names, interner, limit) {
         Ok(table) => Ok(table),
         Err(TableError::TooManyCases { package }) => Err(SameError::TooManyCases { side, package }),
         Err(TableError::Memory) => Err(SameError::Memory),
     }
 }
 
-/// Compares two lists by their tables.
+/// The table of a copy of these packages' lines, so that the requirements stay the caller's.
+fn packages_table(
+    alloc: Global,
+    requirements: &Requirements,
+    names: &[&PackageName],
+    interner: &mut Interner,
+    limit: u64,
+) -> Result<Table, TableError>
+    requires rising { IsStrictlySortedBy (slice_cmp nat_cmp) (map (λ name. name.now) names.now) }
+    requires trees { AreOfNodes interner.old.nodes requirements.now }
+    ensures built { (vars : Variables) (said : List LineRecord) →
+        AllZip (StandsFor vars interner.old.nodes) requirements.now said →
+        Builds limit interner.new.nodes (said_among (map (λ name. name.now) names.now) said) result }
+    ensures cases { IfOk result (AllByRecursion (HasItsCases interner.new.nodes)) }
+    ensures keeps { Extends interner.old.nodes interner.new.nodes }
+{
+    let copy = copied_packages(alloc, requirements, names)?;
+    Table::build(alloc, copy, interner, limit)
+}
+
+/// Compares two lists by the tables of some packages.
 fn compared<'a>(
     alloc: Global,
     left: &'a Requirements,
     left_table: &Table,
     right: &'a Requirements,
     right_table: &Table,
+    names: &[&PackageName],
     interner: &mut Interner,
 ) -> Result<Same, SameError>
     requires left { AllByRecursion (HasItsCases interner.old.nodes) left_table.now }
     requires right { AllByRecursion (HasItsCases interner.old.nodes) right_table.now }
     ensures compared { ComparesTables interner.old.nodes interner.new.nodes
-        (listed left.now left_table.now) (listed right.now right_table.now) result }
+        (listed left.now left_table.now) (listed right.now right_table.now)
+        (map (λ name. name.now) names.now) result }
     ensures keeps { Extends interner.old.nodes interner.new.nodes }
 {
-    let names = names_of(alloc, left.lines(), right.lines())?;
     left.are_read();
     right.are_read();
     let place = first_place(
@@ -126,28 +185,13 @@ fn compared<'a>(
         left_table,
         right.lines(),
         right_table,
-        &names,
+        names,
         interner,
     )?;
     match place {
         Some(place) => difference(alloc, place, interner),
         None => Ok(Same::Yes),
     }
-}
-
-/// The names of the packages that either list names, each once and in the order of their bytes.
-fn names_of<'a>(
-    alloc: Global,
-    left: &'a [Line],
-    right: &'a [Line],
-) -> Result<Vec<&'a PackageName>, AllocError>
-    ensures rise { IfOk result (λ names.
-        IsStrictlySortedBy (slice_cmp nat_cmp) (map (λ name. name.now) names.items)) }
-    ensures are { IfOk result (λ names. (name : List ℕ) →
-        list_any (bytes_eq name) (map (λ n. n.now) names.items)
-        ≡ (list_any (is_under name) left.now || (list_any (is_under name) right.now || false))) }
-{
-    package_names(alloc, &[left, right])
 }
 
 /// The answer of a difference.

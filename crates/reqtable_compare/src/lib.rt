@@ -2,9 +2,11 @@
 #![tactic(auto)]
 
 mod comparing;
+mod equal_lines;
 pub mod laws;
 mod pairing;
 mod refusing;
+mod settled;
 mod sides;
 mod summary;
 mod summing;

@@ -1,5 +1,6 @@
 -- Where just the lines of a conflict apply, no plain version is taken.
-use Rattle.std.proofs.Common.{◌≡◌, ◌∙◌, ◌&&◌, ◌+◌, ℕ, Bool, true, false, cond, not, List, [], ◌∷◌, map, filter}
+use Rattle.std.proofs.Common.{◌≡◌, ◌∙◌, ◌&&◌, ◌+◌, ℕ, Bool, true, false, cond, not, List, [], ◌∷◌, map}
+use Rattle.std.proofs.Common.{filter}
 use Rattle.std.proofs.Common.{All, None, Some, option_map, refl, sym, ap, subst, true≢false}
 use Rattle.std.specs.List.{list_any, list_all, enumerate_from, AllByRecursion}
 use Rattle.std.specs.List.Sorted.{IsStrictlySortedBy}
@@ -21,7 +22,8 @@ use Rattle.reqtable_range.specs.Together.{IsPlain}
 use Rattle.reqtable_answer.specs.declared.answer.Outcome.TheVariants.{Direct, Nothing}
 use Rattle.reqtable_answer.specs.Asks.{specifiers_of, is_of, has_url, ask_takes, names_prerelease}
 use Rattle.reqtable_answer.specs.Asks.{is_candidate, may_be_taken}
-use Rattle.reqtable_answer.specs.Answer.{Admits, RowRecord, IsRow, outcome_of, chosen, first_greatest, by_version}
+use Rattle.reqtable_answer.specs.Answer.{Admits, RowRecord, IsRow, outcome_of, chosen, first_greatest}
+use Rattle.reqtable_answer.specs.Answer.{by_version}
 use Rattle.reqtable_requirements.specs.Asks.{applies, lines_of, asks_of}
 use Rattle.reqtable_requirements.specs.LineReading.{LineRecord}
 use Rattle.reqtable_requirements.proofs.Specifiers.{BuiltLaw}

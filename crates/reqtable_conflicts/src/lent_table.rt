@@ -16,7 +16,7 @@ use std::alloc::Global;
 
 /// The table of requirements that stay the caller's: `Table::build` of a copy of them, which costs a
 /// twentieth of what reading them does.
-pub fn table_of_lent(
+pub(crate) fn table_of_lent(
     alloc: Global,
     requirements: &Requirements,
     interner: &mut Interner,

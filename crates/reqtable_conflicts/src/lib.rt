@@ -1,5 +1,4 @@
-//! Lines of requirement lists that contradict each other; and what every command on whole lists begins with:
-//! the packages that lists name, and the table of a list that is lent.
+//! Lines of requirement lists that contradict each other; and the packages that lists name.
 #![tactic(auto)]
 
 mod contradicting;
@@ -8,5 +7,4 @@ mod lent_table;
 mod names;
 
 pub use contradicting::{Conflict, conflicts};
-pub use lent_table::table_of_lent;
 pub use names::package_names;

@@ -1,5 +1,6 @@
 -- Lines put by their packages, one after another.
-use Rattle.std.proofs.Common.{◌≡◌, ◌∙◌, inl, inr, ℕ, ◌+◌, Bool, true, false, ◌||◌, cond, List, [], ◌∷◌, ◌++◌, map, filter, length, refl, sym, ap, subst, append_assoc, append-nil, arith}
+use Rattle.std.proofs.Common.{◌≡◌, ◌∙◌, inl, inr, ℕ, ◌+◌, Bool, true, false, ◌||◌, cond, List, [], ◌∷◌, ◌++◌}
+use Rattle.std.proofs.Common.{map, filter, length, refl, sym, ap, subst, append_assoc, append-nil, arith}
 use Rattle.std.proofs.lemmas.List.{map-append, length-append}
 use Rattle.std.proofs.lemmas.List.Concat.{flat_map-append}
 use Rattle.std.proofs.lemmas.List.Elements.{filter-append}
@@ -10,7 +11,8 @@ use Rattle.std.specs.Str.{bytes_eq}
 use Rattle.reqtable_groups.specs.declared.given.Given.{Given}
 use Rattle.reqtable_groups.specs.declared.given.NamedGiven.{NamedGiven}
 use Rattle.reqtable_groups.specs.declared.grouping.Group.{Group}
-use Rattle.reqtable_groups.specs.Given.{is_beside, group_names, lines_under, lines_in, AreSoFar, IsNewGroup, IsInLast, IsOfOther, IsAdded}
+use Rattle.reqtable_groups.specs.Given.{is_beside, group_names, lines_under, lines_in, AreSoFar, IsNewGroup}
+use Rattle.reqtable_groups.specs.Given.{IsInLast, IsOfOther, IsAdded}
 use Rattle.reqtable_groups.proofs.Names.{same_again, other_again, same_last, some_last, not_none}
 
 abbrev pub kept_for : List ℕ → Group → List Given

@@ -1,5 +1,6 @@
 -- Members by halves: what their ranges share, and what lists of them take.
-use Rattle.std.proofs.Common.{◌≡◌, ◌∙◌, true, ◌&&◌, List, [], ◌∷◌, ◌++◌, map, length, All, refl, ap, sym, subst, arith, get_or}
+use Rattle.std.proofs.Common.{◌≡◌, ◌∙◌, true, ◌&&◌, List, [], ◌∷◌, ◌++◌, map, length, All, refl, ap, sym}
+use Rattle.std.proofs.Common.{subst, arith, get_or}
 use Rattle.std.proofs.lemmas.Bool.{and_parts, and_from}
 use Rattle.std.proofs.lemmas.List.{map-append}
 use Rattle.std.proofs.lemmas.List.Elements.{All-head, All-tail}

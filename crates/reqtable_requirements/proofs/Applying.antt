@@ -1,5 +1,6 @@
 -- What the lines that apply ask for, as far as a loop over the lines has come.
-use Rattle.std.proofs.Common.{◌≡◌, ◌∙◌, ◌<◌, ◌+◌, ◌++◌, ◌∷◌, [], ℕ, Bool, true, false, cond, List, length, map, filter, take, get_or, append-nil, sym, ap}
+use Rattle.std.proofs.Common.{◌≡◌, ◌∙◌, ◌<◌, ◌+◌, ◌++◌, ◌∷◌, [], ℕ, Bool, true, false, cond, List, length}
+use Rattle.std.proofs.Common.{map, filter, take, get_or, append-nil, sym, ap}
 use Rattle.std.proofs.lemmas.List.{map-append}
 use Rattle.std.proofs.lemmas.List.Elements.{filter_more}
 use Rattle.pep508_diagram.specs.Question.{Valuation}

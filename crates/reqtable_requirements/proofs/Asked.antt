@@ -1,5 +1,6 @@
 -- What lines that were read ask for is what their records do.
-use Rattle.std.proofs.Common.{◌≡◌, Bool, true, false, cond, List, [], ◌∷◌, map, filter, Option, Some, None, Result, Ok, Err, IfOk, sym, subst}
+use Rattle.std.proofs.Common.{◌≡◌, Bool, true, false, cond, List, [], ◌∷◌, map, filter, Option, Some, None}
+use Rattle.std.proofs.Common.{Result, Ok, Err, IfOk, sym, subst}
 use Rattle.std.specs.List.{AllZip}
 use Rattle.pep508_url.specs.Vars.{Variables}
 use Rattle.pep508_url.specs.UrlTexts.{Verbatim}

@@ -16,8 +16,10 @@ use Rattle.pep508_requirement.proofs.Requirements.{FrontFound, FrontAgain, are_r
 use Rattle.reqtable_text.specs.TextLines.{text_lines}
 use Rattle.reqtable_text.proofs.Lines.{each_found, each_again, all_zip_map}
 use Rattle.reqtable_text.proofs.Texts.{text_is_read, text_found}
-use Rattle.reqtable_requirements.specs.LineReading.{LineRecord, LinesFault, NotText, url_of, with_marker, with_rest, with_url, with_source, with_front, line_of}
-use Rattle.reqtable_requirements.specs.LineText.{HasItsUrl, IsRequirementLine, IsNumberedLine, IsRequirementsText}
+use Rattle.reqtable_requirements.specs.LineReading.{LineRecord, LinesFault, NotText, url_of, with_marker}
+use Rattle.reqtable_requirements.specs.LineReading.{with_rest, with_url, with_source, with_front, line_of}
+use Rattle.reqtable_requirements.specs.LineText.{HasItsUrl, IsRequirementLine, IsNumberedLine}
+use Rattle.reqtable_requirements.specs.LineText.{IsRequirementsText}
 use Rattle.reqtable_requirements.specs.Requirements.{requirements_of}
 
 abbrev line_with : ℕ → Front → Formula ExpressionRecord → LineRecord

@@ -8,3 +8,4 @@ pub mod Refusals
 pub mod Numbers
 pub mod Specifiers
 pub mod LineCopies
+pub mod Among

@@ -1,5 +1,6 @@
 -- One copy of a line after another, and what holds of the lines of a text holds of their copies.
-use Rattle.std.proofs.Common.{◌≡◌, ◌∙◌, ℕ, ◌<◌, ◌+◌, List, [], ◌∷◌, ◌++◌, All, Option, length, map, get_or, take, refl, ap, sym, subst}
+use Rattle.std.proofs.Common.{◌≡◌, ◌∙◌, ℕ, ◌<◌, ◌+◌, List, [], ◌∷◌, ◌++◌, All, Option, length, map, get_or}
+use Rattle.std.proofs.Common.{take, refl, ap, sym, subst}
 use Rattle.std.proofs.lemmas.List.{take_more}
 use Rattle.std.proofs.lemmas.List.Elements.{AllZip-push, All-from_recursion, recursion_from_All}
 use Rattle.std.specs.List.{AllByRecursion, AllZip}

@@ -13,7 +13,8 @@ use Rattle.reqtable_text.specs.TextLines.{text_lines, each_line}
 use Rattle.reqtable_text.proofs.Lines.{all_zip_map, zip_more, each_more, tells_all}
 use Rattle.reqtable_text.proofs.Texts.{text_is_read}
 use Rattle.reqtable_requirements.specs.LineReading.{LineRecord, LinesFault, NotText, line_of}
-use Rattle.reqtable_requirements.specs.Requirements.{requirements_of, StandsFor, told_requirements, IsErrorOf, IsErrorIn, ReadsLine, ReadsLines}
+use Rattle.reqtable_requirements.specs.Requirements.{requirements_of, StandsFor, told_requirements, IsErrorOf}
+use Rattle.reqtable_requirements.specs.Requirements.{IsErrorIn, ReadsLine, ReadsLines}
 use Rattle.reqtable_requirements.specs.declared.requirements.Line.{Line}
 use Rattle.reqtable_requirements.specs.declared.requirements.RequirementsError.{RequirementsError}
 use Rattle.reqtable_requirements.specs.declared.requirements.RequirementsError.TheVariants as errors

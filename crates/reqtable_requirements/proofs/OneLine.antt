@@ -1,5 +1,6 @@
 -- What reading a requirement answers, as the reading of its line.
-use Rattle.std.proofs.Common.{◌≡◌, ◌∙◌, ◌⊎◌, inl, inr, ℕ, false, List, Option, Some, None, Result, Ok, Err, refl, ap}
+use Rattle.std.proofs.Common.{◌≡◌, ◌∙◌, ◌⊎◌, inl, inr, ℕ, false, List, Option, Some, None, Result, Ok, Err}
+use Rattle.std.proofs.Common.{refl, ap}
 use Rattle.read_outcome.specs.Outcome.{Tells}
 use Rattle.pep508_url.specs.Vars.{Variables}
 use Rattle.pep508_url.specs.UrlTexts.{Verbatim}
@@ -20,8 +21,10 @@ use Rattle.pep508_requirement.specs.MarkerBehind.{marker_behind}
 use Rattle.pep508_requirement.specs.declared.requirement.Requirement.{Requirement}
 use Rattle.pep508_requirement.specs.declared.version_or_url.VersionOrUrl.{VersionOrUrl}
 use Rattle.pep508_requirement.specs.declared.version_or_url.VersionOrUrl.TheVariants as asked
-use Rattle.pep508_requirement.specs.RequirementReading.{AsksFor, IsReadUpTo, IsRead, IsFrontRefused, IsUrlRefused, IsMarkerRefused, IsRefused, RefusedBy}
-use Rattle.reqtable_requirements.specs.LineReading.{NoRequirement, NumberAtEnd, url_of, with_marker, with_rest, with_url, with_source, with_front, line_of}
+use Rattle.pep508_requirement.specs.RequirementReading.{AsksFor, IsReadUpTo, IsRead, IsFrontRefused}
+use Rattle.pep508_requirement.specs.RequirementReading.{IsUrlRefused, IsMarkerRefused, IsRefused, RefusedBy}
+use Rattle.reqtable_requirements.specs.LineReading.{NoRequirement, NumberAtEnd, url_of, with_marker}
+use Rattle.reqtable_requirements.specs.LineReading.{with_rest, with_url, with_source, with_front, line_of}
 use Rattle.reqtable_requirements.specs.Requirements.{ReadsUrl, refusal_by, refusal_of, ReadsLine}
 
 -- a URL that is asked for was read

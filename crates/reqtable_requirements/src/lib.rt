@@ -5,4 +5,6 @@ mod judgement;
 pub mod laws;
 mod requirements;
 
-pub use requirements::{Line, Requirements, RequirementsError, copied_requirements};
+pub use requirements::{
+    Line, Requirements, RequirementsError, copied_packages, copied_requirements,
+};

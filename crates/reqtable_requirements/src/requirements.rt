@@ -1,10 +1,14 @@
 //! A requirements text: one requirement line after another.
 
-ghost use Rattle.std.specs.Prelude.{◌≡◌, Some, IfOk};
-ghost use Rattle.std.specs.List.{AllZip};
+ghost use Rattle.std.specs.Prelude.{◌≡◌, Some, IfOk, map};
+ghost use Rattle.std.specs.Cmp.Lexicographic.{slice_cmp};
+ghost use Rattle.std.specs.List.{AllZip, list_any};
+ghost use Rattle.std.specs.List.Sorted.{IsStrictlySortedBy};
+ghost use Rattle.std.specs.Ordering.{nat_cmp};
+ghost use Rattle.std.specs.Str.{bytes_eq};
 ghost use Rattle.pep508_tree.specs.Meaning.{Extends};
 ghost use Rattle.reqtable_text.specs.TextLines.{text_lines, each_line};
-ghost use Rattle.reqtable_requirements.specs.Copies.{IsLineCopy};
+ghost use Rattle.reqtable_requirements.specs.Copies.{IsLineCopy, lines_among};
 ghost use Rattle.reqtable_requirements.specs.LineReading.{line_of};
 ghost use Rattle.reqtable_requirements.specs.ReadLines.{AreRead};
 ghost use Rattle.reqtable_requirements.specs.Requirements.{ReadsLine, ReadsLines};
@@ -12,6 +16,7 @@ ghost use Rattle.reqtable_requirements.specs.Requirements.{ReadsRequirements, re
 
 use crate::laws::{line_numbers_rise, specifiers_are_read_from_texts};
 use pep508_error::{Pep508Error, Pep508ErrorSource};
+use pep508_name::PackageName;
 use pep508_requirement::Requirement;
 use pep508_tree::Interner;
 use pep508_url::{Vars, VerbatimUrl};
@@ -200,6 +205,50 @@ fn copies(alloc: Global, lines: &[Line]) -> Result<Vec<Line>, AllocError>
         copies.push(line.try_clone(alloc)?)?;
     }
     Ok(copies)
+}
+
+/// A copy of the lines of some packages, in memory of its own, as `copied_requirements` makes one of all. The
+/// names rise; n lines take O(n log m) comparisons with m names.
+pub fn copied_packages(
+    alloc: Global,
+    requirements: &Requirements,
+    names: &[&PackageName],
+) -> Result<Requirements, AllocError>
+    requires { IsStrictlySortedBy (slice_cmp nat_cmp) (map (λ name. name.now) names.now) }
+    ensures { IfOk result (λ copy. AllZip IsLineCopy copy
+        (lines_among (map (λ name. name.now) names.now) requirements.now)) }
+{
+    let lines = copies_among(alloc, &requirements.lines, names)?;
+    Ok(Requirements { lines })
+}
+
+fn copies_among(
+    alloc: Global,
+    lines: &[Line],
+    names: &[&PackageName],
+) -> Result<Vec<Line>, AllocError>
+    requires { IsStrictlySortedBy (slice_cmp nat_cmp) (map (λ name. name.now) names.now) }
+    ensures { IfOk result (λ copies. AllZip IsLineCopy copies.items
+        (lines_among (map (λ name. name.now) names.now) lines.now)) }
+{
+    let mut copies = Vec::new(alloc);
+    for line in lines {
+        if is_among(names, &line.requirement.name) {
+            copies.push(line.try_clone(alloc)?)?;
+        }
+    }
+    Ok(copies)
+}
+
+/// Whether a name is one of some that rise.
+fn is_among(names: &[&PackageName], name: &PackageName) -> bool
+    requires { IsStrictlySortedBy (slice_cmp nat_cmp) (map (λ name. name.now) names.now) }
+    ensures { result ≡ list_any (bytes_eq name.now) (map (λ name. name.now) names.now) }
+{
+    match names.binary_search_by(|other| PackageName::cmp(other, name)) {
+        Ok(_) => true,
+        Err(_) => false,
+    }
 }
 
 impl PartialEq for Requirements {

@@ -1,5 +1,6 @@
 -- What is passed over.
-use Rattle.std.proofs.Common.{◌≡◌, ◌∙◌, ◌<◌, ◌≤◌, ◌+◌, ℕ, Bool, true, false, List, length, get_or, Some, refl, sym, ap, arith}
+use Rattle.std.proofs.Common.{◌≡◌, ◌∙◌, ◌<◌, ◌≤◌, ◌+◌, ℕ, Bool, true, false, List, length, get_or, Some, refl}
+use Rattle.std.proofs.Common.{sym, ap, arith}
 use Rattle.std.specs.List.{AllWithin, AllByRecursion}
 use Rattle.version_ranges.specs.Held.{holds_at}
 use Rattle.version_ranges.specs.Point.{Point, At}

@@ -1,5 +1,7 @@
 -- The places of candidates of which a range doesn't tell rise, and each such candidate's is among them.
-use Rattle.std.proofs.Common.{◌≡◌, ◌∙◌, ◌<◌, ◌≤◌, ◌+◌, ◌++◌, ℕ, zero, suc, nat_lt, Bool, true, false, cond, List, [], ◌∷◌, length, take, get_or, leb, refl, sym, ap, subst, true≢false, arith, append-nil}
+use Rattle.std.proofs.Common.{◌≡◌, ◌∙◌, ◌<◌, ◌≤◌, ◌+◌, ◌++◌, ℕ, zero, suc, nat_lt, Bool, true, false, cond}
+use Rattle.std.proofs.Common.{List, [], ◌∷◌, length, take, get_or, leb, refl, sym, ap, subst, true≢false}
+use Rattle.std.proofs.Common.{arith, append-nil}
 use Rattle.std.proofs.lemmas.Bool.Decides.{nat_tests}
 use Rattle.std.proofs.lemmas.List.{take_more, length-take}
 use Rattle.std.specs.List.{AllByRecursion}

@@ -1,5 +1,7 @@
 -- Lines that were asked stay the same ones, with some tests more.
-use Rattle.std.proofs.Common.{◌≡◌, ◌∙◌, ◌≤◌, ◌<◌, ◌+◌, ◌-◌, ◌^◌, ℕ, zero, suc, nat_lt, Bool, true, false, cond, List, [], ◌∷◌, map, length, set, get_or, refl, sym, ap, subst, arith, Result, Ok, Err, OnOk, OnErr}
+use Rattle.std.proofs.Common.{◌≡◌, ◌∙◌, ◌≤◌, ◌<◌, ◌+◌, ◌-◌, ◌^◌, ℕ, zero, suc, nat_lt, Bool, true, false}
+use Rattle.std.proofs.Common.{cond, List, [], ◌∷◌, map, length, set, get_or, refl, sym, ap, subst, arith}
+use Rattle.std.proofs.Common.{Result, Ok, Err, OnOk, OnErr}
 use Rattle.std.proofs.lemmas.Bool.Decides.{nat_tests}
 use Rattle.std.proofs.lemmas.List.{length-append}
 use Rattle.std.specs.List.{AllZip}

@@ -1,5 +1,6 @@
 -- What a table of all groups is to the lines of the text.
-use Rattle.std.proofs.Common.{◌≡◌, ◌∙◌, ℕ, Bool, true, false, cond, ◌||◌, List, [], ◌∷◌, ◌++◌, map, filter, refl, sym, ap, subst, append-nil, append_assoc, true≢false, Less, Err, inl, inr}
+use Rattle.std.proofs.Common.{◌≡◌, ◌∙◌, ℕ, Bool, true, false, cond, ◌||◌, List, [], ◌∷◌, ◌++◌, map, filter}
+use Rattle.std.proofs.Common.{refl, sym, ap, subst, append-nil, append_assoc, true≢false, Less, Err, inl, inr}
 use Rattle.std.proofs.lemmas.Bool.{cases_Bool}
 use Rattle.std.proofs.lemmas.Cmp.{nat_list_eq_equiv}
 use Rattle.std.proofs.lemmas.List.{map-append}
@@ -25,7 +26,8 @@ use Rattle.reqtable_groups.specs.Given.{given_by, is_under, group_names, lines_u
 use Rattle.reqtable_table.specs.Kept.{KeptPackage, names_in, kept_under, Keeps, KeepsAll}
 use Rattle.reqtable_table.specs.KeptLines.{kept_by}
 use Rattle.reqtable_table.specs.Cases.{HasItsCases, Builds}
-use Rattle.reqtable_table.specs.Building.{AreOfTrees, group_marks, IsPackageOf, HasFirstTooMany, IsFirstRefusal}
+use Rattle.reqtable_table.specs.Building.{AreOfTrees, group_marks, IsPackageOf, HasFirstTooMany}
+use Rattle.reqtable_table.specs.Building.{IsFirstRefusal}
 use Rattle.reqtable_table.proofs.Firsts.{no_more}
 use Rattle.reqtable_table.proofs.Packages.{kept_markers}
 use Rattle.reqtable_table.proofs.Rising.{name_cmp, below_other, around, not_before, stands_before, AllBefore}

@@ -1,5 +1,6 @@
 -- The cases under a name are those of the lines of the text.
-use Rattle.std.proofs.Common.{◌≡◌, ◌∙◌, ◌&&◌, ◌||◌, ℕ, Bool, true, false, cond, not, List, [], ◌∷◌, map, refl, sym, ap, subst, Option, Some, None, inl, inr}
+use Rattle.std.proofs.Common.{◌≡◌, ◌∙◌, ◌&&◌, ◌||◌, ℕ, Bool, true, false, cond, not, List, [], ◌∷◌, map, refl}
+use Rattle.std.proofs.Common.{sym, ap, subst, Option, Some, None, inl, inr}
 use Rattle.std.proofs.lemmas.Bool.{cases_Bool}
 use Rattle.std.proofs.lemmas.List.Folds.{list_all-append, list_all-map}
 use Rattle.std.specs.Prelude.{find}
@@ -22,7 +23,8 @@ use Rattle.reqtable_cases.specs.Lines.{marked, numbers_of, asked_by, is_named}
 use Rattle.reqtable_cases.specs.Usable.{members_asked, is_ranged, is_usable, points_of, IsRangeOf}
 use Rattle.reqtable_table.specs.Kept.{KeptLine, KeptCase, KeptPackage, Keeps, KeepsAll, names_in, kept_front}
 use Rattle.reqtable_table.specs.Cases.{IsCaseOf, HasItsCases, IsCaseOfLines, AreCasesOf, cases_under}
-use Rattle.reqtable_table.proofs.RowsOfLines.{AsksAlike, front_kept, say_the_same, own_lines, IsKept, each_kept}
+use Rattle.reqtable_table.proofs.RowsOfLines.{AsksAlike, front_kept, say_the_same, own_lines, IsKept}
+use Rattle.reqtable_table.proofs.RowsOfLines.{each_kept}
 use Rattle.reqtable_table.proofs.Said.{marks_said}
 
 -- ---- asks that are alike have one range

@@ -1,5 +1,6 @@
 -- Packages one after another, up to the first that has too many cases.
-use Rattle.std.proofs.Common.{◌≡◌, ◌∙◌, ℕ, ◌≤◌, ◌+◌, ◌*◌, List, [], ◌∷◌, ◌++◌, map, length, sym, ap, subst, arith, append-nil}
+use Rattle.std.proofs.Common.{◌≡◌, ◌∙◌, ℕ, ◌≤◌, ◌+◌, ◌*◌, List, [], ◌∷◌, ◌++◌, map, length, sym, ap, subst}
+use Rattle.std.proofs.Common.{arith, append-nil}
 use Rattle.std.proofs.lemmas.List.{length-append}
 use Rattle.std.proofs.lemmas.List.Concat.{flat_map-append}
 use Rattle.std.proofs.Math.Nat.{mul-le-mul_left}

@@ -1,5 +1,7 @@
 -- A package by its name, among packages whose names rise.
-use Rattle.std.proofs.Common.{◌≡◌, ◌∙◌, ℕ, zero, suc, ◌+◌, ◌<◌, ◌≤◌, Bool, true, false, cond, ◌⊎◌, List, [], ◌∷◌, map, get_or, length, refl, sym, ap, subst, arith, Some, None, Less, Equal, Greater, inl, inr}
+use Rattle.std.proofs.Common.{◌≡◌, ◌∙◌, ℕ, zero, suc, ◌+◌, ◌<◌, ◌≤◌, Bool, true, false, cond, ◌⊎◌, List, []}
+use Rattle.std.proofs.Common.{◌∷◌, map, get_or, length, refl, sym, ap, subst, arith, Some, None, Less, Equal}
+use Rattle.std.proofs.Common.{Greater, inl, inr}
 use Rattle.std.proofs.lemmas.Cmp.{nat_list_cmp_total, nat_list_eq_equiv}
 use Rattle.std.proofs.lemmas.List.Sorted.{searchable_from_sorted}
 use Rattle.std.proofs.lemmas.Map.Text.{is_eq-slice_cmp}

@@ -1,5 +1,6 @@
 -- The marked ones of some things.
-use Rattle.std.proofs.Common.{◌≡◌, ◌∙◌, ℕ, ◌+◌, ◌<◌, Bool, true, false, cond, List, [], ◌∷◌, ◌++◌, map, take, get_or, length, refl, sym, ap, arith}
+use Rattle.std.proofs.Common.{◌≡◌, ◌∙◌, ℕ, ◌+◌, ◌<◌, Bool, true, false, cond, List, [], ◌∷◌, ◌++◌, map, take}
+use Rattle.std.proofs.Common.{get_or, length, refl, sym, ap, arith}
 use Rattle.std.proofs.lemmas.List.{take_more, length-take}
 use Rattle.reqtable_cases.specs.Lines.{marked}
 

@@ -1,5 +1,6 @@
 -- Which case a valuation lies in, and cases of lines with other numbers.
-use Rattle.std.proofs.Common.{◌≡◌, ◌∙◌, ◌||◌, suc, Bool, true, false, cond, List, [], ◌∷◌, map, filter, length, refl, sym, ap, subst, true≢false, Less, inl, inr}
+use Rattle.std.proofs.Common.{◌≡◌, ◌∙◌, ◌||◌, suc, Bool, true, false, cond, List, [], ◌∷◌, map, filter}
+use Rattle.std.proofs.Common.{length, refl, sym, ap, subst, true≢false, Less, inl, inr}
 use Rattle.std.proofs.lemmas.Bool.{cases_Bool}
 use Rattle.std.specs.List.{list_any, AllZip, AllByRecursion}
 use Rattle.std.specs.List.Sorted.{IsStrictlySortedBy}

@@ -1,5 +1,6 @@
 -- What lying in a case says of a package.
-use Rattle.std.proofs.Common.{◌≡◌, ◌∙◌, ◌<◌, ℕ, false, List, [], ◌∷◌, None, length, map, get_or, sym, ap, subst}
+use Rattle.std.proofs.Common.{◌≡◌, ◌∙◌, ◌<◌, ℕ, false, List, [], ◌∷◌, None, length, map, get_or, sym, ap}
+use Rattle.std.proofs.Common.{subst}
 use Rattle.std.proofs.lemmas.List.{length-map}
 use Rattle.std.specs.List.{AllZip}
 use Rattle.pep508_diagram.specs.Question.{Valuation}
@@ -9,7 +10,8 @@ use Rattle.reqtable_text.specs.declared.candidates.Candidate.{Candidate}
 use Rattle.reqtable_answer.specs.Admission.{Admits}
 use Rattle.reqtable_answer.specs.Answer.{RowRecord, IsRowOf}
 use Rattle.reqtable_cases.specs.Lines.{marked}
-use Rattle.reqtable_table.specs.Answers.{kept_marks, own_candidates, IsRowFor, IsPlaceIn, SameLine, SamePackage}
+use Rattle.reqtable_table.specs.Answers.{kept_marks, own_candidates, IsRowFor, IsPlaceIn, SameLine}
+use Rattle.reqtable_table.specs.Answers.{SamePackage}
 use Rattle.reqtable_table.specs.Kept.{KeptLine, KeptCase, KeptPackage, kept_front}
 use Rattle.reqtable_table.specs.Standing.{HasItsLines}
 use Rattle.reqtable_table.proofs.Rows.{any_same}

@@ -1,5 +1,7 @@
 -- The rows of the first packages of a table.
-use Rattle.std.proofs.Common.{◌≡◌, ◌∙◌, ◌≤◌, ◌<◌, ◌+◌, ◌||◌, ℕ, zero, suc, Bool, true, false, cond, List, [], ◌∷◌, ◌++◌, map, filter, take, set, length, get_or, All, Option, Some, None, option_map, refl, sym, ap, subst, arith, append-nil}
+use Rattle.std.proofs.Common.{◌≡◌, ◌∙◌, ◌≤◌, ◌<◌, ◌+◌, ◌||◌, ℕ, zero, suc, Bool, true, false, cond, List, []}
+use Rattle.std.proofs.Common.{◌∷◌, ◌++◌, map, filter, take, set, length, get_or, All, Option, Some, None}
+use Rattle.std.proofs.Common.{option_map, refl, sym, ap, subst, arith, append-nil}
 use Rattle.std.proofs.lemmas.List.{take_more, map-append, get_or_default}
 use Rattle.std.proofs.lemmas.List.Elements.{filter-append, All-push}
 use Rattle.std.specs.Option.{IfSome, option_map_or}
@@ -16,7 +18,8 @@ use Rattle.reqtable_cases.specs.Lines.{marked}
 use Rattle.reqtable_answer.specs.declared.answer.Row.{Row}
 use Rattle.reqtable_answer.specs.Rows.{row_seen}
 use Rattle.reqtable_table.specs.declared.table.Package.{Package}
-use Rattle.reqtable_table.specs.Answers.{kept_marks, kept_asked, is_asked, own_candidates, most_tests, most_tests_in, most_tests_of}
+use Rattle.reqtable_table.specs.Answers.{kept_marks, kept_asked, is_asked, own_candidates, most_tests}
+use Rattle.reqtable_table.specs.Answers.{most_tests_in, most_tests_of}
 use Rattle.reqtable_table.specs.Answers.{IsRowFor, IsRowIf, AreRowsFor, SameLine, SamePackage}
 use Rattle.reqtable_table.specs.Cases.{HasItsCases}
 use Rattle.reqtable_table.specs.Choosing.{outcome_in_order, IsRowInOrder}
@@ -30,7 +33,8 @@ use Rattle.reqtable_table.proofs.Marking.{marked_map}
 use Rattle.reqtable_table.proofs.Own.{run_outcome, run_tests, run_said, run_below}
 use Rattle.reqtable_table.proofs.Packages.{zip_pushed}
 use Rattle.reqtable_table.proofs.Finding.{all_at}
-use Rattle.reqtable_table.proofs.Same.{all_same, same_package, packages_on, marks_same, have_lines, has_cases, runs_on}
+use Rattle.reqtable_table.proofs.Same.{all_same, same_package, packages_on, marks_same, have_lines, has_cases}
+use Rattle.reqtable_table.proofs.Same.{runs_on}
 use Rattle.reqtable_table.proofs.Searching.{zip_at, zip_long}
 
 abbrev pub kept_records : List Package → List KeptPackage

@@ -1,5 +1,6 @@
 -- Rows for the packages of a table are the answer to what applies of the text.
-use Rattle.std.proofs.Common.{◌≡◌, ◌∙◌, ℕ, Bool, true, false, cond, not, ◌&&◌, ◌||◌, List, [], ◌∷◌, ◌++◌, map, filter, option_map, refl, sym, ap, subst, append-nil, true≢false, Less}
+use Rattle.std.proofs.Common.{◌≡◌, ◌∙◌, ℕ, Bool, true, false, cond, not, ◌&&◌, ◌||◌, List, [], ◌∷◌, ◌++◌, map}
+use Rattle.std.proofs.Common.{filter, option_map, refl, sym, ap, subst, append-nil, true≢false, Less}
 use Rattle.std.proofs.lemmas.Cmp.{nat_list_eq_equiv}
 use Rattle.std.proofs.lemmas.List.Folds.{list_any-append}
 use Rattle.std.specs.List.{list_any, list_all, AllZip, AllByRecursion}
@@ -15,8 +16,10 @@ use Rattle.pep508_requirement_text.specs.FrontReading.Source.{Any, Specifiers, U
 use Rattle.pep508_cases.specs.Cases.{Marks}
 use Rattle.reqtable_text.specs.declared.candidates.Candidate.{Candidate}
 use Rattle.reqtable_answer.specs.Admission.{Admits}
-use Rattle.reqtable_answer.specs.Asks.{specifiers_of, is_url, is_of, has_extra, has_url, ask_takes, has_prerelease}
-use Rattle.reqtable_answer.specs.Answer.{RowRecord, IsRowOf, IsRow, IsAnswer, outcome_of, chosen, first_greatest, by_version}
+use Rattle.reqtable_answer.specs.Asks.{specifiers_of, is_url, is_of, has_extra, has_url, ask_takes}
+use Rattle.reqtable_answer.specs.Asks.{has_prerelease}
+use Rattle.reqtable_answer.specs.Answer.{RowRecord, IsRowOf, IsRow, IsAnswer, outcome_of, chosen}
+use Rattle.reqtable_answer.specs.Answer.{first_greatest, by_version}
 use Rattle.reqtable_answer.specs.declared.answer.Outcome.TheVariants.{Direct}
 use Rattle.reqtable_answer.proofs.Tests.{any_kept, any_mapped, any_zip, all_any}
 use Rattle.reqtable_answer.proofs.InOrder.{same_all, same_any}
@@ -24,8 +27,10 @@ use Rattle.reqtable_answer.proofs.Alike.{SayTheSame}
 use Rattle.reqtable_requirements.specs.LineReading.{LineRecord}
 use Rattle.reqtable_requirements.specs.Asks.{applies, asks_of, lines_of}
 use Rattle.reqtable_cases.specs.Lines.{marked}
-use Rattle.reqtable_table.specs.Kept.{KeptLine, KeptPackage, Keeps, KeepsAll, names_in, kept_under, kept_source, kept_front}
-use Rattle.reqtable_table.specs.Answers.{kept_marks, kept_asked, is_asked, own_candidates, IsRowFor, AreRowsFor}
+use Rattle.reqtable_table.specs.Kept.{KeptLine, KeptPackage, Keeps, KeepsAll, names_in, kept_under}
+use Rattle.reqtable_table.specs.Kept.{kept_source, kept_front}
+use Rattle.reqtable_table.specs.Answers.{kept_marks, kept_asked, is_asked, own_candidates, IsRowFor}
+use Rattle.reqtable_table.specs.Answers.{AreRowsFor}
 use Rattle.reqtable_table.proofs.Rising.{name_cmp, below_other, AllBehind}
 
 -- ---- one line's ask

@@ -1,5 +1,7 @@
 -- A case by the numbers of its lines.
-use Rattle.std.proofs.Common.{◌≡◌, ◌∙◌, ◌<◌, ◌≤◌, ◌+◌, ◌||◌, ◌⊎◌, ℕ, zero, suc, true, false, List, [], ◌∷◌, map, length, get_or, drop, nat_lt, refl, sym, ap, subst, arith, Less, Equal, Greater, inl, inr, true≢false}
+use Rattle.std.proofs.Common.{◌≡◌, ◌∙◌, ◌<◌, ◌≤◌, ◌+◌, ◌||◌, ◌⊎◌, ℕ, zero, suc, true, false, List, [], ◌∷◌}
+use Rattle.std.proofs.Common.{map, length, get_or, drop, nat_lt, refl, sym, ap, subst, arith, Less, Equal}
+use Rattle.std.proofs.Common.{Greater, inl, inr, true≢false}
 use Rattle.std.proofs.lemmas.Bool.{cases_Bool}
 use Rattle.std.proofs.lemmas.Bool.Decides.{nat_tests}
 use Rattle.std.proofs.lemmas.List.{length-map, get_or-map}

@@ -1,5 +1,6 @@
 -- What holds of the lines that a table keeps, by what holds of those that it was built of.
-use Rattle.std.proofs.Common.{◌≡◌, ◌∙◌, ℕ, Bool, true, false, cond, List, [], ◌∷◌, map, filter, All, Option, Some, None, refl, sym, ap, subst, true≢false, Less}
+use Rattle.std.proofs.Common.{◌≡◌, ◌∙◌, ℕ, Bool, true, false, cond, List, [], ◌∷◌, map, filter, All, Option}
+use Rattle.std.proofs.Common.{Some, None, refl, sym, ap, subst, true≢false, Less}
 use Rattle.std.proofs.lemmas.List.Elements.{recursion_from_All}
 use Rattle.std.specs.List.{AllZip, AllByRecursion}
 use Rattle.std.specs.List.Sorted.{IsStrictlySortedBy}

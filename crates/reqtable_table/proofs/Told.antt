@@ -1,5 +1,7 @@
 -- What is known of a package stays so.
-use Rattle.std.proofs.Common.{◌≡◌, ◌∙◌, ◌<◌, ◌≤◌, ◌⊎◌, ℕ, zero, suc, Bool, true, false, cond, List, [], ◌∷◌, ◌++◌, map, filter, take, replicate, set, length, get_or, Option, Some, None, refl, sym, ap, subst, arith, Equal, inl, inr}
+use Rattle.std.proofs.Common.{◌≡◌, ◌∙◌, ◌<◌, ◌≤◌, ◌⊎◌, ℕ, zero, suc, Bool, true, false, cond, List, [], ◌∷◌}
+use Rattle.std.proofs.Common.{◌++◌, map, filter, take, replicate, set, length, get_or, Option, Some, None}
+use Rattle.std.proofs.Common.{refl, sym, ap, subst, arith, Equal, inl, inr}
 use Rattle.std.proofs.lemmas.List.{length-map}
 use Rattle.std.specs.Borrow.{Bor}
 use Rattle.std.specs.Cmp.{nat_cmp_total, tied_itself}

@@ -33,8 +33,8 @@ use std::fmt;
 use std::marker::Model;
 use version_ranges::Ranges;
 
-/// A set of a package's lines which all apply under some valuation of markers, while the package's other lines
-/// don't.
+/// A set of a package's lines which all apply under some valuation of markers, while the package's other
+/// lines don't.
 #[derive(Drop)]
 pub struct Case {
     /// The numbers of the lines in their text, which rise.

@@ -1,14 +1,18 @@
 -- The parts of a candidate line are those of the grammar.
-use Rattle.std.proofs.Common.{◌≡◌, ℕ, ◌+◌, ◌<◌, ◌||◌, ◌&&◌, Bool, true, false, if◌then◌else◌, List, [], ◌∷◌, ◌++◌, length, take, drop, Option, Some, None, refl, ap, sym, subst, ◌∙◌, append_assoc, arith}
+use Rattle.std.proofs.Common.{◌≡◌, ℕ, ◌+◌, ◌<◌, ◌||◌, ◌&&◌, Bool, true, false, if◌then◌else◌, List, [], ◌∷◌}
+use Rattle.std.proofs.Common.{◌++◌, length, take, drop, Option, Some, None, refl, ap, sym, subst, ◌∙◌}
+use Rattle.std.proofs.Common.{append_assoc, arith}
 use Rattle.std.proofs.lemmas.List.{append-nil, take-append-drop}
 use Rattle.std.proofs.lemmas.Str.{chars-encodes, scalars-chars}
 use Rattle.std.specs.Char.{is_whitespace}
 use Rattle.std.specs.List.{list_any, before_first, after_first, position_or_len}
-use Rattle.std.specs.Str.{chars, encode_utf8_all, all_scalars, IsUtf8, NonePass, skip_leading_whitespace, drop_trailing_whitespace, trim_start, trim_end, trim}
+use Rattle.std.specs.Str.{chars, encode_utf8_all, all_scalars, IsUtf8, NonePass, skip_leading_whitespace}
+use Rattle.std.specs.Str.{drop_trailing_whitespace, trim_start, trim_end, trim}
 use Rattle.reqtable_text.specs.CandidateLine.{parts_in}
 use Rattle.reqtable_text.specs.CandidateText.{AreWhite, AreItsParts}
 use Rattle.reqtable_text.proofs.Words.{some_same, both_true, some_any, before_place, after_place}
-use Rattle.reqtable_text.proofs.White.{BeginsBlack, led, trailed, skip_white, skip_black, white_dropped, bare_stays, dropped_again, end_is_bare, ends_in_none, still_black}
+use Rattle.reqtable_text.proofs.White.{BeginsBlack, led, trailed, skip_white, skip_black, white_dropped}
+use Rattle.reqtable_text.proofs.White.{bare_stays, dropped_again, end_is_bare, ends_in_none, still_black}
 
 -- ---- characters that can be encoded
 

@@ -15,7 +15,8 @@ use Rattle.reqtable_text.specs.CandidateText.{IsNumberedCandidate, IsFirstFault}
 use Rattle.reqtable_text.specs.Candidates.{at_line, candidate_at, candidates_of}
 use Rattle.reqtable_text.proofs.CandidateLines.{VersionLaw}
 use Rattle.reqtable_text.proofs.CandidateLines.{candidate_found, candidate_again, cause_found, cause_again}
-use Rattle.reqtable_text.proofs.Lines.{FirstFault, each_found, each_again, fault_found, fault_again, all_zip_along, all_in_front}
+use Rattle.reqtable_text.proofs.Lines.{FirstFault, each_found, each_again, fault_found, fault_again}
+use Rattle.reqtable_text.proofs.Lines.{all_zip_along, all_in_front}
 use Rattle.reqtable_text.proofs.Texts.{text_is_read, text_found}
 use Rattle.reqtable_text.proofs.Utf8Lines.{lines_utf8}
 

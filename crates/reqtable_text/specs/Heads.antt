@@ -7,8 +7,8 @@ use Rattle.pep440_text.specs.Record.{VersionRecord}
 abbrev pub two_numbers : ℕ → ℕ → ℕ
 two_numbers first second = min (first * 2 ^ 32 + min second (2 ^ 32 - 1)) (2 ^ 64 - 1)
 
--- the first two numbers of a release, of which a missing one is 0, or the largest of 64 bits where there is an
--- epoch
+-- the first two numbers of a release, of which a missing one is 0, or the largest of 64 bits where there is
+-- an epoch
 unfoldable pub head_of : VersionRecord → ℕ
 head_of version =
     if version.epoch == 0 then two_numbers (get_or version.release 0 0) (get_or version.release 1 0)

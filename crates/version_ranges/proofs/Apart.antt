@@ -11,7 +11,8 @@ use Rattle.std.specs.Ordering.{is_gt}
 use Rattle.version_ranges.specs.Point.{Point, point_cmp}
 use Rattle.version_ranges.specs.Turns.{reaches}
 use Rattle.version_ranges.specs.Held.{IsNormal}
-use Rattle.version_ranges.specs.Bounds.{starts_by, goes_on_to, is_within, lower_bound_at, upper_bound_at, intervals}
+use Rattle.version_ranges.specs.Bounds.{starts_by, goes_on_to, is_within, lower_bound_at, upper_bound_at}
+use Rattle.version_ranges.specs.Bounds.{intervals}
 use Rattle.version_ranges.specs.OrderLaws.{points_total}
 use Rattle.version_ranges.proofs.Membership.{past_less}
 use Rattle.version_ranges.proofs.Reading.{starts_at, goes_to, above_another, not_true}

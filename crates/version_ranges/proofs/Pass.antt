@@ -1,5 +1,6 @@
 -- What one pass over the turns of two sets has written at a time.
-use Rattle.std.proofs.Common.{◌≡◌, Bool, true, false, not, List, [], ◌∷◌, ◌++◌, refl, ap, sym, subst, ◌∙◌, append_assoc, append-nil}
+use Rattle.std.proofs.Common.{◌≡◌, Bool, true, false, not, List, [], ◌∷◌, ◌++◌, refl, ap, sym, subst, ◌∙◌}
+use Rattle.std.proofs.Common.{append_assoc, append-nil}
 use Rattle.std.specs.List.{AllByRecursion}
 use Rattle.std.specs.declared.cmp.Ordering.{Ordering}
 use Rattle.std.specs.declared.cmp.Ordering.TheVariants.{Less, Equal, Greater}
@@ -8,7 +9,9 @@ use Rattle.std.specs.Cmp.{IsTotalOrder, tied_itself, tied_back}
 use mathlib.Core.Bool.{beq}
 use Rattle.version_ranges.specs.Turns.{flips, is_held, Rising}
 use Rattle.version_ranges.specs.Merging.{Takes, Adds, IsFirst}
-use Rattle.version_ranges.proofs.Membership.{is_held_beyond, Below, flips_comm, is_held_beyond-append, all_weaker, step_at, rising_append, below_like, below_step, before_head}
+use Rattle.version_ranges.proofs.Membership.{is_held_beyond, Below, flips_comm, is_held_beyond-append}
+use Rattle.version_ranges.proofs.Membership.{all_weaker, step_at, rising_append, below_like, below_step}
+use Rattle.version_ranges.proofs.Membership.{before_head}
 
 -- what two lists of turns are joined to, as far as they are read
 pub record Joined {K : Type 0} (R : K → K → Ordering) (f : Bool → Bool → Bool)

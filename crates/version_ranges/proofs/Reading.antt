@@ -1,5 +1,6 @@
 -- A set read as its intervals.
-use Rattle.std.proofs.Common.{◌≡◌, ℕ, suc, zero, ◌+◌, ◌<◌, ◌/◌, ◌%◌, length, arith, Bool, true, false, not, ◌&&◌, ◌||◌, cond, List, [], ◌∷◌, ◌++◌, map, refl, ap, sym, subst, ◌∙◌}
+use Rattle.std.proofs.Common.{◌≡◌, ℕ, suc, zero, ◌+◌, ◌<◌, ◌/◌, ◌%◌, length, arith, Bool, true, false, not}
+use Rattle.std.proofs.Common.{◌&&◌, ◌||◌, cond, List, [], ◌∷◌, ◌++◌, map, refl, ap, sym, subst, ◌∙◌}
 use Rattle.std.proofs.Math.Nat.{suc-mod}
 use Rattle.std.proofs.lemmas.List.{map-append, length-map}
 use mathlib.Core.Bool.{beq}
@@ -18,13 +19,16 @@ use Rattle.std.specs.declared.ops.Bound.TheVariants.{Included, Excluded, Unbound
 use Rattle.version_ranges.specs.Point.{Point, BelowAll, At, JustAbove, point_cmp}
 use Rattle.version_ranges.specs.Turns.{flips, reaches, is_held, Rising}
 use Rattle.version_ranges.specs.Held.{holds_at, HoldsOnly, IsNormal}
-use Rattle.version_ranges.specs.Bounds.{starts_by, goes_on_to, is_within, single_value, lower_bound_at, upper_bound_at, intervals, last_upper}
+use Rattle.version_ranges.specs.Bounds.{starts_by, goes_on_to, is_within, single_value, lower_bound_at}
+use Rattle.version_ranges.specs.Bounds.{upper_bound_at, intervals, last_upper}
 use Rattle.version_ranges.specs.Order.{start_point, end_points}
 use Rattle.version_ranges.specs.OrderLaws.{points_total}
 use Rattle.version_ranges.specs.Boundaries.{point_of, turns_of}
 use Rattle.version_ranges.specs.declared.boundary.Boundary.{Boundary}
 use Rattle.version_ranges.specs.HashingLaws.{then_equal}
-use Rattle.version_ranges.proofs.Membership.{is_held_beyond, not_not, differs, flips_comm, flips_false, all_weaker, held_before, past_less, before_less, canonical, held_at_head}
+use Rattle.version_ranges.proofs.Membership.{is_held_beyond, not_not, differs, flips_comm, flips_false}
+use Rattle.version_ranges.proofs.Membership.{all_weaker, held_before, past_less, before_less, canonical}
+use Rattle.version_ranges.proofs.Membership.{held_at_head}
 
 -- the point lies at a value or just above one, so that an interval can end there
 abbrev pub LiesAtValue : {T : Type 0} → Point T → Type 0

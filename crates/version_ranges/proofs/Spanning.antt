@@ -1,5 +1,6 @@
 -- From the first interval's lower bound to the last one's upper bound.
-use Rattle.std.proofs.Common.{◌≡◌, Bool, true, false, not, ◌&&◌, List, [], ◌∷◌, refl, ap, sym, subst, ◌∙◌, ◌⊎◌, inl, inr}
+use Rattle.std.proofs.Common.{◌≡◌, Bool, true, false, not, ◌&&◌, List, [], ◌∷◌, refl, ap, sym, subst, ◌∙◌}
+use Rattle.std.proofs.Common.{◌⊎◌, inl, inr}
 use Rattle.std.specs.Prelude.{Some, MatchOption, IsTrue}
 use Rattle.std.specs.List.{AllByRecursion}
 use Rattle.std.specs.declared.cmp.Ordering.{Ordering}
@@ -11,7 +12,8 @@ use Rattle.version_ranges.specs.Point.{Point, point_cmp}
 use Rattle.version_ranges.specs.OrderLaws.{points_total}
 use Rattle.version_ranges.specs.Turns.{flips, reaches, is_held}
 use Rattle.version_ranges.specs.Held.{IsNormal, IsBetweenHeld}
-use Rattle.version_ranges.specs.Bounds.{starts_by, goes_on_to, is_within, lower_bound_at, upper_bound_at, intervals, last_upper, hull}
+use Rattle.version_ranges.specs.Bounds.{starts_by, goes_on_to, is_within, lower_bound_at, upper_bound_at}
+use Rattle.version_ranges.specs.Bounds.{intervals, last_upper, hull}
 use Rattle.version_ranges.proofs.Membership.{held_before, all_weaker, before_less, past_less, held_at_head}
 use Rattle.version_ranges.proofs.Reading.{starts_at, goes_to, above_another, not_true, is_greater}
 

@@ -1,5 +1,6 @@
 -- The turns that a sign and a list of boundaries stand for.
-use Rattle.std.proofs.Common.{◌≡◌, length, arith, Bool, true, false, not, List, [], ◌∷◌, ◌++◌, map, refl, ap, sym, subst, ◌∙◌}
+use Rattle.std.proofs.Common.{◌≡◌, length, arith, Bool, true, false, not, List, [], ◌∷◌, ◌++◌, map, refl, ap}
+use Rattle.std.proofs.Common.{sym, subst, ◌∙◌}
 use mathlib.Core.Bool.{beq}
 use Rattle.std.proofs.lemmas.List.{map-append}
 use Rattle.std.specs.List.{AllByRecursion}
@@ -17,7 +18,8 @@ use Rattle.version_ranges.specs.Boundaries.{point_of, boundary_cmp, turns_of}
 use Rattle.version_ranges.specs.OrderLaws.{points_total, boundaries_total}
 use Rattle.version_ranges.specs.Merging.{Takes, Adds, IsFirst}
 use Rattle.version_ranges.specs.HashingLaws.{then_equal}
-use Rattle.version_ranges.proofs.Membership.{is_held_beyond, Below, not_not, flips_false, same_points, tied_rises}
+use Rattle.version_ranges.proofs.Membership.{is_held_beyond, Below, not_not, flips_false, same_points}
+use Rattle.version_ranges.proofs.Membership.{tied_rises}
 use Rattle.version_ranges.proofs.Pass.{Joined}
 
 -- through a function

@@ -4,7 +4,8 @@ use Rattle.pep508_name.proofs.Walk.{behind, written}
 use Rattle.pep508_name.proofs.Parts.{no_more, named}
 use Rattle.pep508_name.proofs.Steps.{begins, separator_seen, letter_seen, ends, opened}
 use Rattle.pep508_name.proofs.normal.normalized.Goals as goal
-use Rattle.pep508_name.proofs.normal.normalized.Goals.{then-is_separator, else-is_separator+in_ok-push-2, then-separated+in_ok-push, else-separated}
+use Rattle.pep508_name.proofs.normal.normalized.Goals.{then-is_separator, else-is_separator+in_ok-push-2}
+use Rattle.pep508_name.proofs.normal.normalized.Goals.{then-separated+in_ok-push, else-separated}
 
 pub loop-byte-init : goal.loop-byte-init
 loop-byte-init c =

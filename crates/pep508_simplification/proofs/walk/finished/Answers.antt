@@ -4,7 +4,8 @@ use Rattle.pep508_tree.specs.Conjunctions.{Meet}
 use Rattle.pep508_tree.proofs.Conjoining.{tree_kept}
 use Rattle.pep508_simplification.specs.Parts.{record_of, children_of}
 use Rattle.pep508_simplification.specs.Named.{IsNamed, plain}
-use Rattle.pep508_simplification.proofs.Naming.{named_now, known_kept, joined_made, joined_above, joined_named}
+use Rattle.pep508_simplification.proofs.Naming.{named_now, known_kept, joined_made, joined_above}
+use Rattle.pep508_simplification.proofs.Naming.{joined_named}
 use Rattle.pep508_simplification.proofs.Walking.{met_all}
 use Rattle.pep508_simplification.proofs.walk.finished.Given as given
 use Rattle.pep508_simplification.proofs.walk.finished.Goals as goal

@@ -3,7 +3,8 @@ use Rattle.std.specs.BTreeMap.{get, Updates}
 use Rattle.std.specs.Ordering.{nat_cmp}
 use Rattle.pep508_tree.specs.Tree.{Tree}
 use Rattle.pep508_simplification.specs.Named.{IsNamed, plain}
-use Rattle.pep508_simplification.proofs.Walking.{top_pending, walk_down, work_down, walk_up, work_up, walk_ended}
+use Rattle.pep508_simplification.proofs.Walking.{top_pending, walk_down, work_down, walk_up, work_up}
+use Rattle.pep508_simplification.proofs.Walking.{walk_ended}
 use Rattle.pep508_simplification.proofs.walk.walked.Given as given
 use Rattle.pep508_simplification.proofs.walk.walked.Goals as goal
 

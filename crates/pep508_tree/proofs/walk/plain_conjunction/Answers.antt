@@ -5,7 +5,9 @@ use Rattle.pep508_tree.proofs.OneTree.{tree_is}
 use Rattle.pep508_tree.proofs.Same.{bools_alike, bools_apart}
 use Rattle.pep508_tree.proofs.Conjoining.{conjunction_turned}
 use Rattle.pep508_tree.proofs.Plain.{first_never, first_always, both_same, both_opposite}
-use Rattle.pep508_tree.proofs.walk.plain_conjunction.Goals.{then-is_negated, else-is_negated, then-is_negated-2, else-is_negated-2, then-is_negated-3, else-is_negated-3}
+use Rattle.pep508_tree.proofs.walk.plain_conjunction.Goals.{then-is_negated, else-is_negated}
+use Rattle.pep508_tree.proofs.walk.plain_conjunction.Goals.{then-is_negated-2, else-is_negated-2}
+use Rattle.pep508_tree.proofs.walk.plain_conjunction.Goals.{then-is_negated-3, else-is_negated-3}
 use Rattle.pep508_tree.proofs.walk.plain_conjunction.Goals as goal
 
 pub returns-then-place-eq0 : goal.returns-then-place-eq0

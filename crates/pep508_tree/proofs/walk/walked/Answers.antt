@@ -1,4 +1,5 @@
-use Rattle.std.proofs.Common.{◌≡◌, ◌+◌, ◌<◌, ◌∷◌, ◌++◌, [], List, length, take, None, refl, ap, sym, subst, ◌∙◌, arith}
+use Rattle.std.proofs.Common.{◌≡◌, ◌+◌, ◌<◌, ◌∷◌, ◌++◌, [], List, length, take, None, refl, ap, sym, subst}
+use Rattle.std.proofs.Common.{◌∙◌, arith}
 use Rattle.std.specs.BTreeMap.{get}
 use Rattle.pep508_tree.specs.declared.walk.Pending.{Pending}
 use Rattle.pep508_tree.specs.Tree.{Tree}
@@ -6,7 +7,8 @@ use Rattle.pep508_tree.specs.Meaning.{IsTree}
 use Rattle.pep508_tree.specs.PairOrder.{pair_cmp, places}
 use Rattle.pep508_tree.specs.Conjunctions.{ArePairs, Meet}
 use Rattle.pep508_tree.specs.Pending.{IsPending}
-use Rattle.pep508_tree.proofs.Walking.{top_pending, pending_all, walk_down, work_down, walk_up, work_up, walk_ended}
+use Rattle.pep508_tree.proofs.Walking.{top_pending, pending_all, walk_down, work_down, walk_up, work_up}
+use Rattle.pep508_tree.proofs.Walking.{walk_ended}
 use Rattle.pep508_tree.proofs.walk.walked.Goals as goal
 
 pub next_unknown-requires-clause-made : goal.next_unknown-requires-clause-made

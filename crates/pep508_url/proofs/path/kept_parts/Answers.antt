@@ -4,7 +4,8 @@ use Rattle.std.proofs.lemmas.Iterator.Consumers.{YieldsList-turn, YieldsList-end
 use Rattle.std.proofs.lemmas.Iterator.Splits.{YieldsList-from_str_split}
 use Rattle.std.proofs.lemmas.List.{length_push, take_all}
 use Rattle.pep508_url.specs.Paths.{normal_parts}
-use Rattle.pep508_url.proofs.PathParts.{part_read, none_left, part_nothing, part_parent, part_kept, popped, no_parts, pushed}
+use Rattle.pep508_url.proofs.PathParts.{part_read, none_left, part_nothing, part_parent, part_kept, popped}
+use Rattle.pep508_url.proofs.PathParts.{no_parts, pushed}
 use Rattle.pep508_url.proofs.path.kept_parts.Goals as goal
 
 pub loop-part-init : goal.loop-part-init

@@ -1,4 +1,5 @@
-use Rattle.std.proofs.Common.{◌≡◌, ◌∙◌, ◌&&◌, ◌<◌, ◌++◌, ◌∷◌, [], ℕ, List, All, Some, sym, ap, subst, map, filter, length, is_some, rules, Bor}
+use Rattle.std.proofs.Common.{◌≡◌, ◌∙◌, ◌&&◌, ◌<◌, ◌++◌, ◌∷◌, [], ℕ, List, All, Some, sym, ap, subst, map}
+use Rattle.std.proofs.Common.{filter, length, is_some, rules, Bor}
 use Rattle.std.specs.List.{list_any, list_all, enumerate_from}
 use Rattle.std.specs.List.Sorted.{IsStrictlySortedBy}
 use Rattle.std.specs.Option.{option_map_or}
@@ -16,7 +17,8 @@ use Rattle.reqtable_answer.specs.Groups.{group_of, numbered_seen}
 use Rattle.reqtable_answer.specs.Rows.{row_seen, IsTakenBelow}
 use Rattle.reqtable_answer.specs.Says.{asks_seen}
 use Rattle.reqtable_answer.proofs.Packages.{by_name_total, names, names_rise, names_found}
-use Rattle.reqtable_answer.proofs.ByPackage.{all_pass, places_below, group_some, row_is, more_names, more_rows, all_rows}
+use Rattle.reqtable_answer.proofs.ByPackage.{all_pass, places_below, group_some, row_is, more_names}
+use Rattle.reqtable_answer.proofs.ByPackage.{more_rows, all_rows}
 use Rattle.reqtable_answer.proofs.Alike.{same_answer}
 use Rattle.reqtable_answer.proofs.Said.{said_alike}
 use Rattle.reqtable_answer.proofs.answering.answer_to.Goals as goal

@@ -4,7 +4,8 @@ use Rattle.pep508_evaluation.specs.Valuations.{valuation_of}
 use Rattle.reqtable_answer.specs.Says.{ask_seen, asks_seen}
 use Rattle.reqtable_requirements.proofs.Applying.{one_more, passed_over}
 use Rattle.reqtable_requirements.proofs.judgement.applying.Goals as goal
-use Rattle.reqtable_requirements.proofs.judgement.applying.Goals.{then-evaluate_markers+in_ok-push, else-evaluate_markers}
+use Rattle.reqtable_requirements.proofs.judgement.applying.Goals.{then-evaluate_markers+in_ok-push}
+use Rattle.reqtable_requirements.proofs.judgement.applying.Goals.{else-evaluate_markers}
 
 pub loop-line-preserved : goal.loop-line-preserved
 loop-line-preserved c =

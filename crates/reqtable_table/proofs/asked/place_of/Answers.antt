@@ -1,11 +1,13 @@
-use Rattle.std.proofs.Common.{◌≡◌, ◌∙◌, ◌<◌, ℕ, List, Less, Equal, Greater, length, map, get_or, sym, ap, subst, rules}
+use Rattle.std.proofs.Common.{◌≡◌, ◌∙◌, ◌<◌, ℕ, List, Less, Equal, Greater, length, map, get_or, sym, ap}
+use Rattle.std.proofs.Common.{subst, rules}
 use Rattle.std.proofs.lemmas.Fn.{always_returns_same}
 use Rattle.std.specs.List.Sorted.{IsNonDecreasingBy, IsPartitionPoint}
 use Rattle.std.specs.Ordering.{ordering_index}
 use Rattle.reqtable_cases.specs.Lines.{marked}
 use Rattle.reqtable_table.specs.declared.table.Case.{Case}
 use Rattle.reqtable_table.specs.Numbers.{numbers_cmp}
-use Rattle.reqtable_table.proofs.Searching.{numbers_at, numbers_seen, searchable, found_case, found_numbers, is_there, marks_lines_long}
+use Rattle.reqtable_table.proofs.Searching.{numbers_at, numbers_seen, searchable, found_case, found_numbers}
+use Rattle.reqtable_table.proofs.Searching.{is_there, marks_lines_long}
 use Rattle.reqtable_table.proofs.asked.place_of.Goals as goal
 
 pub number-requires : goal.number-requires

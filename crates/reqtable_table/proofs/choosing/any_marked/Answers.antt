@@ -1,7 +1,8 @@
 use Rattle.std.proofs.Common.{◌∙◌, refl, sym}
 use Rattle.reqtable_table.proofs.MarkedAsks.{any_none, any_found}
 use Rattle.reqtable_table.proofs.choosing.any_marked.Goals as goal
-use Rattle.reqtable_table.proofs.choosing.any_marked.Goals.{else-marks-index-via-then-marks-index+else-test, else-marks-index-via-else-marks-index}
+use Rattle.reqtable_table.proofs.choosing.any_marked.Goals.{else-marks-index-via-then-marks-index+else-test}
+use Rattle.reqtable_table.proofs.choosing.any_marked.Goals.{else-marks-index-via-else-marks-index}
 
 pub returns-then-test : goal.returns-then-test
 returns-then-test g c = λ says by.

@@ -4,11 +4,13 @@ use Rattle.reqtable_text.specs.Ordered.{placed_seen}
 use Rattle.reqtable_answer.specs.Asks.{may_be_taken}
 use Rattle.reqtable_table.specs.Choosing.{case_asks, Tells}
 use Rattle.reqtable_table.proofs.AskedLines.{records, none_more}
-use Rattle.reqtable_table.proofs.Finding.{find_here, find_none, find_on, none_passed, passed_more, all_at, is_refused, as_admitted, most_more, most_end}
+use Rattle.reqtable_table.proofs.Finding.{find_here, find_none, find_on, none_passed, passed_more, all_at}
+use Rattle.reqtable_table.proofs.Finding.{is_refused, as_admitted, most_more, most_end}
 use Rattle.reqtable_table.proofs.MarkedAsks.{same_asks, same_answer}
 use Rattle.reqtable_table.proofs.Telling.{case_tells}
 use Rattle.reqtable_table.proofs.choosing.chosen.Goals as goal
-use Rattle.reqtable_table.proofs.choosing.chosen.Goals.{else-taken-via-then-taken+else-admits, else-taken-via-else-taken}
+use Rattle.reqtable_table.proofs.choosing.chosen.Goals.{else-taken-via-then-taken+else-admits}
+use Rattle.reqtable_table.proofs.choosing.chosen.Goals.{else-taken-via-else-taken}
 
 pub loop-at-init : goal.loop-at-init
 loop-at-init g c = record { more = none_more 0 (records c.args.lines.now); none = λ admits by. refl }

@@ -1,6 +1,7 @@
 use Rattle.std.proofs.Common.{◌∙◌, ◌+◌, get_or, sym, ap, subst}
 use Rattle.std.proofs.lemmas.List.{set-get_or}
-use Rattle.reqtable_table.proofs.MarkedAsks.{AreAsked, none_asked, not_asked, is_asked, more_at_end, refused, all_taken, all_more}
+use Rattle.reqtable_table.proofs.MarkedAsks.{AreAsked, none_asked, not_asked, is_asked, more_at_end, refused}
+use Rattle.reqtable_table.proofs.MarkedAsks.{all_taken, all_more}
 use Rattle.reqtable_table.proofs.choosing.takes_all.Goals as goal
 use Rattle.reqtable_table.proofs.choosing.takes_all.Goals.{then-marks-index+in-Ok-true, else-marks-index}
 

@@ -1,4 +1,5 @@
-use Rattle.std.proofs.Common.{◌≡◌, ◌∙◌, ◌≤◌, ◌<◌, ◌+◌, ℕ, List, [], Option, option_map, length, map, set, get_or, sym, ap, subst, arith}
+use Rattle.std.proofs.Common.{◌≡◌, ◌∙◌, ◌≤◌, ◌<◌, ◌+◌, ℕ, List, [], Option, option_map, length, map, set}
+use Rattle.std.proofs.Common.{get_or, sym, ap, subst, arith}
 use Rattle.std.proofs.lemmas.List.{get_or-map, length-map}
 use Rattle.std.proofs.lemmas.Result.{IfOk-weaker}
 use Rattle.reqtable_text.specs.Ordered.{placed_seen}
@@ -14,7 +15,8 @@ use Rattle.reqtable_table.specs.Runs.{IsToldIn}
 use Rattle.reqtable_table.specs.declared.runs.Told.{Told}
 use Rattle.reqtable_holding.proofs.Holding.{nothing_known}
 use Rattle.reqtable_holding.specs.Settings.{nodes_in, valuation_in}
-use Rattle.reqtable_table.proofs.Rows.{kept_records, none_before, lines_here, cases_here, within_runs, said_here, below_here, row_here, more_here, end_here, no_more_set}
+use Rattle.reqtable_table.proofs.Rows.{kept_records, none_before, lines_here, cases_here, within_runs}
+use Rattle.reqtable_table.proofs.Rows.{said_here, below_here, row_here, more_here, end_here, no_more_set}
 use Rattle.reqtable_table.proofs.Told.{told_long, told_own, own_told}
 use Rattle.reqtable_table.proofs.row.row_at.Goals as goal
 

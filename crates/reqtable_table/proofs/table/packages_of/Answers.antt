@@ -7,7 +7,8 @@ use Rattle.reqtable_groups.specs.Given.{lines_in}
 use Rattle.reqtable_table.specs.KeptLines.{package_record}
 use Rattle.reqtable_table.specs.Building.{AreOfTrees, IsPackageOf}
 use Rattle.reqtable_table.proofs.Packages.{zip_pushed}
-use Rattle.reqtable_table.proofs.Firsts.{of_trees_on, packages_on, pushed_all, more_lines, at_most, so_far, first_refused}
+use Rattle.reqtable_table.proofs.Firsts.{of_trees_on, packages_on, pushed_all, more_lines, at_most, so_far}
+use Rattle.reqtable_table.proofs.Firsts.{first_refused}
 use Rattle.reqtable_table.proofs.table.packages_of.Goals as goal
 
 pub package_of-requires : goal.package_of-requires

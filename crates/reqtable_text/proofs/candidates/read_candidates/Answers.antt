@@ -1,5 +1,6 @@
 use Rattle.std.proofs.Common.{◌≡◌, ◌<◌, ◌∙◌, ◌+◌, ℕ, List, IsTrue, Ok, false, ap, sym, subst, rules, arith}
-use Rattle.std.proofs.lemmas.Iterator.Consumers.{YieldsList-at, YieldsList-end, YieldsList-so_far, YieldsList-turn, YieldsList-from_enumerate}
+use Rattle.std.proofs.lemmas.Iterator.Consumers.{YieldsList-at, YieldsList-end, YieldsList-so_far}
+use Rattle.std.proofs.lemmas.Iterator.Consumers.{YieldsList-turn, YieldsList-from_enumerate}
 use Rattle.std.proofs.lemmas.Iterator.Splits.{YieldsList-from_str_split}
 use Rattle.std.specs.Str.{trim}
 use Rattle.std.specs.Str.Lines.{strip_carriage_return}
@@ -7,7 +8,8 @@ use Rattle.read_outcome.specs.Outcome.{Tells}
 use Rattle.reqtable_text.specs.TextLines.{is_blank, without_comment, text_lines, each_line}
 use Rattle.reqtable_text.specs.CandidateLine.{has_name}
 use Rattle.reqtable_text.specs.Candidates.{candidate_at, told_candidates}
-use Rattle.reqtable_text.proofs.Lines.{lines_of, numbered, seen, lines_all, lines_split, lines_more_kept, each_more, tells_all, answers_err}
+use Rattle.reqtable_text.proofs.Lines.{lines_of, numbered, seen, lines_all, lines_split, lines_more_kept}
+use Rattle.reqtable_text.proofs.Lines.{each_more, tells_all, answers_err}
 use Rattle.reqtable_text.proofs.candidates.read_candidates.Goals as goal
 
 pub returns-clause-answered : goal.returns-clause-answered

@@ -2,7 +2,8 @@ use Rattle.std.proofs.Common.{◌≡◌, ◌∙◌, ◌⊎◌, ◌%◌, inl, inr
 use Rattle.std.specs.Ordering.{is_ne}
 use Rattle.reqtable_text.specs.Fronts.{front_of}
 use Rattle.reqtable_text.proofs.Fronts.{front_decides}
-use Rattle.reqtable_text.proofs.sorting.compare_names.Goals.{then-is_ne-via-then-is_ne, then-is_ne-via-else-is_ne+then-a-eq0}
+use Rattle.reqtable_text.proofs.sorting.compare_names.Goals.{then-is_ne-via-then-is_ne}
+use Rattle.reqtable_text.proofs.sorting.compare_names.Goals.{then-is_ne-via-else-is_ne+then-a-eq0}
 use Rattle.reqtable_text.proofs.sorting.compare_names.Goals as goal
 
 pub returns-then-is_ne : goal.returns-then-is_ne

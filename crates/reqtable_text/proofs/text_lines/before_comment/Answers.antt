@@ -1,11 +1,13 @@
-use Rattle.std.proofs.Common.{slice_range, take, ◌-◌, refl, ◌≢◌, ◌≡◌, ℕ, ◌&&◌, ◌==◌, ◌∙◌, ◌+◌, Bool, true, false, length, ap, sym, subst, rules, arith, length-append}
+use Rattle.std.proofs.Common.{slice_range, take, ◌-◌, refl, ◌≢◌, ◌≡◌, ℕ, ◌&&◌, ◌==◌, ◌∙◌, ◌+◌, Bool, true}
+use Rattle.std.proofs.Common.{false, length, ap, sym, subst, rules, arith, length-append}
 use Rattle.std.proofs.lemmas.Bool.Decides.{nat_tests}
 use Rattle.std.specs.Char.{encode_utf8, is_whitespace}
 use Rattle.std.specs.Str.Iter.{char_indices_rest, char_indices_offset}
 use Rattle.reqtable_text.specs.TextLines.{without_comment}
 use Rattle.reqtable_text.proofs.Comments.{Scan, scan_none, scan_more, scan_stop, scan_end}
 use Rattle.reqtable_text.proofs.text_lines.before_comment.Goals as goal
-use Rattle.reqtable_text.proofs.text_lines.before_comment.Goals.{else-begins-via-then-begins+else-c-eq35, else-begins-via-else-begins}
+use Rattle.reqtable_text.proofs.text_lines.before_comment.Goals.{else-begins-via-then-begins+else-c-eq35}
+use Rattle.reqtable_text.proofs.text_lines.before_comment.Goals.{else-begins-via-else-begins}
 
 pub loop-at-init : goal.loop-at-init
 loop-at-init c =

@@ -1,7 +1,8 @@
 use Rattle.std.proofs.Common.{◌-◌, ◌+◌, sym, ◌∙◌, ap, length, map, Ok}
 use Rattle.pep440_text.specs.Record.{segment_of}
 use Rattle.pep440_text.specs.Reading.{with_front, segments_at}
-use Rattle.pep440_text.proofs.Steps.{segments_last, segments_end, segments_more, segments_err, segments_pushed}
+use Rattle.pep440_text.proofs.Steps.{segments_last, segments_end, segments_more, segments_err}
+use Rattle.pep440_text.proofs.Steps.{segments_pushed}
 use Rattle.pep440_text.proofs.reading.local.segments.Goals as goal
 
 pub returns-in-Err : goal.returns-in-Err

@@ -1,11 +1,13 @@
-use Rattle.std.proofs.Common.{◌≡◌, ◌<◌, subst, true, false, length, get_or, take, drop, ap, sym, ◌∙◌, below_more, arith}
+use Rattle.std.proofs.Common.{◌≡◌, ◌<◌, subst, true, false, length, get_or, take, drop, ap, sym, ◌∙◌}
+use Rattle.std.proofs.Common.{below_more, arith}
 use Rattle.std.proofs.lemmas.List.Sums.{prefix_len_is}
 use Rattle.std.specs.Char.{is_ascii_alphanumeric}
 use Rattle.std.specs.List.{prefix_len}
 use Rattle.std.specs.Str.{IsAscii}
 use Rattle.pep440_text.proofs.Letters.{letters_are_ascii}
 use Rattle.pep440_text.proofs.reading.local.split_letters.Goals as goal
-use Rattle.pep440_text.proofs.reading.local.split_letters.Goals.{then-loop-count-test+else-is_ascii_alphanumeric, else-loop-count-test}
+use Rattle.pep440_text.proofs.reading.local.split_letters.Goals.{then-loop-count-test+else-is_ascii_alphanumeric}
+use Rattle.pep440_text.proofs.reading.local.split_letters.Goals.{else-loop-count-test}
 
 -- how many letters were counted
 counted : (c : goal.After-split_at) → prefix_len is_ascii_alphanumeric c.args.bytes.now ≡ c.loop-count.count

@@ -1,5 +1,12 @@
 use Rattle.std.proofs.Common.{[], ◌∷◌, refl, sym, ◌∙◌, rules}
-use Rattle.pep508_environment.specs.declared.EnvironmentMember.TheVariants.{ImplementationName, ImplementationVersion, OsName, PlatformMachine, PlatformPythonImplementation, PlatformRelease, PlatformSystem, PlatformVersion, PythonFullVersion, PythonVersion, SysPlatform}
+use Rattle.pep508_environment.specs.declared.EnvironmentMember.TheVariants.{ImplementationName}
+use Rattle.pep508_environment.specs.declared.EnvironmentMember.TheVariants.{ImplementationVersion, OsName}
+use Rattle.pep508_environment.specs.declared.EnvironmentMember.TheVariants.{PlatformMachine}
+use Rattle.pep508_environment.specs.declared.EnvironmentMember.TheVariants.{PlatformPythonImplementation}
+use Rattle.pep508_environment.specs.declared.EnvironmentMember.TheVariants.{PlatformRelease, PlatformSystem}
+use Rattle.pep508_environment.specs.declared.EnvironmentMember.TheVariants.{PlatformVersion}
+use Rattle.pep508_environment.specs.declared.EnvironmentMember.TheVariants.{PythonFullVersion, PythonVersion}
+use Rattle.pep508_environment.specs.declared.EnvironmentMember.TheVariants.{SysPlatform}
 use Rattle.pep508_environment.proofs.Reached.{reached}
 use Rattle.pep508_environment.proofs.environment.MarkerEnvironment.from_value.Goals as goal
 

@@ -1,4 +1,5 @@
-use Rattle.std.proofs.Common.{◌∙◌, ◌<◌, ◌++◌, ◌+◌, ℕ, List, length, map, take, drop, get_or, string_bytes, All, ap, sym, subst}
+use Rattle.std.proofs.Common.{◌∙◌, ◌<◌, ◌++◌, ◌+◌, ℕ, List, length, map, take, drop, get_or, string_bytes}
+use Rattle.std.proofs.Common.{All, ap, sym, subst}
 use Rattle.std.proofs.lemmas.Result.{on_ok_weaker, on_err_weaker, err_from_is_err_and}
 use Rattle.reqs_io.specs.Front.{WritesWhole, AppendsFront}
 use Rattle.reqs_pieces.specs.Pieces.{text_of}

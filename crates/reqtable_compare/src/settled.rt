@@ -1,0 +1,142 @@
+//! The packages that are settled by their lines, since these are equal in both lists.
+
+ghost use Rattle.std.specs.Prelude.{◌≡◌, ◌≤◌, ◌^◌, ◌++◌, ◌∷◌, ◌||◌, ℕ, false, true, List, [], map};
+ghost use Rattle.std.specs.Prelude.{IfOk, OnOk, IsTrue};
+ghost use Rattle.std.specs.List.{list_any};
+ghost use Rattle.std.specs.List.Sorted.{IsStrictlySortedBy};
+ghost use Rattle.std.specs.Ordering.{nat_cmp};
+ghost use Rattle.std.specs.Cmp.Lexicographic.{slice_cmp};
+ghost use Rattle.std.specs.Str.{bytes_eq};
+ghost use Rattle.reqtable_table.specs.Given.{is_under};
+ghost use Rattle.reqtable_compare.specs.Settled.{AreOpen, AreSettled, lines_at, lines_under, lent};
+
+use crate::equal_lines::are_said;
+use pep508_name::PackageName;
+use reqtable_conflicts::package_names;
+use reqtable_requirements::Line;
+use std::alloc::{AllocError, Global};
+use std::collections::BTreeMap;
+
+/// The lines of a list, by the names of their packages.
+type Groups<'a> = BTreeMap<&'a str, Vec<&'a Line>>;
+
+/// The names of the packages that have to be compared by their cases, each once and in the order of their
+/// bytes. The others are settled: both lists have equal lines of them, and so few that no sets of these can
+/// be more than the limit.
+///
+/// n lines take O(n log n) comparisons of names. Of a package with k and m lines at most 2 * k * m pairs of
+/// lines are compared, and none where 2^k or 2^m is more than the limit.
+pub(crate) fn open_packages<'a>(
+    alloc: Global,
+    left: &'a [Line],
+    right: &'a [Line],
+    limit: u64,
+) -> Result<Vec<&'a PackageName>, AllocError>
+    ensures { IfOk result (λ names. AreOpen limit left.now right.now (map (λ name. name.now) names.items)) }
+{
+    let names = names_of(alloc, left, right)?;
+    let ours = by_package(alloc, left)?;
+    let theirs = by_package(alloc, right)?;
+    open_among(alloc, &names, &ours, &theirs, limit)
+}
+
+/// The names of the packages that either list names, each once and in the order of their bytes.
+fn names_of<'a>(
+    alloc: Global,
+    left: &'a [Line],
+    right: &'a [Line],
+) -> Result<Vec<&'a PackageName>, AllocError>
+    ensures rise { IfOk result (λ names.
+        IsStrictlySortedBy (slice_cmp nat_cmp) (map (λ name. name.now) names.items)) }
+    ensures are { IfOk result (λ names. (name : List ℕ) →
+        list_any (bytes_eq name) (map (λ n. n.now) names.items)
+        ≡ (list_any (is_under name) left.now || (list_any (is_under name) right.now || false))) }
+{
+    package_names(alloc, &[left, right])
+}
+
+/// Those of some names whose lines don't settle what is asked.
+fn open_among<'a>(
+    alloc: Global,
+    names: &[&'a PackageName],
+    ours: &Groups<'a>,
+    theirs: &Groups<'a>,
+    limit: u64,
+) -> Result<Vec<&'a PackageName>, AllocError>
+    requires { IsStrictlySortedBy (slice_cmp nat_cmp) (map (λ name. name.now) names.now) }
+    ensures rising { IfOk result (λ unsettled.
+        IsStrictlySortedBy (slice_cmp nat_cmp) (map (λ name. name.now) unsettled.items)) }
+    ensures settled { IfOk result (λ unsettled. (q : List ℕ) →
+        list_any (bytes_eq q) (map (λ name. name.now) names.now) ≡ true →
+        list_any (bytes_eq q) (map (λ name. name.now) unsettled.items) ≡ false →
+        AreSettled limit (lines_at ours.now q) (lines_at theirs.now q)) }
+{
+    let mut unsettled = Vec::new(alloc);
+    for name in names {
+        if !is_settled(ours, theirs, name, limit) {
+            unsettled.push(*name)?;
+        }
+    }
+    Ok(unsettled)
+}
+
+/// Whether both lists have lines of a package that settle what is asked.
+fn is_settled(ours: &Groups<'_>, theirs: &Groups<'_>, name: &PackageName, limit: u64) -> bool
+    ensures { IsTrue result → AreSettled limit (lines_at ours.now name.now) (lines_at theirs.now name.now) }
+{
+    match ours.get(name.as_str()) {
+        Some(one) => match theirs.get(name.as_str()) {
+            Some(other) => are_settled(one, other, limit),
+            None => false,
+        },
+        None => false,
+    }
+}
+
+/// Whether the lines of a package say the same in both lists, and are so few that all sets of them are within
+/// the limit.
+fn are_settled(ours: &[&Line], theirs: &[&Line], limit: u64) -> bool
+    ensures { IsTrue result → AreSettled limit (lent ours.now) (lent theirs.now) }
+{
+    if !has_room(limit, ours.len()) || !has_room(limit, theirs.len()) {
+        return false;
+    }
+    are_said(ours, theirs) && are_said(theirs, ours)
+}
+
+/// Whether all sets of so many lines are within the limit.
+#[tactic(auto, using(crate::proofs::Few::fewer))]
+fn has_room(limit: u64, count: usize) -> bool
+    ensures { IsTrue result → 2 ^ count ≤ limit }
+{
+    let Some(most) = limit.checked_ilog2() else {
+        return false;
+    };
+    if count > most as usize {
+        return false;
+    }
+    true
+}
+
+/// The lines by their packages, those of a package in their order.
+fn by_package<'a>(alloc: Global, lines: &'a [Line]) -> Result<Groups<'a>, AllocError>
+    ensures { IfOk result (λ groups. (q : List ℕ) → lines_at groups q ≡ lines_under q lines.now) }
+{
+    let mut groups: Groups<'a> = BTreeMap::new(alloc);
+    for line in lines {
+        add(alloc, &mut groups, line)?;
+    }
+    Ok(groups)
+}
+
+/// Adds a line to its package's, behind those that are there.
+fn add<'a>(alloc: Global, groups: &mut Groups<'a>, line: &'a Line) -> Result<(), AllocError>
+    ensures { OnOk result ((q : List ℕ) →
+        lines_at groups.new q ≡ lines_at groups.old q ++ lines_under q (line.now ∷ [])) }
+{
+    let lines = groups
+        .entry(line.requirement.name.as_str())?
+        .or_insert(Vec::new(alloc));
+    lines.push(line)?;
+    Ok(())
+}
