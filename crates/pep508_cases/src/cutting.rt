@@ -54,7 +54,8 @@ fn whole(interner: &Interner, tree: MarkerTree) -> Option<MarkerTree>
     Some(tree)
 }
 
-/// The two halves of a case. Where it lies in one of them no conjunction is asked for.
+/// The two halves of a case. Where it lies in one of them no conjunction is asked for, and where the tree
+/// always holds, as of a line without a marker, no node is looked at.
 pub(crate) fn halved(
     alloc: Global,
     interner: &mut Interner,
@@ -70,6 +71,13 @@ pub(crate) fn halved(
     ensures keeps { Extends interner.old.nodes interner.new.nodes }
     ensures counts { interner.new.conjunctions ≤ interner.old.conjunctions + 2 }
 {
+    if tree.is_true() {
+        let all = whole(interner, case);
+        return Ok(Halves {
+            with: all,
+            without: None,
+        });
+    }
     let other = tree.negate();
     if case.is_disjoint(alloc, interner, tree)? {
         let without = whole(interner, case);
