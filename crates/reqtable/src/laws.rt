@@ -6,5 +6,5 @@ pub use reqtable_compare::laws as comparisons;
 pub use reqtable_conflicts::laws as contradictions;
 pub use reqtable_normal::laws as normal_texts;
 pub use reqtable_requirements::laws as requirement_lists;
-pub use reqtable_table::laws as tables;
+pub use reqtable_table_laws as tables;
 pub use reqtable_text::laws as candidate_lists;

@@ -8,7 +8,6 @@ pub mod Firsts
 pub mod Built
 pub mod Lookup
 pub mod RowsOfLines
-pub mod CasesOfLines
 pub mod AskedLines
 pub mod MarkedAsks
 pub mod Telling
@@ -19,7 +18,6 @@ pub mod Searching
 pub mod Own
 pub mod Rows
 pub mod StandingLines
-pub mod OneCase
 pub mod Told
 pub mod LentTable
 pub mod Placed

@@ -8,7 +8,6 @@ mod choosing;
 #[cfg(test)]
 mod fields;
 mod kept;
-pub mod laws;
 mod row;
 mod runs;
 mod table;

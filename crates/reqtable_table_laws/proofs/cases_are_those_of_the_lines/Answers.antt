@@ -1,5 +1,5 @@
-use Rattle.reqtable_table.proofs.CasesOfLines.{cases_of_lines, none_of_lines}
-use Rattle.reqtable_table.proofs.laws.cases_are_those_of_the_lines.Goals as goal
+use Rattle.reqtable_table_laws.proofs.CasesOfLines.{cases_of_lines, none_of_lines}
+use Rattle.reqtable_table_laws.proofs.cases_are_those_of_the_lines.Goals as goal
 
 pub returns-clause-some : goal.returns-clause-some
 returns-clause-some c = cases_of_lines

@@ -1,4 +1,6 @@
-//! Laws over the definitions. The functions do nothing: each one's contract is its law.
+//! Laws of tables, over the definitions that the contracts of `reqtable_table` cite. The functions do nothing: each
+//! one's contract is its law.
+#![tactic(auto)]
 
 ghost use Rattle.std.specs.Prelude.{◌≡◌, false, ℕ, List, length, filter, Some, None};
 ghost use Rattle.std.specs.List.{AllZip, AllByRecursion};
@@ -41,7 +43,7 @@ pub fn other_packages_change_no_case()
 {}
 
 /// A package's cases stay its cases while nodes are added to the interner.
-#[tactic(auto, using(crate::proofs::Packages::has_kept))]
+#[tactic(auto, using(reqtable_table::proofs::Packages::has_kept))]
 pub fn cases_are_kept()
     ensures { (old new : List NodeRecord) (kept : KeptPackage) → Extends old new →
         HasItsCases old kept → HasItsCases new kept }

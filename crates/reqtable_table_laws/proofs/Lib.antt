@@ -1,0 +1,2 @@
+pub mod CasesOfLines
+pub mod OneCase
