@@ -23,7 +23,7 @@ use Rattle.reqtable_cases.specs.Lines.{line_marks}
 use Rattle.reqtable_cases.specs.Requires.{RequireAlike, RequireTheSame, IsFirstDifference, asked_of}
 use Rattle.reqtable_table.specs.Cases.{AreCasesOf, cases_under, Builds}
 use Rattle.reqtable_table.specs.Kept.{KeptCase, KeptPackage}
-use Rattle.reqtable_table.proofs.CasesOfLines.{cases_of_lines, none_of_lines}
+use Rattle.reqtable_table_laws.proofs.CasesOfLines.{cases_of_lines, none_of_lines}
 use Rattle.reqtable_compare.specs.declared.sides.Same.{Same}
 use Rattle.reqtable_compare.specs.declared.sides.Same.TheVariants.{Yes, No}
 use Rattle.reqtable_compare.specs.declared.sides.SameError.{SameError}

@@ -32,7 +32,7 @@ use Rattle.reqtable_cases.specs.Conflicts.{IsConflict, told_of, AreConflicts}
 use Rattle.reqtable_table.specs.Cases.{HasItsCases, IsCaseOfLines, AreCasesOf, cases_under}
 use Rattle.reqtable_table.specs.Given.{is_under}
 use Rattle.reqtable_table.specs.Kept.{KeptCase, KeptPackage, KeepsAll}
-use Rattle.reqtable_table.proofs.CasesOfLines.{cases_of_lines, none_of_lines}
+use Rattle.reqtable_table_laws.proofs.CasesOfLines.{cases_of_lines, none_of_lines}
 use Rattle.reqtable_conflicts.specs.Contradictions.{ConflictRecord, HasNoPoint, StandByName, told_under}
 use Rattle.reqtable_conflicts.specs.Picking.{Picks, PicksOf, FoundFor, named}
 use Rattle.reqtable_conflicts.proofs.Picked.{in_or}
