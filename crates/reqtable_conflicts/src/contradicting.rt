@@ -26,8 +26,8 @@ use reqtable_table::{Case, Table, TableError};
 use std::alloc::{AllocError, Global};
 use version_ranges::Ranges;
 
-/// Some lines of a package that apply together, and alone, under some valuation of markers, without any version
-/// that all of them could take.
+/// Some lines of a package that apply together, and alone, under some valuation of markers, without any
+/// version that all of them could take.
 #[derive(Debug, PartialEq, Eq, Drop)]
 pub struct Conflict {
     pub package: PackageName,

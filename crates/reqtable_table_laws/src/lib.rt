@@ -1,5 +1,5 @@
-//! Laws of tables, over the definitions that the contracts of `reqtable_table` cite. The functions do nothing: each
-//! one's contract is its law.
+//! Laws of tables, over the definitions that the contracts of `reqtable_table` cite. The functions do
+//! nothing: each one's contract is its law.
 #![tactic(auto)]
 
 ghost use Rattle.std.specs.Prelude.{◌≡◌, false, ℕ, List, length, filter, Some, None};
