@@ -1,6 +1,6 @@
 -- Lists that require the same are answered alike.
 use Rattle.std.proofs.Common.{◌≡◌, ◌∙◌, ◌&&◌, ◌||◌, ◌↔◌, ◌+◌, ℕ, Bool, true, false, cond, List, [], ◌∷◌}
-use Rattle.std.proofs.Common.{map, filter, option_map, All, None, refl, sym, ap, subst}
+use Rattle.std.proofs.Common.{filter, option_map, All, None, refl, sym, ap, subst}
 use Rattle.std.specs.List.{list_any, list_all, enumerate_from, AllByRecursion}
 use Rattle.std.proofs.lemmas.List.Elements.{All-nil, All-append, All-filter, All-map}
 use Rattle.std.proofs.lemmas.List.Elements.{All-from_recursion, recursion_from_All}
@@ -10,7 +10,7 @@ use Rattle.pep508_diagram.specs.Question.{Valuation}
 use Rattle.pep508_requirement_text.specs.FrontReading.{Front}
 use Rattle.reqtable_text.specs.declared.candidates.Candidate.{Candidate}
 use Rattle.reqtable_range.specs.Together.{IsPlain}
-use Rattle.reqtable_answer.specs.Asks.{specifiers_of, is_of, ask_takes, names_prerelease}
+use Rattle.reqtable_answer.specs.Asks.{specifiers_of, is_of, ask_takes}
 use Rattle.reqtable_answer.specs.Asks.{is_candidate, may_be_taken}
 use Rattle.reqtable_answer.specs.Answer.{Admits, RowRecord, IsRowOf, IsRow, IsAnswer, IsAnswerText}
 use Rattle.reqtable_answer.specs.Answer.{outcome_of, chosen, first_greatest, by_version}

@@ -15,7 +15,5 @@ pub mod Answering
 pub mod Apart
 pub mod Covered
 pub mod Meant
-pub mod Few
-pub mod Among
 pub mod Outside
 pub mod Opening

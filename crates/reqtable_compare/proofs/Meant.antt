@@ -1,9 +1,8 @@
 -- Lines that say the same stand for lines that mean the same.
-use Rattle.std.proofs.Common.{◌≡◌, ◌∙◌, ◌⊎◌, ◌<◌, inl, inr, ℕ, zero, Bor, Bool, true, false, cond, List, []}
-use Rattle.std.proofs.Common.{◌∷◌, map, filter, length, suc}
+use Rattle.std.proofs.Common.{◌≡◌, ◌∙◌, ◌<◌, inl, inr, ℕ, zero, Bor, List, []}
+use Rattle.std.proofs.Common.{◌∷◌, length, suc}
 use Rattle.std.proofs.Common.{Option, Some, None, get_or, refl, sym, ap, subst, arith}
-use Rattle.std.specs.List.{list_any, list_all, AllZip, AllByRecursion}
-use Rattle.pep440_specifier.specs.Matching.{SpecifierRecord}
+use Rattle.std.specs.List.{list_any, list_all, AllZip}
 use Rattle.pep508_tree.specs.Meaning.{NodeRecord, holds}
 use Rattle.pep508_url.specs.Vars.{Variables}
 use Rattle.pep508_url.specs.UrlTexts.{Verbatim}
@@ -14,12 +13,14 @@ use Rattle.pep508_requirement.specs.declared.version_or_url.VersionOrUrl.TheVari
 use Rattle.pep508_requirement_text.specs.FrontReading.{Source}
 use Rattle.pep508_requirement_text.specs.FrontReading.Source.{Any, Specifiers, Url}
 use Rattle.reqtable_answer.specs.Asks.{specifiers_of}
-use Rattle.reqtable_answer.proofs.InOrder.{same_all, same_any}
+use Rattle.reqtable_answer.proofs.InOrder.{same_any}
 use Rattle.reqtable_requirements.specs.LineReading.{LineRecord}
 use Rattle.reqtable_requirements.specs.LineSpecifiers.{specifiers_by}
 use Rattle.reqtable_requirements.specs.Requirements.{ReadsUrl, StandsFor}
 use Rattle.reqtable_requirements.specs.declared.requirements.Line.{Line}
-use Rattle.reqtable_compare.specs.Settled.{SayTheSame, IsSaidIn, AreSaidIn, lent}
+use Rattle.reqtable_conflicts.specs.Packages.{lent}
+use Rattle.reqtable_conflicts.proofs.Standing.{asked_all}
+use Rattle.reqtable_compare.specs.Settled.{SayTheSame, IsSaidIn, AreSaidIn}
 use Rattle.reqtable_compare.proofs.Covered.{Test, MeanTheSame, IsMeantIn, AreMeantIn}
 
 -- ---- a line among others
@@ -30,43 +31,9 @@ said_at [] i other line within is same = absurd (omega arith)
 said_at (one ∷ lines) zero other line within is same = inl (subst (λ (l : Bor Line). SayTheSame line l.now) is same)
 said_at (one ∷ lines) (suc i) other line within is same = inr (said_at lines i other line (omega arith) is same)
 
--- ---- filters of lists that go together
-
-module _ {A B : Type 0} (R : A → B → Type 0) where
-  zip_by : (kept : Bool) (x : A) (y : B) (xs : List A) (ys : List B) → R x y → AllZip R xs ys →
-      AllZip R (cond kept (x ∷ xs) xs) (cond kept (y ∷ ys) ys)
-  zip_by true x y xs ys one rest = (one, rest)
-  zip_by false x y xs ys one rest = rest
-
-  pub zip_filtered : (p : A → Bool) (q : B → Bool) → ((x : A) (y : B) → R x y → p x ≡ q y) → (xs : List A)
-      (ys : List B) → AllZip R xs ys → AllZip R (filter p xs) (filter q ys)
-  zip_filtered p q same [] [] h = tt
-  zip_filtered p q same [] (y ∷ ys) h = absurd h
-  zip_filtered p q same (x ∷ xs) [] h = absurd h
-  zip_filtered p q same (x ∷ xs) (y ∷ ys) h =
-      subst (λ b. AllZip R (filter p (x ∷ xs)) (cond b (y ∷ filter q ys) (filter q ys))) (same x y h.0)
-      (zip_by (p x) x y (filter p xs) (filter q ys) h.0 (zip_filtered p q same xs ys h.1))
-
-  pub zip_long : (xs : List A) (ys : List B) → AllZip R xs ys → length xs ≡ length ys
-  zip_long [] [] h = refl
-  zip_long [] (y ∷ ys) h = absurd h
-  zip_long (x ∷ xs) [] h = absurd h
-  zip_long (x ∷ xs) (y ∷ ys) h = ap suc (zip_long xs ys h.1)
-
 -- ---- what lines stand for
 
 module _ (vars : Variables) (nodes : List NodeRecord) where
-  asked_all : (test : Test) (source : Source) (what : Option (VersionOrUrl Verbatim VerbatimUrlError)) →
-      AsksFor (ReadsUrl vars) source what → list_all test (specifiers_of source) ≡ list_all test (specifiers_by what)
-  asked_all test Any None h = refl
-  asked_all test Any (Some what) h = absurd h
-  asked_all test (Specifiers given) None h = absurd h
-  asked_all test (Specifiers given) (Some (asked.VersionSpecifier list)) h = sym (same_all test given list h)
-  asked_all test (Specifiers given) (Some (asked.Url url)) h = absurd h
-  asked_all test (Url text) None h = absurd h
-  asked_all test (Url text) (Some (asked.VersionSpecifier list)) h = absurd h
-  asked_all test (Url text) (Some (asked.Url url)) h = refl
-
   asked_some : (test : Test) (source : Source) (what : Option (VersionOrUrl Verbatim VerbatimUrlError)) →
       AsksFor (ReadsUrl vars) source what → list_any test (specifiers_of source) ≡ list_any test (specifiers_by what)
   asked_some test Any None h = refl
@@ -82,9 +49,9 @@ module _ (vars : Variables) (nodes : List NodeRecord) where
       SayTheSame a b → MeanTheSame r s
   one_meant a b r s one other same = record {
     extras = sym one.extras ∙ same.extras ∙ other.extras;
-    every = λ test. asked_all test r.front.source a.requirement.version_or_url one.asks
+    every = λ test. asked_all vars test r.front.source a.requirement.version_or_url one.asks
         ∙ ap (λ what. list_all test (specifiers_by what)) same.asked
-        ∙ sym (asked_all test s.front.source b.requirement.version_or_url other.asks);
+        ∙ sym (asked_all vars test s.front.source b.requirement.version_or_url other.asks);
     some = λ test. asked_some test r.front.source a.requirement.version_or_url one.asks
         ∙ ap (λ what. list_any test (specifiers_by what)) same.asked
         ∙ sym (asked_some test s.front.source b.requirement.version_or_url other.asks);

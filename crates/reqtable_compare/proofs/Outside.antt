@@ -1,12 +1,8 @@
 -- Packages that aren't among the open ones require the same in both lists, and have few cases.
-use Rattle.std.proofs.Common.{◌≡◌, ◌∙◌, ◌||◌, ◌≤◌, ◌^◌, ℕ, Bool, true, false, cond, List, [], ◌∷◌, filter}
-use Rattle.std.proofs.Common.{length}
+use Rattle.std.proofs.Common.{◌≡◌, ◌∙◌, ◌||◌, ℕ, Bool, true, false, List, []}
 use Rattle.std.proofs.Common.{refl, sym, ap, subst, true≢false, inl, inr}
 use Rattle.std.proofs.lemmas.Bool.{cases_Bool}
 use Rattle.std.specs.List.{list_any, AllZip}
-use Rattle.std.specs.List.Sorted.{IsStrictlySortedBy}
-use Rattle.std.specs.Ordering.{nat_cmp}
-use Rattle.std.specs.Cmp.Lexicographic.{slice_cmp}
 use Rattle.std.specs.Str.{bytes_eq}
 use Rattle.pep508_diagram.specs.Question.{Valuation}
 use Rattle.pep508_tree.specs.Meaning.{NodeRecord}
@@ -16,34 +12,15 @@ use Rattle.reqtable_requirements.specs.Asks.{lines_of, asks_of}
 use Rattle.reqtable_requirements.specs.LineReading.{LineRecord}
 use Rattle.reqtable_requirements.specs.Requirements.{StandsFor}
 use Rattle.reqtable_requirements.specs.declared.requirements.Line.{Line}
-use Rattle.reqtable_cases.specs.Lines.{is_named, HasTooMany}
+use Rattle.reqtable_cases.specs.Lines.{HasTooMany}
 use Rattle.reqtable_cases.specs.Requires.{RequireAlike, asked_of}
 use Rattle.reqtable_table.specs.Given.{is_under}
-use Rattle.reqtable_compare.specs.Settled.{AreOpen, AreSettled, lines_under}
+use Rattle.reqtable_conflicts.specs.Packages.{lines_under}
+use Rattle.reqtable_conflicts.proofs.Few.{few_cases}
+use Rattle.reqtable_conflicts.proofs.Standing.{under, unnamed, named_alike}
+use Rattle.reqtable_compare.specs.Settled.{AreOpen, AreSettled}
 use Rattle.reqtable_compare.proofs.Covered.{require_alike}
-use Rattle.reqtable_compare.proofs.Meant.{zip_filtered, zip_long, are_meant}
-use Rattle.reqtable_compare.proofs.Few.{not_many}
-
--- ---- lines by their names
-
-unnamed_by : {A : Type 0} (b : Bool) (rest : Bool) (x : A) (ys : List A) → (b || rest) ≡ false →
-    (rest ≡ false → ys ≡ []) → cond b (x ∷ ys) ys ≡ []
-unnamed_by true rest x ys h below = absurd (true≢false h)
-unnamed_by false rest x ys h below = below h
-
-pub unnamed : {A : Type 0} (p : A → Bool) (xs : List A) → list_any p xs ≡ false → filter p xs ≡ []
-unnamed p [] h = refl
-unnamed p (x ∷ xs) h = unnamed_by (p x) (list_any p xs) x (filter p xs) h (unnamed p xs)
-
-named_alike : (vars : Variables) (nodes : List NodeRecord) (lines : List Line) (said : List LineRecord)
-    (q : List ℕ) → AllZip (StandsFor vars nodes) lines said → list_any (is_under q) lines ≡ is_named q said
-named_alike vars nodes [] [] q h = refl
-named_alike vars nodes [] (one ∷ said) q h = absurd h
-named_alike vars nodes (line ∷ lines) [] q h = absurd h
-named_alike vars nodes (line ∷ lines) (one ∷ said) q h =
-    let first = ap (bytes_eq q) h.0.name in
-    let rest = named_alike vars nodes lines said q h.1 in
-    λ i. first i || rest i
+use Rattle.reqtable_compare.proofs.Meant.{are_meant}
 
 -- ---- packages outside
 
@@ -71,17 +48,11 @@ module _ (vars : Variables) (nodes : List NodeRecord) (limit : ℕ) (left right 
   abbrev is_either : List ℕ → Bool
   is_either q = list_any (is_under q) left || (list_any (is_under q) right || false)
 
-  under : (lines : List Line) (rs : List LineRecord) (q : List ℕ) → AllZip (StandsFor vars nodes) lines rs →
-      AllZip (StandsFor vars nodes) (lines_under q lines) (lines_of q rs)
-  under lines rs q h =
-      zip_filtered (StandsFor vars nodes) (is_under q) (λ r. is_of q r.front) (λ line r stands. ap (bytes_eq q) stands.name)
-      lines rs h
-
   settled_alike : (q : List ℕ) → AreSettled limit (lines_under q left) (lines_under q right) → (v : Valuation) →
       RequireAlike (asked_of q v said) (asked_of q v others)
   settled_alike q settled v =
-      let mine = under left said q ours in
-      let other = under right others q theirs in
+      let mine = under vars nodes q left said ours in
+      let other = under vars nodes q right others theirs in
       require_alike (lines_of q said) (lines_of q others)
       (are_meant vars nodes (lines_under q right) (lines_of q others) (lines_under q left) (lines_of q said) other mine
       settled.ours)
@@ -105,20 +76,13 @@ module _ (vars : Variables) (nodes : List NodeRecord) (limit : ℕ) (left right 
         (unnamed (λ line. is_of q line.front) others (sym (named_alike vars nodes right others q theirs) ∙ parts.1)) v
   ]
 
-  few_by : (q : List ℕ) (lines : List Line) (rs : List LineRecord) → AllZip (StandsFor vars nodes) lines rs →
-      2 ^ length (lines_under q lines) ≤ limit → HasTooMany limit rs q → ⊥
-  few_by q lines rs stand few too =
-      not_many limit (lines_of q rs)
-      (subst (λ n. 2 ^ n ≤ limit)
-      (zip_long (StandsFor vars nodes) (lines_under q lines) (lines_of q rs) (under lines rs q stand)) few) too.more
-
   pub outside : AreOutside limit names said others
   outside = record {
     alike = alike_by;
-    few = λ q not too. few_by q left said ours
+    few = λ q not too. few_cases vars nodes limit q left said ours
         (are.settled q not (or_first (list_any (is_under q) left) (list_any (is_under q) right)
         (named_alike vars nodes left said q ours ∙ too.named))).few too;
-    few_others = λ q not too. few_by q right others theirs
+    few_others = λ q not too. few_cases vars nodes limit q right others theirs
         (are.settled q not (or_second (list_any (is_under q) left) (list_any (is_under q) right)
         (named_alike vars nodes right others q theirs ∙ too.named))).few_others too;
   }

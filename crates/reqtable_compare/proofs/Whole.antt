@@ -1,7 +1,7 @@
 -- What the tables of two lists say of what the lists require.
-use Rattle.std.proofs.Common.{◌≡◌, ◌∙◌, ◌||◌, ℕ, Bool, true, false, cond, List, [], ◌∷◌, ◌++◌, filter, Option}
+use Rattle.std.proofs.Common.{◌≡◌, ◌∙◌, ◌||◌, ℕ, Bool, true, false, List, [], ◌∷◌, ◌++◌, Option}
 use Rattle.std.proofs.Common.{Some, None}
-use Rattle.std.proofs.Common.{Result, Ok, Err, refl, sym, ap, subst, true≢false, Less, Greater}
+use Rattle.std.proofs.Common.{Result, Ok, Err, refl, sym, ap, subst, Less, Greater}
 use Rattle.std.specs.List.{list_any, AllZip, AllByRecursion}
 use Rattle.std.specs.List.Sorted.{IsStrictlySortedBy}
 use Rattle.std.specs.Ordering.{nat_cmp, ordering_reverse}
@@ -33,15 +33,16 @@ use Rattle.reqtable_compare.specs.Compared.{NoneTooMany, MayCompare, Compares, T
 use Rattle.reqtable_compare.specs.Differences.{Listed, Sums, AgreeOn, IsFirstPlace, Place, IsBoth}
 use Rattle.reqtable_compare.specs.Differences.{ComparesTables, listed}
 use Rattle.reqtable_compare.specs.Refusals.{line_refusal}
-use Rattle.reqtable_compare.specs.Settled.{said_among}
+use Rattle.reqtable_conflicts.specs.Packages.{said_among}
 use Rattle.reqtable_compare.specs.Summed.{SummaryRecord, AreSummaries}
 use Rattle.reqtable_compare.specs.Totals.{AreSummed}
 use Rattle.reqtable_compare.proofs.ByNumber.{Rise, HasExtras, extras_said}
 use Rattle.reqtable_compare.proofs.Comparable.{AreComparable}
 use Rattle.reqtable_compare.proofs.Summaries.{no_summaries, some_summaries}
 use Rattle.reqtable_compare.proofs.Paired.{all_pass, differs}
-use Rattle.reqtable_compare.proofs.Among.{among_lines, none_too_many, first_too_many}
-use Rattle.reqtable_compare.proofs.Outside.{AreOutside, unnamed}
+use Rattle.reqtable_conflicts.proofs.Among.{among_lines, none_too_many, first_too_many}
+use Rattle.reqtable_conflicts.proofs.Standing.{unnamed}
+use Rattle.reqtable_compare.proofs.Outside.{AreOutside}
 
 -- ---- a list with its table, and what its lines say
 

@@ -12,12 +12,13 @@ ghost use Rattle.pep508_tree.specs.Disjoint.{AreDisjoint};
 ghost use Rattle.reqtable_requirements.specs.Asks.{AreOfNodes};
 ghost use Rattle.reqtable_requirements.specs.LineReading.{LineRecord};
 ghost use Rattle.reqtable_requirements.specs.Requirements.{StandsFor};
-ghost use Rattle.reqtable_table.specs.Cases.{Builds, HasItsCases};
+ghost use Rattle.reqtable_table.specs.Cases.{HasItsCases};
 ghost use Rattle.reqtable_compare.specs.Compared.{Compares, TablesSide};
 ghost use Rattle.reqtable_compare.specs.Differences.{FindsPlace, place_seen, listed, AnswersPlace};
 ghost use Rattle.reqtable_compare.specs.Differences.{ComparesTables};
 ghost use Rattle.reqtable_compare.specs.RefusedLines.{lines_refusal};
-ghost use Rattle.reqtable_compare.specs.Settled.{AreOpen, said_among};
+ghost use Rattle.reqtable_conflicts.specs.Packages.{said_among};
+ghost use Rattle.reqtable_compare.specs.Settled.{AreOpen};
 
 use crate::pairing::{Meeting, first_trees};
 use crate::refusing::first_refusal;
@@ -27,7 +28,8 @@ use crate::summing::summaries;
 use pep508_name::PackageName;
 use pep508_tree::Interner;
 use pep508_tree_laws::{a_tree_holds_somewhere, constants_are_named};
-use reqtable_requirements::{Line, Requirements, copied_packages};
+use reqtable_conflicts::packages_table;
+use reqtable_requirements::{Line, Requirements};
 use reqtable_table::{Table, TableError};
 use std::alloc::{AllocError, Global};
 
@@ -138,26 +140,6 @@ fn side_table(
         Err(TableError::TooManyCases { package }) => Err(SameError::TooManyCases { side, package }),
         Err(TableError::Memory) => Err(SameError::Memory),
     }
-}
-
-/// The table of a copy of these packages' lines, so that the requirements stay the caller's.
-fn packages_table(
-    alloc: Global,
-    requirements: &Requirements,
-    names: &[&PackageName],
-    interner: &mut Interner,
-    limit: u64,
-) -> Result<Table, TableError>
-    requires rising { IsStrictlySortedBy (slice_cmp nat_cmp) (map (λ name. name.now) names.now) }
-    requires trees { AreOfNodes interner.old.nodes requirements.now }
-    ensures built { (vars : Variables) (said : List LineRecord) →
-        AllZip (StandsFor vars interner.old.nodes) requirements.now said →
-        Builds limit interner.new.nodes (said_among (map (λ name. name.now) names.now) said) result }
-    ensures cases { IfOk result (AllByRecursion (HasItsCases interner.new.nodes)) }
-    ensures keeps { Extends interner.old.nodes interner.new.nodes }
-{
-    let copy = copied_packages(alloc, requirements, names)?;
-    Table::build(alloc, copy, interner, limit)
 }
 
 /// Compares two lists by the tables of some packages.

@@ -1,24 +1,20 @@
 //! The packages that are settled by their lines, since these are equal in both lists.
 
-ghost use Rattle.std.specs.Prelude.{◌≡◌, ◌≤◌, ◌^◌, ◌++◌, ◌∷◌, ◌||◌, ℕ, false, true, List, [], map};
-ghost use Rattle.std.specs.Prelude.{IfOk, OnOk, IsTrue};
+ghost use Rattle.std.specs.Prelude.{◌≡◌, ◌||◌, ℕ, false, true, List, map, IfOk, IsTrue};
 ghost use Rattle.std.specs.List.{list_any};
 ghost use Rattle.std.specs.List.Sorted.{IsStrictlySortedBy};
 ghost use Rattle.std.specs.Ordering.{nat_cmp};
 ghost use Rattle.std.specs.Cmp.Lexicographic.{slice_cmp};
 ghost use Rattle.std.specs.Str.{bytes_eq};
 ghost use Rattle.reqtable_table.specs.Given.{is_under};
-ghost use Rattle.reqtable_compare.specs.Settled.{AreOpen, AreSettled, lines_at, lines_under, lent};
+ghost use Rattle.reqtable_conflicts.specs.Packages.{lines_at, lent};
+ghost use Rattle.reqtable_compare.specs.Settled.{AreOpen, AreSettled};
 
 use crate::equal_lines::are_said;
 use pep508_name::PackageName;
-use reqtable_conflicts::package_names;
+use reqtable_conflicts::{Groups, by_package, has_room, package_names};
 use reqtable_requirements::Line;
 use std::alloc::{AllocError, Global};
-use std::collections::BTreeMap;
-
-/// The lines of a list, by the names of their packages.
-type Groups<'a> = BTreeMap<&'a str, Vec<&'a Line>>;
 
 /// The names of the packages that have to be compared by their cases, each once and in the order of their
 /// bytes. The others are settled: both lists have equal lines of them, and so few that no sets of these can
@@ -102,41 +98,4 @@ fn are_settled(ours: &[&Line], theirs: &[&Line], limit: u64) -> bool
         return false;
     }
     are_said(ours, theirs) && are_said(theirs, ours)
-}
-
-/// Whether all sets of so many lines are within the limit.
-#[tactic(auto, using(crate::proofs::Few::fewer))]
-fn has_room(limit: u64, count: usize) -> bool
-    ensures { IsTrue result → 2 ^ count ≤ limit }
-{
-    let Some(most) = limit.checked_ilog2() else {
-        return false;
-    };
-    if count > most as usize {
-        return false;
-    }
-    true
-}
-
-/// The lines by their packages, those of a package in their order.
-fn by_package<'a>(alloc: Global, lines: &'a [Line]) -> Result<Groups<'a>, AllocError>
-    ensures { IfOk result (λ groups. (q : List ℕ) → lines_at groups q ≡ lines_under q lines.now) }
-{
-    let mut groups: Groups<'a> = BTreeMap::new(alloc);
-    for line in lines {
-        add(alloc, &mut groups, line)?;
-    }
-    Ok(groups)
-}
-
-/// Adds a line to its package's, behind those that are there.
-fn add<'a>(alloc: Global, groups: &mut Groups<'a>, line: &'a Line) -> Result<(), AllocError>
-    ensures { OnOk result ((q : List ℕ) →
-        lines_at groups.new q ≡ lines_at groups.old q ++ lines_under q (line.now ∷ [])) }
-{
-    let lines = groups
-        .entry(line.requirement.name.as_str())?
-        .or_insert(Vec::new(alloc));
-    lines.push(line)?;
-    Ok(())
 }

@@ -1,6 +1,6 @@
 //! What the cases of a package's lines require.
 
-ghost use Rattle.std.specs.Prelude.{◌≡◌, List, [], map, None, IfOk};
+ghost use Rattle.std.specs.Prelude.{◌≡◌, [], map, None, IfOk};
 ghost use Rattle.std.specs.List.{AllZip};
 ghost use Rattle.std.specs.List.Sorted.{IsStrictlySortedBy};
 ghost use Rattle.std.specs.Ordering.{nat_cmp};

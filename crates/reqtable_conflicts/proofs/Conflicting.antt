@@ -1,8 +1,8 @@
 -- The cases that are picked are the conflicts of their package's lines, and they stand by name.
 use Rattle.std.proofs.Common.{◌≡◌, ◌∙◌, ◌<◌, ◌⊎◌, ℕ, Bool, true, false, cond, ◌||◌, List, [], ◌∷◌, ◌++◌, map}
 use Rattle.std.proofs.Common.{filter}
-use Rattle.std.proofs.Common.{length, Option, Some, None, refl, sym, ap, subst, inl, inr, true≢false, Less}
-use Rattle.std.proofs.Common.{Greater, arith}
+use Rattle.std.proofs.Common.{length, Option, Some, None, Ok, Err, refl, sym, ap, subst, inl, inr, true≢false, Less}
+use Rattle.std.proofs.Common.{Greater}
 use Rattle.std.specs.List.{list_any, AllZip, AllByRecursion}
 use Rattle.std.specs.List.Sorted.{IsStrictlySortedBy}
 use Rattle.std.specs.Ordering.{nat_cmp, is_eq, ordering_reverse}
@@ -15,6 +15,7 @@ use Rattle.version_ranges.specs.Point.{Point}
 use Rattle.version_ranges.specs.Held.{holds_at}
 use Rattle.pep440_version.specs.Record.{VersionRecord}
 use Rattle.pep440_version.specs.Order.{version_cmp}
+use Rattle.pep508_diagram.specs.Question.{Valuation}
 use Rattle.pep508_tree.specs.Tree.{Tree}
 use Rattle.pep508_tree.specs.Meaning.{NodeRecord}
 use Rattle.pep508_cases.specs.Cases.{Marks, same_marks, marks_cmp, sets_of, IsRealised, IsCase}
@@ -26,16 +27,23 @@ use Rattle.reqtable_requirements.specs.Asks.{lines_of}
 use Rattle.reqtable_requirements.specs.LineReading.{LineRecord}
 use Rattle.reqtable_requirements.specs.Requirements.{StandsFor}
 use Rattle.reqtable_requirements.specs.declared.requirements.Line.{Line}
-use Rattle.reqtable_cases.specs.Lines.{line_marks, marked, numbers_of, asked_by, is_named}
+use Rattle.reqtable_cases.specs.Lines.{line_marks, marked, numbers_of, asked_by}
 use Rattle.reqtable_cases.specs.Usable.{IsRangeOf}
 use Rattle.reqtable_cases.specs.Conflicts.{IsConflict, told_of, AreConflicts}
-use Rattle.reqtable_table.specs.Cases.{HasItsCases, IsCaseOfLines, AreCasesOf, cases_under}
-use Rattle.reqtable_table.specs.Given.{is_under}
+use Rattle.reqtable_table.specs.declared.table.TableError.{TableError}
+use Rattle.reqtable_table.specs.declared.table.TableError.TheVariants.{TooManyCases, Memory}
+use Rattle.reqtable_table.specs.Cases.{Builds, HasItsCases, IsCaseOfLines, AreCasesOf, cases_under}
 use Rattle.reqtable_table.specs.Kept.{KeptCase, KeptPackage, KeepsAll}
 use Rattle.reqtable_table_laws.proofs.CasesOfLines.{cases_of_lines, none_of_lines}
-use Rattle.reqtable_conflicts.specs.Contradictions.{ConflictRecord, HasNoPoint, StandByName, told_under}
+use Rattle.reqtable_conflicts.specs.Contradictions.{ConflictRecord, FindsConflicts, HasNoPoint, StandByName}
+use Rattle.reqtable_conflicts.specs.Contradictions.{told_under}
 use Rattle.reqtable_conflicts.specs.Picking.{Picks, PicksOf, FoundFor, named}
+use Rattle.reqtable_conflicts.specs.Agreeing.{AreDoubtful}
+use Rattle.reqtable_conflicts.specs.Packages.{said_among}
+use Rattle.reqtable_conflicts.proofs.Agreed.{empty_has_none, no_conflict, few_others}
+use Rattle.reqtable_conflicts.proofs.Among.{among_lines, none_too_many, first_too_many}
 use Rattle.reqtable_conflicts.proofs.Picked.{in_or}
+use Rattle.reqtable_conflicts.proofs.Standing.{unnamed}
 
 -- ---- a case without any point is a conflict
 
@@ -153,44 +161,23 @@ picked_are_conflicts lines nodes cases picked h picks =
       told = k.told;
     }
 
--- lines that there are none of have none
 none_rise : IsStrictlySortedBy marks_cmp []
 unfolding IsStrictlySortedBy
 none_rise = tt
 
-none_conflict : (lines : List LineRecord) (picked : List (List ℕ × Bool)) → lines ≡ [] → picked ≡ [] →
+never_conflict : (lines : List LineRecord) (picked : List (List ℕ × Bool)) →
+    ((v : Valuation) → IsConflict (asked_by (line_marks lines v) lines) → ⊥) → picked ≡ [] →
     AreConflicts lines picked
-none_conflict lines picked empty none =
-    subst (λ l. AreConflicts l picked) (sym empty) (record {
-      sets = [];
-      rising = none_rise;
-      realised = tt;
-      conflicts = tt;
-      all = λ v conflict. absurd (omega (arith, conflict.some));
-      told = none;
-    })
+never_conflict lines picked never none = record {
+  sets = [];
+  rising = none_rise;
+  realised = tt;
+  conflicts = tt;
+  all = λ v conflict. absurd (never v conflict);
+  told = none;
+}
 
 -- ---- by name
-
-unnamed_by : {A : Type 0} (b : Bool) (rest : Bool) (x : A) (ys : List A) → (b || rest) ≡ false →
-    (rest ≡ false → ys ≡ []) → cond b (x ∷ ys) ys ≡ []
-unnamed_by true rest x ys h below = absurd (true≢false h)
-unnamed_by false rest x ys h below = below h
-
-unnamed : {A : Type 0} (p : A → Bool) (xs : List A) → list_any p xs ≡ false → filter p xs ≡ []
-unnamed p [] h = refl
-unnamed p (x ∷ xs) h = unnamed_by (p x) (list_any p xs) x (filter p xs) h (unnamed p xs)
-
--- lines that stand for others are of the same packages
-named_alike : (vars : Variables) (nodes : List NodeRecord) (lines : List Line) (said : List LineRecord)
-    (q : List ℕ) → AllZip (StandsFor vars nodes) lines said → list_any (is_under q) lines ≡ is_named q said
-named_alike vars nodes [] [] q h = refl
-named_alike vars nodes [] (one ∷ said) q h = absurd h
-named_alike vars nodes (line ∷ lines) [] q h = absurd h
-named_alike vars nodes (line ∷ lines) (one ∷ said) q h =
-    let first = ap (bytes_eq q) h.0.name in
-    let rest = named_alike vars nodes lines said q h.1 in
-    λ i. first i || rest i
 
 abbrev pub told_by : ConflictRecord → List ℕ × Bool
 told_by c = (c.numbers, c.prerelease)
@@ -321,41 +308,47 @@ found_stand table (n ∷ names) found rise (picked, rest, picks, is, below) =
 
 -- ---- and are the conflicts of each package
 
-abbrev Unnamed : List LineRecord → List ℕ → Type 0
-Unnamed said q = is_named q said ≡ false
+module _ (nodes : List NodeRecord) (table : List KeptPackage) (said : List LineRecord) (names : List (List ℕ)) where
+  conflicts_by : (q : List ℕ) (picked : List (List ℕ × Bool)) (cases : Option (List KeptCase)) (lines : List LineRecord) →
+      KeepsAll nodes table lines → AllByRecursion (HasItsCases nodes) table → cases_under q table ≡ cases →
+      PicksOf cases picked → AreConflicts (lines_of q lines) picked
+  conflicts_by q picked None lines keeps has is picks =
+      never_conflict (lines_of q lines) picked
+      (λ v. empty_has_none (lines_of q lines) v
+      (unnamed (λ line. is_of q line.front) lines (none_of_lines nodes table lines q keeps is))) picks
+  conflicts_by q picked (Some cases) lines keeps has is picks =
+      picked_are_conflicts (lines_of q lines) nodes cases picked
+      (cases_of_lines nodes table lines q cases keeps has is) picks
 
-conflicts_by : (nodes : List NodeRecord) (table : List KeptPackage) (said : List LineRecord) (q : List ℕ)
-    (picked : List (List ℕ × Bool)) (cases : Option (List KeptCase)) → KeepsAll nodes table said →
-    AllByRecursion (HasItsCases nodes) table → cases_under q table ≡ cases → PicksOf cases picked →
-    AreConflicts (lines_of q said) picked
-conflicts_by nodes table said q picked None keeps has is picks =
-    none_conflict (lines_of q said) picked
-    (unnamed (λ line. is_of q line.front) said (none_of_lines nodes table said q keeps is)) picks
-conflicts_by nodes table said q picked (Some cases) keeps has is picks =
-    picked_are_conflicts (lines_of q said) nodes cases picked
-    (cases_of_lines nodes table said q cases keeps has is) picks
+  conflicts_under : (found : List ConflictRecord) (q : List ℕ) → KeepsAll nodes table (said_among names said) →
+      AllByRecursion (HasItsCases nodes) table →
+      (list_any (bytes_eq q) names ≡ false → (v : Valuation) →
+      IsConflict (asked_by (line_marks (lines_of q said) v) (lines_of q said)) → ⊥) →
+      Under table names found q → AreConflicts (lines_of q said) (told_under q found)
+  conflicts_under found q keeps has others (inl there) =
+      subst (λ lines. AreConflicts lines (told_under q found)) (among_lines names q said there.0)
+      (conflicts_by q (told_under q found) (cases_under q table) (said_among names said) keeps has refl there.1)
+  conflicts_under found q keeps has others (inr none) =
+      never_conflict (lines_of q said) (told_under q found) (others none.0) none.1
 
-conflicts_under : (nodes : List NodeRecord) (table : List KeptPackage) (said : List LineRecord)
-    (names : List (List ℕ)) (found : List ConflictRecord) (q : List ℕ) → KeepsAll nodes table said →
-    AllByRecursion (HasItsCases nodes) table → list_any (bytes_eq q) names ≡ is_named q said →
-    Under table names found q → AreConflicts (lines_of q said) (told_under q found)
-conflicts_under nodes table said names found q keeps has are (inl there) =
-    conflicts_by nodes table said q (told_under q found) (cases_under q table) keeps has refl there.1
-conflicts_under nodes table said names found q keeps has are (inr none) =
-    none_conflict (lines_of q said) (told_under q found)
-    (unnamed (λ line. is_of q line.front) said (sym are ∙ none.0)) none.1
+-- ---- what is found
 
-or_nothing : (b : Bool) → (b || false) ≡ b
-or_nothing true = refl
-or_nothing false = refl
+pub all_found : (vars : Variables) (old nodes : List NodeRecord) (limit : ℕ) (lines : List Line)
+    (said : List LineRecord) (table : List KeptPackage) (names : List (List ℕ)) (found : List ConflictRecord) →
+    AllZip (StandsFor vars old) lines said → AreDoubtful limit lines names →
+    Builds limit nodes (said_among names said) (Ok table) → FoundFor table names found →
+    FindsConflicts (λ conflicts. conflicts) limit said (Ok found)
+all_found vars old nodes limit lines said table names found stand are built h = (
+  none_too_many limit names said (few_others vars old limit lines said names stand are) built.2,
+  found_stand table names found are.rising h,
+  λ q. conflicts_under nodes table said names found q built.0 built.1
+      (no_conflict vars old limit lines said names stand are q) (found_under table names found are.rising h q),
+)
 
-pub all_conflicts : (vars : Variables) (old nodes : List NodeRecord) (lines : List Line) (said : List LineRecord)
-    (table : List KeptPackage) (names : List (List ℕ)) (found : List ConflictRecord) →
-    AllZip (StandsFor vars old) lines said → KeepsAll nodes table said →
-    AllByRecursion (HasItsCases nodes) table → IsStrictlySortedBy (slice_cmp nat_cmp) names →
-    ((q : List ℕ) → list_any (bytes_eq q) names ≡ (list_any (is_under q) lines || false)) →
-    FoundFor table names found → (q : List ℕ) → AreConflicts (lines_of q said) (told_under q found)
-all_conflicts vars old nodes lines said table names found stand keeps has rise are h q =
-    conflicts_under nodes table said names found q keeps has
-    (are q ∙ or_nothing (list_any (is_under q) lines) ∙ named_alike vars old lines said q stand)
-    (found_under table names found rise h q)
+pub refused_too : {X : Type 0} (view : X → List ConflictRecord) (vars : Variables) (old nodes : List NodeRecord)
+    (limit : ℕ) (lines : List Line) (said : List LineRecord) (names : List (List ℕ)) (error : TableError) →
+    AllZip (StandsFor vars old) lines said → AreDoubtful limit lines names →
+    Builds limit nodes (said_among names said) (Err error) → FindsConflicts view limit said (Err error)
+refused_too view vars old nodes limit lines said names (TooManyCases name) stand are first =
+    first_too_many limit names said (few_others vars old limit lines said names stand are) name first
+refused_too view vars old nodes limit lines said names Memory stand are first = tt

@@ -1,5 +1,5 @@
 -- What holds of some lines holds of their copies.
-use Rattle.std.proofs.Common.{◌≡◌, ◌∙◌, suc, List, [], ◌∷◌, length, refl, ap, sym, subst}
+use Rattle.std.proofs.Common.{◌∙◌, List, [], ◌∷◌, sym, subst}
 use Rattle.std.specs.List.{AllZip}
 use Rattle.pep508_url.specs.Vars.{Variables}
 use Rattle.pep508_tree.specs.Meaning.{NodeRecord, IsTree}
@@ -37,9 +37,3 @@ said_copied vars nodes (copy ∷ copies) (line ∷ lines) (one ∷ said) h stand
       },
       said_copied vars nodes copies lines said h.1 stand.1,
     )
-
-pub as_many : (copies lines : List Line) → AllZip IsLineCopy copies lines → length copies ≡ length lines
-as_many [] [] h = refl
-as_many [] (line ∷ lines) h = absurd h
-as_many (copy ∷ copies) [] h = absurd h
-as_many (copy ∷ copies) (line ∷ lines) h = ap suc (as_many copies lines h.1)

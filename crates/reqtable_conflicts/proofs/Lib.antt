@@ -5,3 +5,8 @@ pub mod Conflicting
 pub mod Numbered
 pub mod ReadFrom
 pub mod Taken
+pub mod Standing
+pub mod Few
+pub mod Among
+pub mod Passing
+pub mod Agreed

@@ -1,3 +1,5 @@
 pub mod Contradictions
 pub mod Picking
 pub mod NothingTaken
+pub mod Packages
+pub mod Agreeing

@@ -16,8 +16,8 @@ ghost use Rattle.reqtable_table.specs.Casing.{case_record};
 ghost use Rattle.reqtable_conflicts.specs.Contradictions.{conflict_record, FindsConflicts, HasNoPoint};
 ghost use Rattle.reqtable_conflicts.specs.Picking.{AddsPicked, FoundFor, told, named};
 
-use crate::lent_table::table_of_lent;
-use crate::names::package_names;
+use crate::doubtful::doubtful_packages;
+use crate::packages::packages_table;
 use pep440_version::Version;
 use pep508_name::PackageName;
 use pep508_tree::Interner;
@@ -43,8 +43,12 @@ pub struct Conflict {
 /// of a line with a URL, with `===`, or with `<` or `>` and a post-release is none.
 ///
 /// They stand by the names of their packages, those of a package in the order of `Table::cases`. A package
-/// that has more cases than the limit is refused, the first by name. n lines take a copy of them, what
-/// `Table::build` takes, and O(n log n) comparisons of names.
+/// that has more cases than the limit is refused, the first by name.
+///
+/// n lines take O(n log n) comparisons of names, and the ranges of each package's lines together. A package
+/// whose lines all have some point in common has no conflict, and no case of it is made, where its n lines
+/// can't have more cases than the limit, 2^n <= limit. The lines of all other packages are copied, and take
+/// what `Table::build` does.
 pub fn conflicts(
     alloc: Global,
     requirements: &Requirements,
@@ -59,8 +63,8 @@ pub fn conflicts(
     ensures counts { interner.new.conjunctions
         ≤ interner.old.conjunctions + 2 * (limit * length requirements.now) }
 {
-    let table = table_of_lent(alloc, requirements, interner, limit)?;
-    let names = package_names(alloc, &[requirements.lines()])?;
+    let names = doubtful_packages(alloc, requirements.lines(), limit)?;
+    let table = packages_table(alloc, requirements, &names, interner, limit)?;
     let found = conflicts_in(alloc, &table, &names)?;
     Ok(found)
 }
@@ -132,7 +136,7 @@ fn is_conflict(case: &Case) -> bool
 }
 
 /// Whether no point is in a range, not even one between two versions.
-fn holds_nothing(range: &Ranges<Version>) -> bool
+pub(crate) fn holds_nothing(range: &Ranges<Version>) -> bool
     ensures { IsTrue result ↔ ((p : Point VersionRecord) → holds_at version_cmp range.now p ≡ false) }
 {
     range.is_empty()

@@ -1,22 +1,39 @@
-use Rattle.std.proofs.Common.{◌∙◌, ◌||◌, false, map, ap, subst}
-use Rattle.std.specs.List.{list_any}
-use Rattle.reqtable_table.specs.Given.{is_under}
+use Rattle.std.proofs.Common.{Vec, Global, map, sym, ap, subst}
+use Rattle.std.proofs.lemmas.Result.{err_from_is_err_and}
+use Rattle.reqtable_conflicts.specs.declared.contradicting.Conflict.{Conflict}
 use Rattle.reqtable_conflicts.specs.Contradictions.{conflict_record}
 use Rattle.reqtable_conflicts.specs.Picking.{FoundFor}
-use Rattle.reqtable_conflicts.proofs.Conflicting.{found_stand, all_conflicts}
+use Rattle.reqtable_conflicts.proofs.Agreed.{doubtful_at}
+use Rattle.reqtable_conflicts.proofs.Conflicting.{all_found, refused_too}
+use Rattle.reqtable_conflicts.proofs.Passing.{Rise, texts}
 use Rattle.reqtable_conflicts.proofs.contradicting.conflicts.Goals as goal
+
+pub packages_table-requires-clause-rising : goal.packages_table-requires-clause-rising
+packages_table-requires-clause-rising c =
+    subst (λ names. Rise (texts names)) (sym c.deref.ensures.value) c.in_ok-names.ensures.rising
+
+pub returns-in_err-table-clause-found : goal.returns-in_err-table-clause-found
+returns-in_err-table-clause-found c vars said h =
+    let old = c.args.interner.now.nodes in
+    let names = texts c.deref.result.now in
+    let p = err_from_is_err_and c.from_residual-in_err-table.result c.from_residual-in_err-table.ensures.1 in
+    rw (p.1, p.2)
+    (refused_too (λ (found : Vec Conflict Global). map conflict_record found.items) vars old
+    c.packages_table.new.interner.nodes c.args.limit c.args.requirements.now said names _ h
+    (doubtful_at c.args.limit c.lines.result.now c.args.requirements.now (texts c.in_ok-names.names.items) names
+    c.lines.ensures (ap texts (sym c.deref.ensures.value)) c.in_ok-names.ensures)
+    (c.in_err-table.ensures.built vars said h))
 
 pub returns-clause-found : goal.returns-clause-found
 returns-clause-found c vars said h =
-    let built = c.in_ok-table.ensures.built vars said h in
-    let names = map (λ n. n.now) c.in_ok-names.names.items in
+    let old = c.args.interner.now.nodes in
+    let names = texts c.deref.result.now in
     let found = map conflict_record c.in_ok-found.found.items in
     let are : FoundFor c.in_ok-table.table names found =
-    subst (λ ns. FoundFor c.in_ok-table.table (map (λ n. n.now) ns) found) c.deref.ensures.value
-    c.in_ok-found.ensures in (
-      built.2,
-      found_stand c.in_ok-table.table names found c.in_ok-names.ensures.rise are,
-      all_conflicts vars c.args.interner.now.nodes c.table_of_lent.new.interner.nodes c.args.requirements.now said
-          c.in_ok-table.table names found h built.0 built.1 c.in_ok-names.ensures.rise
-          (λ q. c.in_ok-names.ensures.are q ∙ ap (λ lines. list_any (is_under q) lines || false) c.lines.ensures) are,
-    )
+    subst (λ ns. FoundFor c.in_ok-table.table (texts ns) found) (sym c.deref.ensures.value)
+    (subst (λ ns. FoundFor c.in_ok-table.table (texts ns) found) c.deref-2.ensures.value c.in_ok-found.ensures) in
+    all_found vars old c.packages_table.new.interner.nodes c.args.limit c.args.requirements.now said
+    c.in_ok-table.table names found h
+    (doubtful_at c.args.limit c.lines.result.now c.args.requirements.now (texts c.in_ok-names.names.items) names
+    c.lines.ensures (ap texts (sym c.deref.ensures.value)) c.in_ok-names.ensures)
+    (c.in_ok-table.ensures.built vars said h) are

@@ -1,15 +1,21 @@
 -- So many lines have no more sets than two to their number.
-use Rattle.std.proofs.Common.{◌≡◌, ◌∙◌, ◌≤◌, ◌<◌, ◌+◌, ◌^◌, ℕ, zero, suc, Bool, true, false, List, [], ◌∷◌}
-use Rattle.std.proofs.Common.{length, map}
-use Rattle.std.proofs.Common.{refl, ap, subst, arith, lit≤, Less, Equal}
+use Rattle.std.proofs.Common.{◌≡◌, ◌≤◌, ◌+◌, ◌^◌, ℕ, zero, suc, Bool, true, false, List, [], ◌∷◌}
+use Rattle.std.proofs.Common.{length}
+use Rattle.std.proofs.Common.{refl, ap, subst, arith, lit≤, Less}
 use Rattle.std.proofs.Math.Nat.{pow-le-pow_right}
-use Rattle.std.specs.List.{AllByRecursion}
+use Rattle.std.specs.List.{AllZip, AllByRecursion}
 use Rattle.std.specs.List.Sorted.{IsStrictlySortedBy}
 use Rattle.pep508_diagram.specs.Question.{Valuation}
 use Rattle.pep508_cases.specs.Cases.{Marks, Marking, marks_cmp, IsRealised, HasMore}
-use Rattle.reqtable_requirements.specs.Asks.{applies}
+use Rattle.pep508_tree.specs.Meaning.{NodeRecord}
+use Rattle.pep508_url.specs.Vars.{Variables}
+use Rattle.reqtable_requirements.specs.Asks.{lines_of}
 use Rattle.reqtable_requirements.specs.LineReading.{LineRecord}
-use Rattle.reqtable_cases.specs.Lines.{line_marks}
+use Rattle.reqtable_requirements.specs.Requirements.{StandsFor}
+use Rattle.reqtable_requirements.specs.declared.requirements.Line.{Line}
+use Rattle.reqtable_cases.specs.Lines.{line_marks, HasTooMany}
+use Rattle.reqtable_conflicts.specs.Packages.{lines_under}
+use Rattle.reqtable_conflicts.proofs.Standing.{under, zip_long}
 
 -- what follows this mark in those sets that begin with it
 abbrev behind : Bool → List Marks → List Marks
@@ -90,9 +96,18 @@ marks_long : (v : Valuation) (lines : List LineRecord) → length (line_marks li
 marks_long v [] = refl
 marks_long v (line ∷ lines) = ap suc (marks_long v lines)
 
-pub not_many : (limit : ℕ) (lines : List LineRecord) → 2 ^ length lines ≤ limit →
+not_many : (limit : ℕ) (lines : List LineRecord) → 2 ^ length lines ≤ limit →
     HasMore limit (line_marks lines) → ⊥
 not_many limit lines few more =
     let most = no_more (length lines) more.sets
     (realised_long (line_marks lines) (length lines) more.sets (λ v. marks_long v lines) more.realised) more.rising in
     omega (arith, few, most, more.more)
+
+pub few_cases : (vars : Variables) (nodes : List NodeRecord) (limit : ℕ) (q : List ℕ) (lines : List Line)
+    (said : List LineRecord) → AllZip (StandsFor vars nodes) lines said →
+    2 ^ length (lines_under q lines) ≤ limit → HasTooMany limit said q → ⊥
+few_cases vars nodes limit q lines said stand few too =
+    not_many limit (lines_of q said)
+    (subst (λ n. 2 ^ n ≤ limit)
+    (zip_long (StandsFor vars nodes) (lines_under q lines) (lines_of q said) (under vars nodes q lines said stand)) few)
+    too.more

@@ -1,6 +1,6 @@
 use Rattle.std.proofs.Common.{◌≤◌, rules}
-use Rattle.reqtable_compare.proofs.Few.{fewer}
-use Rattle.reqtable_compare.proofs.settled.has_room.Goals as goal
+use Rattle.reqtable_conflicts.proofs.Few.{fewer}
+use Rattle.reqtable_conflicts.proofs.packages.has_room.Goals as goal
 
 pub returns : goal.returns
 returns c = λ t.

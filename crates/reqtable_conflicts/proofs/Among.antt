@@ -1,14 +1,13 @@
 -- What is said of some packages is what the list says of them.
-use Rattle.std.proofs.Common.{◌≡◌, ◌∙◌, ◌||◌, ℕ, Bool, true, false, cond, List, [], ◌∷◌, filter, Option, Some}
-use Rattle.std.proofs.Common.{None, inl, inr}
+use Rattle.std.proofs.Common.{◌≡◌, ◌∙◌, ◌≤◌, ◌||◌, ℕ, suc, Bool, true, false, cond, List, [], ◌∷◌, filter}
+use Rattle.std.proofs.Common.{length, arith, inl, inr}
 use Rattle.std.proofs.Common.{refl, sym, ap, subst, true≢false}
 use Rattle.std.proofs.lemmas.Bool.{cases_Bool}
-use Rattle.std.specs.List.{list_any, AllZip, AllByRecursion}
+use Rattle.std.specs.List.{list_any, AllZip}
 use Rattle.std.specs.Str.{bytes_eq}
 use Rattle.pep508_url.specs.Vars.{Variables}
 use Rattle.pep508_cases.specs.Cases.{HasMore}
 use Rattle.pep508_tree.specs.Meaning.{NodeRecord, IsTree}
-use Rattle.reqtable_answer.specs.Asks.{is_of}
 use Rattle.reqtable_answer.proofs.Tests.{same_bytes}
 use Rattle.reqtable_requirements.specs.Asks.{lines_of, AreOfNodes}
 use Rattle.reqtable_requirements.specs.Copies.{lines_among}
@@ -16,9 +15,8 @@ use Rattle.reqtable_requirements.specs.LineReading.{LineRecord}
 use Rattle.reqtable_requirements.specs.Requirements.{StandsFor}
 use Rattle.reqtable_requirements.specs.declared.requirements.Line.{Line}
 use Rattle.reqtable_cases.specs.Lines.{is_named, line_marks, HasTooMany, IsFirstTooMany}
-use Rattle.reqtable_compare.specs.Compared.{NoneTooMany}
-use Rattle.reqtable_compare.specs.Settled.{said_among}
-use Rattle.reqtable_compare.proofs.Meant.{zip_filtered}
+use Rattle.reqtable_conflicts.specs.Packages.{said_among}
+use Rattle.reqtable_conflicts.proofs.Standing.{zip_filtered}
 
 -- ---- lines of some packages stand for what is said of them
 
@@ -41,6 +39,14 @@ trees_among nodes names [] all = tt
 trees_among nodes names (line ∷ lines) all =
     trees_by nodes (list_any (bytes_eq line.requirement.name) names) line (lines_among names lines) all.0
     (trees_among nodes names lines all.1)
+
+fewer_by : {A : Type 0} (b : Bool) (x : A) (xs : List A) (n : ℕ) → length xs ≤ n → length (cond b (x ∷ xs) xs) ≤ suc n
+fewer_by true x xs n h = omega (arith, h)
+fewer_by false x xs n h = omega (arith, h)
+
+pub fewer_kept : {A : Type 0} (p : A → Bool) (xs : List A) → length (filter p xs) ≤ length xs
+fewer_kept p [] = omega arith
+fewer_kept p (x ∷ xs) = fewer_by (p x) x (filter p xs) (length xs) (fewer_kept p xs)
 
 -- ---- a package that is among them
 
@@ -119,7 +125,8 @@ module _ (limit : ℕ) (names : List (List ℕ)) (said : List LineRecord)
     | inr not ↦ few q not h
   ]
 
-  pub none_too_many : NoneTooMany limit (said_among names said) → NoneTooMany limit said
+  pub none_too_many : ((q : List ℕ) → HasTooMany limit (said_among names said) q → ⊥) → (q : List ℕ) →
+      HasTooMany limit said q → ⊥
   none_too_many none q = none_of q (none q)
 
   pub first_too_many : (name : List ℕ) → IsFirstTooMany limit (said_among names said) name → IsFirstTooMany limit said name

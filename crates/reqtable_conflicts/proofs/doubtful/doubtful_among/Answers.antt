@@ -1,0 +1,38 @@
+use Rattle.std.proofs.Common.{◌≡◌, ◌∙◌, ◌++◌, ◌+◌, ℕ, false, List, drop, ap, sym, subst}
+use Rattle.std.specs.List.{list_any}
+use Rattle.std.specs.Str.{bytes_eq}
+use Rattle.reqtable_conflicts.specs.Agreeing.{Agree}
+use Rattle.reqtable_conflicts.specs.Packages.{lines_at}
+use Rattle.reqtable_conflicts.proofs.Passing.{texts, Rise, rise_kept, rise_passed, kept, passed}
+use Rattle.reqtable_conflicts.proofs.doubtful.doubtful_among.Goals as goal
+use Rattle.reqtable_conflicts.proofs.doubtful.doubtful_among.Goals.{then-not-agree+in_ok-push}
+use Rattle.reqtable_conflicts.proofs.doubtful.doubtful_among.Goals.{else-not-agree}
+
+pub loop-name-preserved : goal.loop-name-preserved
+loop-name-preserved c =
+    let names = c.args.names.now in
+    let i = c.loop-name.name-index in
+    let name = c.name-item.result in
+    let before = c.loop-name.doubtful.items in
+    let P : List ℕ → Type 0 = λ q. Agree c.args.limit (lines_at c.args.groups.now q) in
+    elim c.if-not-agree.branch [
+      | then-not-agree+in_ok-push w ↦
+          let items = sym (ap (λ taken. taken.items) w.doubtful-is ∙ w.in_ok-push.ensures.items) in
+          record {
+            rising = subst (λ taken. Rise (texts taken ++ texts (drop (i + 1) names))) items
+                (rise_kept names i name c.loop-name-test.true c.name-item.is before c.loop-name.invariant.rising);
+            others = λ q there.
+                subst (λ taken. list_any (bytes_eq q) (texts taken) ≡ false → P q) items
+                (kept names i name c.loop-name-test.true c.name-item.is P before c.loop-name.invariant.others q there);
+          }
+      | else-not-agree w ↦
+          let items = sym (ap (λ taken. taken.items) w.doubtful-is) in
+          record {
+            rising = subst (λ taken. Rise (texts taken ++ texts (drop (i + 1) names))) items
+                (rise_passed names i name c.loop-name-test.true c.name-item.is before c.loop-name.invariant.rising);
+            others = λ q there.
+                subst (λ taken. list_any (bytes_eq q) (texts taken) ≡ false → P q) items
+                (passed names i name c.loop-name-test.true c.name-item.is P before c.loop-name.invariant.others
+                (c.in_ok-agree.ensures w.if-not-agree.false) q there);
+          }
+    ]

@@ -1,0 +1,14 @@
+use Rattle.std.proofs.Common.{◌≡◌, ◌++◌, ℕ, true, false, List, take, drop}
+use Rattle.std.specs.List.{list_any}
+use Rattle.std.specs.Str.{bytes_eq}
+use Rattle.reqtable_conflicts.specs.Agreeing.{Agree}
+use Rattle.reqtable_conflicts.specs.Packages.{lines_at}
+use Rattle.reqtable_conflicts.proofs.Passing.{texts, Rise}
+use Rattle.reqtable_conflicts.proofs.doubtful.doubtful_among.Given as goal
+
+abbrev pub invariant-loop-name : goal.invariant-loop-name
+invariant-loop-name l = record {
+  rising : Rise (texts l.doubtful.items ++ texts (drop l.name-index l.names));
+  others : (q : List ℕ) → list_any (bytes_eq q) (texts (take l.name-index l.names)) ≡ true →
+      list_any (bytes_eq q) (texts l.doubtful.items) ≡ false → Agree l.fn.limit (lines_at l.groups q);
+}

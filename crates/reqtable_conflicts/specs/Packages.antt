@@ -1,0 +1,28 @@
+-- The lines of some packages.
+use Rattle.std.specs.Prelude.{ℕ, List, [], map, filter, Vec}
+use Rattle.std.specs.Borrow.{Bor}
+use Rattle.std.specs.BTreeMap.{BTreeMap}
+use Rattle.std.specs.List.{list_any}
+use Rattle.std.specs.Option.{option_map_or}
+use Rattle.std.specs.Str.{bytes_eq}
+use Rattle.reqtable_answer.specs.Groups.{group_of}
+use Rattle.reqtable_requirements.specs.LineReading.{LineRecord}
+use Rattle.reqtable_requirements.specs.declared.requirements.Line.{Line}
+use Rattle.reqtable_table.specs.Given.{is_under}
+
+-- the lines of a package
+abbrev pub lines_under : List ℕ → List Line → List Line
+lines_under name lines = filter (is_under name) lines
+
+-- what is said of the packages of these names
+abbrev pub said_among : List (List ℕ) → List LineRecord → List LineRecord
+said_among names said = filter (λ line. list_any (bytes_eq line.front.name) names) said
+
+-- ---- as the code has them
+
+abbrev pub lent : List (Bor Line) → List Line
+lent lines = map (λ line. line.now) lines
+
+-- lines by the names of their packages
+abbrev pub lines_at : {Y : Type 0} → BTreeMap (Bor (List ℕ)) (Vec (Bor Line) Y) → List ℕ → List Line
+lines_at groups name = option_map_or (λ lines. lent lines.items) (group_of groups name) []
