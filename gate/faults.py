@@ -77,7 +77,9 @@ FAULTS = [
           "crates/pep508_rs/src/lib.rt", "{Interner, MarkerTree}", "{Interner, MarkerTree, uncounted_conjunction}"),
     Fault("a matrix that keeps a copy of its requirements", None, ["gate/lent.py"],
           "crates/reqs/src/matrices.rt", "let mut table = table_of(alloc, requirements, interner, limit)?;",
-          "let copy = copied_requirements(alloc, &requirements)?; let mut table = table_of(alloc, copy, interner, limit)?;"),
+          "let copy = copied_packages(alloc, &requirements, &[])?; let mut table = table_of(alloc, copy, interner, limit)?;"),
+    Fault("a table that keeps its lines twice", None, ["gate/lent.py"], "crates/reqtable_table/src/table.rt",
+          "pub(crate) lines: Vec<TableLine>,", "pub(crate) lines: Vec<TableLine>, pub(crate) given: Vec<Given>,"),
     Fault("no edits", None, [*WRONG, "--texts"], "tests/wrong/gate.txt", "", ""),
 ]
 

@@ -2,7 +2,8 @@
 
 use crate::lists::{answer_of, lists_of};
 use reqtable_answer::{Answer, Row};
-use reqtable_requirements::{Line, Requirements, copied_requirements};
+use reqtable_conflicts::package_names;
+use reqtable_requirements::{Line, Requirements, copied_packages};
 use reqtable_text::{Candidate, Candidates};
 use std::alloc::{AllocError, Global};
 use std::test::Fail;
@@ -35,7 +36,9 @@ fn are_lists_copied(
             return Ok(false);
         }
     }
-    Ok(copied_requirements(alloc, read)? == *read && candidates.try_clone(alloc)? == *candidates)
+    let names = package_names(alloc, &[read.lines()])?;
+    let copy = copied_packages(alloc, read, &names)?;
+    Ok(copy == *read && candidates.try_clone(alloc)? == *candidates)
 }
 
 /// Whether an answer equals its copy, and each row its own.

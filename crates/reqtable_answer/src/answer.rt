@@ -31,7 +31,7 @@ pub struct Row {
 }
 
 impl Row {
-    /// A copy, in memory of its own.
+    /// A copy, in memory of its own. Linear in the extras.
     pub fn try_clone(&self, alloc: Global) -> Result<Row, AllocError>
         ensures { IfOk result (λ copy. row_seen copy ≡ row_seen self.now) }
     {
@@ -60,7 +60,7 @@ pub struct Answer {
 }
 
 impl Answer {
-    /// A copy, in memory of its own.
+    /// A copy, in memory of its own. Linear in the rows and their extras.
     pub fn try_clone(&self, alloc: Global) -> Result<Answer, AllocError>
         ensures { IfOk result (λ copy.
             map row_seen copy.rows.items ≡ map row_seen self.now.rows.items) }

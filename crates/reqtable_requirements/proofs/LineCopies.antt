@@ -1,8 +1,6 @@
--- One copy of a line after another, and what holds of the lines of a text holds of their copies.
-use Rattle.std.proofs.Common.{◌≡◌, ◌∙◌, ℕ, ◌<◌, ◌+◌, List, [], ◌∷◌, ◌++◌, All, Option, length, map, get_or}
-use Rattle.std.proofs.Common.{take, refl, ap, sym, subst}
-use Rattle.std.proofs.lemmas.List.{take_more}
-use Rattle.std.proofs.lemmas.List.Elements.{AllZip-push, All-from_recursion, recursion_from_All}
+-- Copies of the lines of a text are lines of one.
+use Rattle.std.proofs.Common.{◌≡◌, List, [], ◌∷◌, All, Option, map, refl, sym, subst}
+use Rattle.std.proofs.lemmas.List.Elements.{All-from_recursion, recursion_from_All}
 use Rattle.std.specs.List.{AllByRecursion, AllZip}
 use Rattle.std.specs.List.Sorted.{IsStrictlySortedBy}
 use Rattle.std.specs.Ordering.{nat_cmp}
@@ -14,15 +12,6 @@ use Rattle.reqtable_requirements.specs.Copies.{IsLineCopy}
 use Rattle.reqtable_requirements.specs.LineSpecifiers.{specifiers_by, specifiers_in}
 use Rattle.reqtable_requirements.specs.ReadLines.{AreRead}
 use Rattle.reqtable_requirements.specs.declared.requirements.Line.{Line}
-
-pub copied_more : (lines copies : List Line) (i : ℕ) (line copy : Line) → i < length lines → line ≡ get_or lines i line
-    → AllZip IsLineCopy copies (take i lines) → IsLineCopy copy line
-    → AllZip IsLineCopy (copies ++ copy ∷ []) (take (i + 1) lines)
-copied_more lines copies i line copy lt is h one =
-    subst (AllZip IsLineCopy (copies ++ copy ∷ [])) (ap (λ z. take i lines ++ z ∷ []) is ∙ sym (take_more lines i line lt))
-    (AllZip-push IsLineCopy copies (take i lines) copy line h one)
-
--- ---- copies of the lines of a text are lines of one
 
 numbers_copied : (copies lines : List Line) → AllZip IsLineCopy copies lines
     → map (λ line. line.number) copies ≡ map (λ line. line.number) lines

@@ -1,6 +1,6 @@
 -- Why a line is refused, by the grammar, and which line of a text.
 use Rattle.std.proofs.Common.{◌≡◌, ◌∙◌, ◌↔◌, ◌⊎◌, inl, inr, ℕ, ◌==◌, Bool, true, false, if◌then◌else◌, List}
-use Rattle.std.proofs.Common.{[], ◌∷◌, ◌++◌, Result, Ok, Err, refl, ap, sym, subst}
+use Rattle.std.proofs.Common.{[], ◌∷◌, ◌++◌, Result, Ok, Err, refl, ap, sym}
 use Rattle.std.specs.Str.{IsUtf8, skip_leading_whitespace}
 use Rattle.pep440_specifier.specs.SpecifierText.{AreSpaces}
 use Rattle.pep508_url.specs.Vars.{Variables}
@@ -19,7 +19,7 @@ use Rattle.reqtable_text.specs.TextLines.{text_lines}
 use Rattle.reqtable_text.proofs.Lines.{FirstFault, fault_found, fault_again, all_zip_map}
 use Rattle.reqtable_text.proofs.Texts.{text_is_read, text_found}
 use Rattle.reqtable_requirements.specs.LineReading.{LineRecord, LinesFault, NotText, NoRequirement}
-use Rattle.reqtable_requirements.specs.LineReading.{NumberAtEnd, url_of, with_marker, with_rest, with_url}
+use Rattle.reqtable_requirements.specs.LineReading.{NumberAtEnd, url_of, with_marker, with_url}
 use Rattle.reqtable_requirements.specs.LineReading.{with_source, with_front, line_of}
 use Rattle.reqtable_requirements.specs.LineText.{HasItsUrl, IsRequirementLine, IsNumberedLine}
 use Rattle.reqtable_requirements.specs.FirstRefused.{HasNumberAtEnd, IsNoRequirement, IsFirstRefused}

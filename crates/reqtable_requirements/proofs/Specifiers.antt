@@ -7,7 +7,6 @@ use Rattle.pep440_specifier.specs.Matching.{SpecifierRecord}
 use Rattle.pep440_specifier.specs.SpecifierReading.{specifier_of}
 use Rattle.pep440_specifier.specs.SpecifierText.{IsSpecifierText}
 use Rattle.pep440_specifier_list.specs.ListReading.{IsReadFromText}
-use Rattle.pep440_specifier_list.specs.ListText.{AreSpecifierTexts}
 use Rattle.pep440_specifier_list.proofs.Members.{all_in_order}
 use Rattle.pep508_url.specs.Vars.{Variables}
 use Rattle.pep508_url.specs.UrlTexts.{Verbatim}

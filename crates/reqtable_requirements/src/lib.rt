@@ -5,6 +5,4 @@ mod judgement;
 pub mod laws;
 mod requirements;
 
-pub use requirements::{
-    Line, Requirements, RequirementsError, copied_packages, copied_requirements,
-};
+pub use requirements::{Line, Requirements, RequirementsError, copied_packages};

@@ -182,33 +182,12 @@ impl Requirements {
     }
 }
 
-/// A copy, in memory of its own.
+/// A copy of the lines of some packages, in memory of its own. The names rise; n lines take O(n log m)
+/// comparisons with m names.
 ///
 /// Who makes a table of requirements gives them away, so its answers come from the table. A copy would be
-/// judged beside it: only those crates call this that are lent requirements and need a table of them
+/// judged beside it: only those crates call this that are lent requirements and need a table of some
 /// (`gate/lent.py`).
-pub fn copied_requirements(
-    alloc: Global,
-    requirements: &Requirements,
-) -> Result<Requirements, AllocError>
-    ensures { IfOk result (λ copy. AllZip IsLineCopy copy requirements.now) }
-{
-    let lines = copies(alloc, &requirements.lines)?;
-    Ok(Requirements { lines })
-}
-
-fn copies(alloc: Global, lines: &[Line]) -> Result<Vec<Line>, AllocError>
-    ensures { IfOk result (λ copies. AllZip IsLineCopy copies.items lines.now) }
-{
-    let mut copies = Vec::with_capacity(alloc, lines.len())?;
-    for line in lines {
-        copies.push(line.try_clone(alloc)?)?;
-    }
-    Ok(copies)
-}
-
-/// A copy of the lines of some packages, in memory of its own, as `copied_requirements` makes one of all. The
-/// names rise; n lines take O(n log m) comparisons with m names.
 pub fn copied_packages(
     alloc: Global,
     requirements: &Requirements,

@@ -5,8 +5,6 @@ mod answering;
 mod asked;
 mod casing;
 mod choosing;
-#[cfg(test)]
-mod fields;
 mod kept;
 mod row;
 mod runs;
