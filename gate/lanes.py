@@ -11,7 +11,8 @@ from concurrent.futures import FIRST_COMPLETED, ThreadPoolExecutor, wait
 GAIN = {1: 1.0, 2: 1.6, 3: 1.9, 4: 2.1}
 # What a job more takes of the memory that a check with one takes.
 MORE_MEMORY = 0.6
-# A chain that matters may have more jobs than there are idle processors, as no check keeps all of its jobs busy.
+# A chain that matters may have more jobs than there are idle processors, as no check keeps all of its jobs busy; and it
+# doesn't wait for shorter ones to end.
 BESIDE = 2
 
 
@@ -43,14 +44,15 @@ class Lanes:
     def jobs(self, key, held):
         """By how many jobs a task is run beside what waits for this much memory, or 0 where it has to wait."""
         idle = self.lanes - sum(jobs for _, jobs in self.running.values())
-        if idle <= 0:
-            return 0
         if self.fixed:
-            return 1
+            return 1 if idle > 0 else 0
         task, work = self.tasks[key], sum(self.tasks[it].seconds for it in self.left)
         share = max(work / self.lanes, 1)
+        free = idle + BESIDE if task.chain > share else idle
+        if free <= 0:
+            return 0
         wanted = next((it for it in GAIN if task.chain / GAIN[it] <= share), max(GAIN))
-        most = max(1, min(wanted, task.most_jobs, idle + BESIDE if task.chain > share else idle))
+        most = min(wanted, task.most_jobs, free)
         room = self.memory - held - sum(self.tasks[it].takes(jobs) for it, jobs in self.running.values())
         fits = [it for it in range(1, most + 1) if task.takes(it) <= room]
         return max(fits) if fits else 0 if self.running else 1
@@ -68,7 +70,7 @@ class Lanes:
 
     def run(self):
         """Runs all, and returns what each gave."""
-        with ThreadPoolExecutor(self.lanes) as pool:
+        with ThreadPoolExecutor(self.lanes + BESIDE) as pool:
             while self.left or self.running:
                 self.start(pool)
                 for it in wait(self.running, return_when=FIRST_COMPLETED).done:
