@@ -1,10 +1,10 @@
+#![tactic(auto)]
 //! The answer to what is asked of packages: for each package the greatest candidate that may be taken.
 //!
 //! ```text
 //! let answer = answer_to(alloc, &asks, &candidates, &Admission::new(|_, _| true))?;
 //! let text = answer.text(alloc, &candidates)?;
 //! ```
-#![tactic(auto)]
 
 pub mod admission;
 pub mod answer;
