@@ -1,5 +1,5 @@
 -- Packages of which two lists have equal lines.
-use Rattle.std.specs.Prelude.{◌≡◌, ◌⊎◌, ◌≤◌, ◌^◌, ◌||◌, ℕ, true, false, List, [], ◌∷◌, length}
+use Rattle.std.specs.Prelude.{◌≡◌, ◌⊎◌, ◌||◌, ℕ, true, false, List, [], ◌∷◌, length}
 use Rattle.std.specs.List.{list_any, AllByRecursion}
 use Rattle.std.specs.List.Sorted.{IsStrictlySortedBy}
 use Rattle.std.specs.Ordering.{nat_cmp}
@@ -7,7 +7,7 @@ use Rattle.std.specs.Cmp.Lexicographic.{slice_cmp}
 use Rattle.std.specs.Str.{bytes_eq}
 use Rattle.reqtable_requirements.specs.declared.requirements.Line.{Line}
 use Rattle.reqtable_table.specs.Given.{is_under}
-use Rattle.reqtable_conflicts.specs.Packages.{lines_under}
+use Rattle.reqtable_conflicts.specs.Packages.{HasRoom, lines_under}
 
 -- two lines of a package say the same, their numbers apart
 pub record SayTheSame (a b : Line) : Type 0 where
@@ -27,8 +27,8 @@ AreSaidIn others lines = AllByRecursion (IsSaidIn others) lines
 pub record AreSettled (limit : ℕ) (lines others : List Line) : Type 0 where
   pub ours : AreSaidIn others lines
   pub theirs : AreSaidIn lines others
-  pub few : 2 ^ length lines ≤ limit
-  pub few_others : 2 ^ length others ≤ limit
+  pub few : HasRoom limit (length lines)
+  pub few_others : HasRoom limit (length others)
 
 -- names, each once and rising: every other package that one of two lists names is settled
 pub record AreOpen (limit : ℕ) (left right : List Line) (names : List (List ℕ)) : Type 0 where

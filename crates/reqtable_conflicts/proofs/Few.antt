@@ -1,5 +1,5 @@
 -- So many lines have no more sets than two to their number.
-use Rattle.std.proofs.Common.{◌≡◌, ◌≤◌, ◌+◌, ◌^◌, ℕ, zero, suc, Bool, true, false, List, [], ◌∷◌}
+use Rattle.std.proofs.Common.{◌≡◌, ◌≤◌, ◌<◌, ◌+◌, ◌*◌, ◌^◌, ℕ, zero, suc, Bool, true, false, List, [], ◌∷◌}
 use Rattle.std.proofs.Common.{length}
 use Rattle.std.proofs.Common.{refl, ap, subst, arith, lit≤, Less}
 use Rattle.std.proofs.Math.Nat.{pow-le-pow_right}
@@ -85,6 +85,10 @@ no_more (suc n) sets all rise =
 pub fewer : (count most limit : ℕ) → count ≤ most → 2 ^ most ≤ limit → 2 ^ count ≤ limit
 fewer count most limit less room =
     let power : 2 ^ count ≤ 2 ^ most = pow-le-pow_right (lit≤ tt) less in omega (arith, power, room)
+
+pub too_many : (count most limit : ℕ) → most < count → limit < 2 * 2 ^ most → 2 ^ count ≤ limit → ⊥
+too_many count most limit less room few =
+    let power : 2 ^ suc most ≤ 2 ^ count = pow-le-pow_right (lit≤ tt) less in omega (arith, power, room, few)
 
 realised_long : (marking : Marking) (n : ℕ) (sets : List Marks) → ((v : Valuation) → length (marking v) ≡ n) →
     AllByRecursion (IsRealised marking) sets → AreLong n sets

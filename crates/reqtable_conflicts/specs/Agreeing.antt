@@ -1,5 +1,5 @@
 -- Packages whose lines can't contradict each other.
-use Rattle.std.specs.Prelude.{◌≡◌, ◌≤◌, ◌^◌, ℕ, true, false, List, length, map, flat_map}
+use Rattle.std.specs.Prelude.{◌≡◌, ℕ, true, false, List, length, map, flat_map}
 use Rattle.std.specs.List.{list_any}
 use Rattle.std.specs.List.Sorted.{IsStrictlySortedBy}
 use Rattle.std.specs.Ordering.{nat_cmp}
@@ -11,7 +11,7 @@ use Rattle.pep440_range.specs.Ranges.{range_of, all_hold}
 use Rattle.reqtable_requirements.specs.LineSpecifiers.{specifiers_in}
 use Rattle.reqtable_requirements.specs.declared.requirements.Line.{Line}
 use Rattle.reqtable_table.specs.Given.{is_under}
-use Rattle.reqtable_conflicts.specs.Packages.{lines_under}
+use Rattle.reqtable_conflicts.specs.Packages.{HasRoom, lines_under}
 
 -- some point is in the ranges of all that these lines ask for
 abbrev pub Meet : List Line → Type 0
@@ -20,7 +20,7 @@ Meet lines =
 
 -- lines that agree, so few that all sets of them are within the limit
 pub record Agree (limit : ℕ) (lines : List Line) : Type 0 where
-  pub few : 2 ^ length lines ≤ limit
+  pub few : HasRoom limit (length lines)
   pub meet : Meet lines
 
 -- names, each once and rising: the lines of every other package agree

@@ -1,5 +1,5 @@
 -- The lines of some packages.
-use Rattle.std.specs.Prelude.{ℕ, List, [], map, filter, Vec}
+use Rattle.std.specs.Prelude.{ℕ, ◌≤◌, ◌^◌, List, [], map, filter, Vec}
 use Rattle.std.specs.Borrow.{Bor}
 use Rattle.std.specs.BTreeMap.{BTreeMap}
 use Rattle.std.specs.List.{list_any}
@@ -13,6 +13,10 @@ use Rattle.reqtable_table.specs.Given.{is_under}
 -- the lines of a package
 abbrev pub lines_under : List ℕ → List Line → List Line
 lines_under name lines = filter (is_under name) lines
+
+-- all sets of so many lines are within the limit
+abbrev pub HasRoom : ℕ → ℕ → Type 0
+HasRoom limit count = 2 ^ count ≤ limit
 
 -- what is said of the packages of these names
 abbrev pub said_among : List (List ℕ) → List LineRecord → List LineRecord

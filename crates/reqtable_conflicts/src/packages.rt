@@ -1,7 +1,7 @@
 //! The lines of packages, and tables of some of them.
 
-ghost use Rattle.std.specs.Prelude.{◌≡◌, ◌≤◌, ◌+◌, ◌*◌, ◌^◌, ◌++◌, ◌∷◌, ℕ, List, [], length, map};
-ghost use Rattle.std.specs.Prelude.{IfOk, OnOk, IsTrue};
+ghost use Rattle.std.specs.Prelude.{◌≡◌, ◌≤◌, ◌+◌, ◌*◌, ◌++◌, ◌∷◌, ℕ, List, [], length, map};
+ghost use Rattle.std.specs.Prelude.{IfOk, OnOk, IsTrue, ◌↔◌};
 ghost use Rattle.std.specs.List.{AllZip, AllByRecursion};
 ghost use Rattle.std.specs.List.Sorted.{IsStrictlySortedBy};
 ghost use Rattle.std.specs.Ordering.{nat_cmp};
@@ -12,7 +12,7 @@ ghost use Rattle.reqtable_requirements.specs.Asks.{AreOfNodes};
 ghost use Rattle.reqtable_requirements.specs.LineReading.{LineRecord};
 ghost use Rattle.reqtable_requirements.specs.Requirements.{StandsFor};
 ghost use Rattle.reqtable_table.specs.Cases.{Builds, HasItsCases};
-ghost use Rattle.reqtable_conflicts.specs.Packages.{lines_at, lines_under, said_among};
+ghost use Rattle.reqtable_conflicts.specs.Packages.{HasRoom, lines_at, lines_under, said_among};
 
 use pep508_name::PackageName;
 use pep508_tree::Interner;
@@ -49,21 +49,19 @@ fn add<'a>(alloc: Global, groups: &mut Groups<'a>, line: &'a Line) -> Result<(),
 }
 
 /// Whether all sets of so many lines are within the limit.
-#[tactic(auto, using(crate::proofs::Few::fewer))]
+#[tactic(auto, using(crate::proofs::Few::fewer, crate::proofs::Few::too_many))]
 pub fn has_room(limit: u64, count: usize) -> bool
-    ensures { IsTrue result → 2 ^ count ≤ limit }
+    ensures { IsTrue result ↔ HasRoom limit count }
 {
-    let Some(most) = limit.checked_ilog2() else {
-        return false;
-    };
-    if count > most as usize {
-        return false;
+    match limit.checked_ilog2() {
+        Some(most) => count <= most as usize,
+        None => false,
     }
-    true
 }
 
-/// The table of some packages of requirements that stay the caller's: `Table::build` of a copy of their
-/// lines, which costs a twentieth of what reading these does. The names rise.
+/// The table of some packages of requirements that stay the caller's, by `Table::build` of a copy of their
+/// lines. The copy costs a twentieth of what reading these lines does, the table what `Table::build` does.
+/// The names rise.
 pub fn packages_table(
     alloc: Global,
     requirements: &Requirements,
