@@ -7,4 +7,6 @@ mod key;
 pub mod laws;
 mod number;
 
+pub use components::push_text;
 pub use key::version_key;
+pub use number::push_number;
