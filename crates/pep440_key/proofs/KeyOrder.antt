@@ -22,7 +22,7 @@ numbers_after n ns x = simp append_assoc
 none_below : (m : ℕ) (b x y : List ℕ) → bytes_cmp (0 ∷ x) (component_bytes (m ∷ b) ++ y) ≡ Less
 none_below m b x y = ap (bytes_cmp (0 ∷ x)) (numbers_after m b y) ∙ end_below m x (component_bytes b ++ y)
 
-component_ordered : (a b x y : List ℕ)
+pub component_ordered : (a b x y : List ℕ)
     → bytes_cmp (component_bytes a ++ x) (component_bytes b ++ y)
     ≡ ordering_then (slice_cmp nat_cmp a b) (bytes_cmp x y)
 component_ordered [] [] x y = refl
