@@ -1,0 +1,4 @@
+pub mod Apart
+pub mod Alike
+pub mod Same
+pub mod OneKey
