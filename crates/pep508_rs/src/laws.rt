@@ -4,6 +4,7 @@ pub use pep508_comparison::laws as comparisons;
 pub use pep508_diagram::laws as diagrams;
 pub use pep508_evaluation::laws as evaluations;
 pub use pep508_marker::laws as reporters;
+pub use pep508_marker_key::laws as marker_keys;
 pub use pep508_marker_read::laws as markers_read;
 pub use pep508_marker_text::laws as marker_texts;
 pub use pep508_name::laws as names;

@@ -33,6 +33,7 @@ pub use pep508_marker::{
 pub use pep508_marker_comparison::{parse_expression, parse_expression_reporter};
 pub use pep508_marker_contents::{MarkerTreeContents, MarkerTreeWithContents, ser};
 pub use pep508_marker_dnf::MarkerTreeText;
+pub use pep508_marker_key::MarkerTreeKey;
 pub use pep508_marker_read::MarkerTreeReading;
 pub use pep508_name::{ExtraName, InvalidNameError, PackageName, RequirementOrigin};
 pub use pep508_questions::{Asked, MarkerTreeQuestions};
