@@ -4,7 +4,7 @@ use crate::asked::asked as asked_of;
 use crate::environment::environment;
 use crate::evaluations::{anywhere, evaluated};
 use crate::kept::{Call, keeps};
-use crate::pairs::pair;
+use crate::pairs::{one_key, pair};
 use crate::question::{extras_from, text_at};
 use crate::reading::{expression, marker, unwarned, unwarned_expression};
 use crate::simplified::{present, within};
@@ -86,6 +86,7 @@ fn on_two(alloc: Global, answer: &mut String, interner: &mut Interner, question:
     );
     match asked {
         "same" | "disjoint" | "negation" => pair(alloc, answer, interner, asked, text, other),
+        "one key" => one_key(alloc, answer, interner, text, other),
         "unwarned" => unwarned(alloc, answer, interner, text, other),
         "text after" => text_after(alloc, answer, interner, text, other),
         "order" => shown::order(alloc, answer, interner, text, other),

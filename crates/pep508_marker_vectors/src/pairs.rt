@@ -1,8 +1,9 @@
 //! What is asked of two markers.
 
 use crate::reading::read;
-use crate::stop::{Told, truth};
+use crate::stop::{Stop, Told, truth};
 use pep508_disjointness::MarkerTreeDisjointness;
+use pep508_marker_key::MarkerTreeKey;
 use pep508_tree::{Interner, MarkerTree};
 use pep508_tree_laws::earlier_trees_keep;
 use std::alloc::Global;
@@ -25,4 +26,29 @@ pub fn pair(
         _ => left.is_disjoint(alloc, interner, right)?,
     };
     truth(answer, holds)
+}
+
+/// Whether two markers, each read by an interner of its own, have one key.
+pub fn one_key(
+    alloc: Global,
+    answer: &mut String,
+    interner: &mut Interner,
+    left: &str,
+    right: &str,
+) -> Told {
+    let key = key_of(alloc, answer, interner, left)?;
+    let mut others = Interner::new(alloc);
+    let other_key = key_of(alloc, answer, &mut others, right)?;
+    truth(answer, key.as_slice() == other_key.as_slice())
+}
+
+/// The key of a marker.
+fn key_of(
+    alloc: Global,
+    answer: &mut String,
+    interner: &mut Interner,
+    text: &str,
+) -> Result<Vec<u8>, Stop> {
+    let tree = read(alloc, answer, interner, text)?;
+    Ok(tree.key(alloc, interner)?)
 }
