@@ -2,3 +2,9 @@ pub mod Apart
 pub mod Alike
 pub mod Same
 pub mod OneKey
+pub mod Numbered
+pub mod Items
+pub mod Rooted
+pub mod Sides
+pub mod Entering
+pub mod Walking

@@ -2,4 +2,10 @@
 //! trees hold under the same valuations, of whatever interners they are.
 #![tactic(auto)]
 
+mod key;
 pub mod laws;
+mod numbers;
+mod question;
+mod walk;
+
+pub use key::MarkerTreeKey;
