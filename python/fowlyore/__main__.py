@@ -10,7 +10,7 @@ from typing import Any, Dict, List, Optional, Union
 
 from . import __version__
 from .distributions import installed
-from .explanations import explain
+from .explanations import check_explained
 from .lists import GREATEST_LIMIT, LIMIT, InvalidInput, check, conflicts, matrix, normal, same
 from .markers import completed
 
@@ -70,7 +70,7 @@ def add_check(commands: Any) -> None:
     environment.add_argument("--environment", metavar="JSON", help=of_values)
     environment.add_argument("--python-version", metavar="VERSION", help="this interpreter's values, but of another version")
     add_candidates(it)
-    it.add_argument("--explain", action="store_true", help="say below each none which line refuses the greatest candidates")
+    it.add_argument("--explain", action="store_true", help="say below each none which lines refuse the greatest candidates")
     it.add_argument("--strict", action="store_true", help="status 4 where a row is none")
 
 
@@ -111,12 +111,10 @@ def environment_of(words: argparse.Namespace) -> Any:
 def run_check(words: argparse.Namespace) -> int:
     requirements = source(words.requirements)
     inputs = (requirements, environment_of(words), candidates_of(words), words.extra)
-    rows = check(*inputs)
-    why = {it.name: it for it in explain(*inputs)} if words.explain else {}
+    rows, explanations = check_explained(*inputs) if words.explain else (check(*inputs), [])
+    why = {it.name: it.sentences for it in explanations}
     for row in rows:
-        print(row)
-        if row.name in why:
-            print(f"    {why[row.name]}")
+        print(row, *why.get(row.name, ()), sep="\n    ")
     return STRICT if words.strict and any(it.is_none for it in rows) else ANSWERED
 
 

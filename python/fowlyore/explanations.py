@@ -1,7 +1,8 @@
-"""Why a row of `check` is `none`: which line refuses the greatest candidates."""
+"""Why a row of `check` is `none`: which lines refuse the greatest candidates."""
 
+import re
 from dataclasses import dataclass
-from typing import List, Optional
+from typing import Dict, Iterable, Iterator, List, NamedTuple, Optional, Sequence, Tuple
 
 from . import _native
 from .lists import (
@@ -10,82 +11,241 @@ from .lists import (
 )  # fmt: skip
 from .version import Version
 
-__all__ = ["Explanation", "explain"]
+__all__ = ["Explanation", "Line", "Refusal", "check_explained", "explain"]
+
+# Of how many candidates, and of how many lines in a sentence, each is named.
+NAMED = 3
+# How many characters of lines one call is asked of, in which there are at most 16 MiB.
+BATCH = 1 << 21
+# The name at the front of a requirement, and name and version on the line of a candidate.
+_NAME = re.compile(r"\s*([A-Za-z0-9](?:[A-Za-z0-9._-]*[A-Za-z0-9])?)")
+_CANDIDATE = re.compile(r"^[^\S\n]*([A-Za-z0-9._-]+)[^\S\n]+([^\s#]+)", re.M)
+
+
+class Line(NamedTuple):
+    """A line of a list: its number, from 1, and its text without white space around it."""
+
+    number: int
+    text: str
+
+    def __str__(self) -> str:
+        return f"line {self.number} ({self.text})"
+
+
+class Refusal(NamedTuple):
+    """A candidate, and the lines that refuse it."""
+
+    version: Version
+    lines: Tuple[Line, ...]
 
 
 @dataclass(frozen=True)
 class Explanation:
-    """Of a package without a version: the greatest candidate, the line that refuses the greatest ones with its number, and
-    the greatest one that this line takes. There is no line where there is no candidate, or where all lines take the greatest
-    one, which is a pre-release that none of them names."""
+    """Why a package has no version.
+
+    Its lines are those of the list that apply in the environment with the extras, and require it. A line *accepts* a
+    candidate where `check` of two lines, this one and `NAME>=0.dev0`, and of this one candidate selects it, and *refuses* it
+    where that gives `none`. (All versions are accepted by `>=0.dev0`, and it names a pre-release, so that pre-releases are
+    let in.) So the values claim no more than this:
+
+    - `greatest`: the greatest candidate, None where there is none; of equal ones the first.
+    - `candidates`: how many candidates there are; of several with one normal text one counts.
+    - `lines_without_candidate`: the lines that accept none of the candidates.
+    - `refusals`: where each line accepts some candidate, of the three greatest ones those that some line refuses, the greatest
+      first, each with all lines that refuse it.
+    - `prerelease`: the greatest candidate that all lines accept. It is a pre-release or a developmental release, and no line
+      has a specifier with such a version, or else `check` would select it. None where each candidate is refused by some line.
+    """
 
     name: str
     greatest: Optional[Version] = None
-    line: Optional[int] = None
-    text: str = ""
-    taken: Optional[Version] = None
+    candidates: int = 0
+    lines_without_candidate: Tuple[Line, ...] = ()
+    refusals: Tuple[Refusal, ...] = ()
+    prerelease: Optional[Version] = None
+
+    @property
+    def sentences(self) -> List[str]:
+        """The values in words, a sentence on a line, without those that say nothing."""
+        if self.greatest is None:
+            return ["there is no candidate of this name"]
+        if self.lines_without_candidate:
+            verb = "accepts" if len(self.lines_without_candidate) == 1 else "accept"
+            return [f"{_listed(self.lines_without_candidate)} {verb} no candidate; the greatest is {self.greatest}"]
+        said = [f"{version} is refused by {_listed(lines)}" for version, lines in self.refusals]
+        too = ""
+        if self.prerelease is not None:
+            said.append(f"{self.prerelease} is accepted by all lines, but it is a pre-release, and no line names one")
+            too = ", or is such a pre-release too"
+        others = self.candidates - len(said)
+        if others:
+            those = f"each of the {others} other candidates" if others > 1 else "the other candidate"
+            said.append(f"{those} is refused by some line{too}")
+        return said
 
     def __str__(self) -> str:
-        if self.greatest is None:
-            return "there is no candidate of this name"
-        if self.line is None:
-            return f"{self.greatest} is a pre-release, and no line names one"
-        if self.taken is None:
-            return f"line {self.line} takes no candidate, and the greatest is {self.greatest}: {self.text}"
-        return f"line {self.line} takes none above {self.taken}, and the greatest is {self.greatest}: {self.text}"
+        return "\n".join(self.sentences)
+
+
+def _listed(lines: Sequence[Line]) -> str:
+    """Some lines in words, the first of them with their texts."""
+    words = [str(it) for it in lines[:NAMED]]
+    left = len(lines) - len(words)
+    if left:
+        words.append(f"{left} more lines" if left > 1 else "one more line")
+    return f"{', '.join(words[:-1])} and {words[-1]}" if len(words) > 1 else words[0]
+
+
+class _Asking(NamedTuple):
+    """A line that asks for a package, and what stands in it after the package's name."""
+
+    line: Line
+    rest: str
+
+    def of(self, name: str) -> str:
+        """The same line, asking for another package."""
+        return f"{name}{self.rest}\n"
+
+    @property
+    def alias(self) -> str:
+        """A package that no other line asks for."""
+        return f"line{self.line.number}"
+
+
+def _admitting(name: str) -> str:
+    """A line that accepts all versions and has pre-releases let in: it names the least of all versions."""
+    return f"{name}>=0.dev0\n"
 
 
 @dataclass(frozen=True)
 class _Question:
-    """What is asked of some lines: all but these."""
+    """What is asked of lines and candidates: where they apply."""
 
     environment: Input
-    candidates: Input
     extras: Input
 
-    def rows(self, lines: bytes) -> List[Row]:
-        asked = Input("requirements", lines)
-        return rows_of(answered(_native.check, asked, self.environment, self.candidates, self.extras))
+    def rows(self, lines: str, candidates: str = "") -> Dict[str, Row]:
+        """The rows of `check`, by name."""
+        asked, offered = Input("requirements", lines.encode()), Input("candidates", candidates.encode())
+        rows = rows_of(answered(_native.check, asked, self.environment, offered, self.extras))
+        return {it.name: it for it in rows}
 
-    def greatest(self, name: str, line: bytes = b"") -> Optional[Version]:
-        """The greatest candidate of a package that a line takes, pre-releases too: the least version of all is one."""
-        return self.rows(line + b"\n" + _native.encoded(f"{name}>=0.dev0"))[0].version
+    def applying(self, lines: List[_Asking]) -> List[_Asking]:
+        """The lines that apply."""
+        found: List[_Asking] = []
+        for batch in _batches(lines):
+            rows = self.rows("".join(it.of(it.alias) for it in batch))
+            found += (it for it in batch if it.alias in rows)
+        return found
+
+    def refusing(self, version: Version, lines: List[_Asking]) -> List[_Asking]:
+        """Which of some lines that apply refuse a candidate: each is asked as a package of its own, all of them at once."""
+        found: List[_Asking] = []
+        for batch in _batches(lines):
+            asked = "".join(it.of(it.alias) + _admitting(it.alias) for it in batch)
+            rows = self.rows(asked, "".join(f"{it.alias} {version}\n" for it in batch))
+            found += (it for it in batch if rows[it.alias].is_none)
+        return found
+
+    def taken_by_all(self, lines: List[_Asking], versions: Iterable[Version]) -> Optional[Version]:
+        """The greatest candidate that all of some lines that apply accept."""
+        asked = "".join(it.of("all") for it in lines) + _admitting("all")
+        return self.rows(asked, "".join(f"all {it}\n" for it in versions))["all"].version
+
+
+def _batches(lines: Iterable[_Asking]) -> Iterator[List[_Asking]]:
+    """Lines in groups, of which a call can be asked."""
+    batch: List[_Asking] = []
+    size = 0
+    for it in lines:
+        if size + len(it.rest) > BATCH and batch:
+            yield batch
+            batch, size = [], 0
+        batch.append(it)
+        size += len(it.rest) + len(it.alias)
+    if batch:
+        yield batch
 
 
 def explain(
     requirements: Requirements, environment: Environment = None, candidates: Candidates = None, extras: Extras = ()
 ) -> List[Explanation]:
-    """For each row of `check` that is `none`, by name, why it is. Each line is asked for by itself.
+    """For each row of `check` that is `none`, by name, why it is; the arguments are those of `check`.
 
-    >>> for it in explain(["foo>=1", "foo<2"], candidates={"foo": ["0.9", "2.1"]}):
-    ...     print(it.name, it)
-    foo line 2 takes none above 0.9, and the greatest is 2.1: foo<2
+    Beside the library's call for `check` it makes for each such package with candidates at most five calls over its own lines,
+    one of them with all its candidates; and for each line that refuses the three greatest ones a call with the others.
+
+    >>> for it in explain(["foo!=2.1", "foo>=1", "foo<2,!=1.5"], candidates={"foo": ["0.9", "1.5", "2.1"]}):
+    ...     print(it)
+    2.1 is refused by line 1 (foo!=2.1) and line 3 (foo<2,!=1.5)
+    1.5 is refused by line 3 (foo<2,!=1.5)
+    0.9 is refused by line 2 (foo>=1)
+    >>> print(*explain(["foo>=1", "foo>=3"], candidates={"foo": ["0.9", "2.1"]}))
+    line 2 (foo>=3) accepts no candidate; the greatest is 2.1
     """
-    text = requirements_input(requirements)
-    question = _Question(environment_input(environment), candidates_input(candidates), extras_input(extras))
-    inputs = (text, question.environment, question.candidates, question.extras)
-    names = [row.name for row in rows_of(answered(_native.check, *inputs)) if row.is_none]
-    lines = text.text.split(b"\n") if names else []
-    of_lines = [_name_of(line, question) for line in lines]
-    return [_explanation(name, lines, of_lines, question) for name in names]
+    return check_explained(requirements, environment, candidates, extras)[1]
 
 
-def _name_of(line: bytes, question: _Question) -> Optional[str]:
-    """The package that a line asks for where it applies."""
-    nothing = Input("candidates", b"")
-    rows = _Question(question.environment, nothing, question.extras).rows(line)
-    return rows[0].name if rows else None
+def check_explained(
+    requirements: Requirements, environment: Environment = None, candidates: Candidates = None, extras: Extras = ()
+) -> Tuple[List[Row], List[Explanation]]:
+    """The rows of `check`, and what `explain` says of them; each input is read once."""
+    inputs = (
+        requirements_input(requirements), environment_input(environment), candidates_input(candidates),
+        extras_input(extras),
+    )  # fmt: skip
+    rows = rows_of(answered(_native.check, *inputs))
+    names = [it.name for it in rows if it.is_none]
+    if not names:
+        return rows, []
+    lines = _lines_of(inputs[0].text.decode(), names)
+    versions = _versions_of(inputs[2].text.decode(), names)
+    question = _Question(inputs[1], inputs[3])
+    return rows, [_explanation(it, lines[it], versions[it], question) for it in names]
 
 
-def _explanation(name: str, lines: List[bytes], of_lines: List[Optional[str]], question: _Question) -> Explanation:
-    greatest = question.greatest(name)
-    if greatest is None:
+def _normal(name: str) -> str:
+    """The normal form of a name (PEP 503)."""
+    return re.sub("[-_.]+", "-", name).lower()
+
+
+def _lines_of(text: str, names: List[str]) -> Dict[str, List[_Asking]]:
+    """The lines that ask for these packages, whether they apply or not; the list is one that `check` has read."""
+    found: Dict[str, List[_Asking]] = {it: [] for it in names}
+    for number, line in enumerate(text.split("\n"), 1):
+        name = _NAME.match(line)
+        if name is not None and _normal(name[1]) in found:
+            found[_normal(name[1])].append(_Asking(Line(number, line.strip()), line[name.end() :]))
+    return found
+
+
+def _versions_of(text: str, names: List[str]) -> Dict[str, List[Version]]:
+    """The candidates of these names, the greatest first, equal ones in their order; those of one normal text once."""
+    found: Dict[str, Dict[str, Version]] = {it: {} for it in names}
+    for name, given in _CANDIDATE.findall(text):
+        of_name = found.get(_normal(name))
+        if of_name is not None:
+            version = Version(given)
+            of_name.setdefault(str(version), version)
+    return {name: sorted(it.values(), reverse=True) for name, it in found.items()}
+
+
+def _explanation(name: str, asking: List[_Asking], versions: List[Version], question: _Question) -> Explanation:
+    if not versions:
         return Explanation(name)
-    numbers = [at for at, of_line in enumerate(of_lines) if of_line == name]
-    taken = {at: question.greatest(name, lines[at]) for at in numbers}
-    # (the first of those that take the least; none is less than any)
-    least = min(numbers, key=lambda at: (taken[at] is not None, taken[at] or greatest))
-    if taken[least] == greatest:
-        return Explanation(name, greatest)
-    text = lines[least].decode("utf-8", "replace").strip()
-    return Explanation(name, greatest, least + 1, text, taken[least])
+    lines = question.applying(asking)
+    refusals = [(it, question.refusing(it, lines)) for it in versions[:NAMED]]
+    without = _without_candidate([of_version for _, of_version in refusals], versions[NAMED:], question)
+    if without:
+        return Explanation(name, versions[0], len(versions), without)
+    told = tuple(Refusal(version, tuple(at.line for at in those)) for version, those in refusals if those)
+    return Explanation(name, versions[0], len(versions), (), told, question.taken_by_all(lines, versions))
+
+
+def _without_candidate(
+    refusing: List[List[_Asking]], others: List[Version], question: _Question
+) -> Tuple[Line, ...]:
+    """The lines that refuse the greatest candidates and the others too."""
+    of_all = set(refusing[0]).intersection(*refusing[1:])
+    lines = [it for it in refusing[0] if it in of_all]
+    return tuple(it.line for it in lines if not others or question.taken_by_all([it], others) is None)

@@ -35,7 +35,7 @@ class Commands(unittest.TestCase):
         self.assertEqual(run(*words), (0, expected, ""))
         self.assertEqual(run(*words, "--strict"), (4, expected, ""))
         status, out, err = run(*words, "--explain")
-        why = "    line 5 takes no candidate, and the greatest is 1.26.3: numpy==1.26.4\n"
+        why = "    line 5 (numpy==1.26.4) accepts no candidate; the greatest is 1.26.3\n"
         self.assertEqual((status, out, err), (0, expected.replace("numpy none\n", "numpy none\n" + why), ""))
 
     def test_check_of_what_is_installed(self):
@@ -123,6 +123,15 @@ class Process(unittest.TestCase):
     def test_standard_input(self):
         ran = self.run_module("normal", "-", input=b"Foo_Bar >= 1\n")
         self.assertEqual((ran.returncode, ran.stdout, ran.stderr), (0, b"foo-bar>=1\n", b""))
+
+    def test_explanations_of_what_is_read_once(self):
+        with tempfile.TemporaryDirectory() as folder:
+            path = pathlib.Path(folder, "candidates.txt")
+            path.write_text("foo 1\nfoo 2\nbar 1\n")
+            words = ["check", "/dev/stdin", "--candidates", str(path), "--explain"]
+            ran = self.run_module(*words, input=b"foo!=2\nbar\nfoo!=1\n")
+        said = b"bar 1\nfoo none\n    2 is refused by line 1 (foo!=2)\n    1 is refused by line 3 (foo!=1)\n"
+        self.assertEqual((ran.returncode, ran.stdout, ran.stderr), (0, said, b""))
 
     def test_other_encodings(self):
         for it in ("ascii", "latin-1", "utf-16"):

@@ -7,7 +7,6 @@ import tempfile
 import unittest
 
 import fowlyore
-from fowlyore.explanations import explain
 
 EXAMPLES = pathlib.Path(__file__).resolve().parents[2] / "examples"
 CHECKED = ["first", "spelling", "pip-freeze", "pip-compile"]
@@ -218,20 +217,3 @@ class Refusals(unittest.TestCase):
         self.refused(fowlyore.matrix, lines, [], "", limit=15)
         self.refused(fowlyore.same, lines, lines, limit=15)
         self.refused(fowlyore.conflicts, lines, limit=15)
-
-
-class Explanations(unittest.TestCase):
-    def test_each(self):
-        lines = ["", "a>=1  # at least", "a<=0.9", "b==2", "c", "d>=0.9", "e", "e<2 ; os_name == 'no'", "f>=2,<1", "g"]
-        candidates = {"a": ["0.9", "2.1"], "b": ["1.0", "3.0a1"], "d": ["1.0rc1"], "e": ["2"], "f": ["1.5"], "g": ["1"]}
-        said = {it.name: str(it) for it in explain(lines, candidates=candidates)}
-        self.assertEqual(
-            said,
-            {
-                "a": "line 3 takes none above 0.9, and the greatest is 2.1: a<=0.9",
-                "b": "line 4 takes no candidate, and the greatest is 3.0a1: b==2",
-                "c": "there is no candidate of this name",
-                "d": "1.0rc1 is a pre-release, and no line names one",
-                "f": "line 9 takes no candidate, and the greatest is 1.5: f>=2,<1",
-            },
-        )
