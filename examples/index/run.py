@@ -85,7 +85,7 @@ def by_processes(workers: int, work: Work, pieces: List[int]) -> Iterator[Result
     import multiprocessing
     from concurrent.futures import ProcessPoolExecutor, as_completed
 
-    # (the pool has threads, and no call of the library may be made in the child of a fork of a process with threads)
+    # (the pool has threads, and Python warns of forks of a process with threads)
     with ProcessPoolExecutor(workers, mp_context=multiprocessing.get_context("spawn")) as pool:
         try:
             for it in as_completed([pool.submit(work, piece) for piece in pieces]):

@@ -44,9 +44,9 @@ class Documented(unittest.TestCase):
             self.assertIn(f"`{it}`", PAGE.read_text(encoding="utf-8"))
 
     def test_processes(self):
-        """What include/reqs.h forbids."""
+        """What may not be called in the child of a fork."""
         text = " ".join(PAGE.read_text(encoding="utf-8").split())
-        self.assertRegex(text, "child of a fork of a process with threads no call may be made, .* `spawn` or `forkserver`")
+        self.assertRegex(text, "these may not be called: - anything, where another `malloc` .*; - `installed\\(\\)`, and .*; - `import fowlyore`")
 
     def test_statuses(self):
         said = re.search(r"The status is (.*?)\. ", PAGE.read_text(encoding="utf-8"), re.S)[1]

@@ -1,0 +1,40 @@
+"""Properties that are computed when they are first asked for."""
+
+from typing import Any, Callable, Generic, Optional, TypeVar, Union, overload
+
+Value = TypeVar("Value")
+
+
+class cached_property(Generic[Value]):
+    """`functools.cached_property` without the lock that it has before Python 3.12: where another thread holds it at a fork, the
+    child waits for it without end. Two threads may both compute a value, and all are given that of the first to store its own.
+
+    >>> class Circle:
+    ...     @cached_property
+    ...     def area(self) -> float:
+    ...         print("computed")
+    ...         return 3.0
+    >>> circle = Circle()
+    >>> circle.area + circle.area
+    computed
+    6.0
+    """
+
+    def __init__(self, func: Callable[[Any], Value]) -> None:
+        self.func = func
+        self.__doc__ = func.__doc__
+
+    def __set_name__(self, owner: type, name: str) -> None:
+        self.name = name
+
+    @overload
+    def __get__(self, instance: None, owner: Optional[type] = None) -> "cached_property[Value]": ...
+
+    @overload
+    def __get__(self, instance: object, owner: Optional[type] = None) -> Value: ...
+
+    def __get__(self, instance: Any, owner: Optional[type] = None) -> "Union[cached_property[Value], Value]":
+        if instance is None:
+            return self
+        value: Value = vars(instance).setdefault(self.name, self.func(instance))
+        return value
