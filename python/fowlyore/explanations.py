@@ -214,8 +214,9 @@ def _lines_of(text: str, names: List[str]) -> Dict[str, List[_Asking]]:
     found: Dict[str, List[_Asking]] = {it: [] for it in names}
     for number, line in enumerate(text.split("\n"), 1):
         name = _NAME.match(line)
-        if name is not None and _normal(name[1]) in found:
-            found[_normal(name[1])].append(_Asking(Line(number, line.strip()), line[name.end() :]))
+        of_name = None if name is None else found.get(_normal(name[1]))
+        if name is not None and of_name is not None:
+            of_name.append(_Asking(Line(number, line.strip()), line[name.end() :]))
     return found
 
 

@@ -10,6 +10,7 @@ from unittest import mock
 import fowlyore
 from fowlyore import Requirement, Version, _native, check
 from fowlyore.explanations import Explanation, Line, Refusal, check_explained, explain
+from fowlyore.lists import requirements_input
 
 ENVIRONMENT = {"os_name": "posix"}
 # The least of all versions: the line accepts each one, and lets pre-releases in.
@@ -155,7 +156,7 @@ class Made:
         required = [Requirement(re.sub(r"\s#.*", "", it)) for it in kept]
         way = choose.randrange(5)
         if way == 4:
-            return required, [str(it) for it in required]
+            return required, requirements_input(required).text.decode().split("\n")[:-1]
         return [text, text.encode(), iter(self.lines), path][way], self.lines
 
     def candidates(self, choose):
