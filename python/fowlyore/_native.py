@@ -8,10 +8,12 @@ import ctypes
 import os
 from typing import Any, List, NamedTuple, Optional, Tuple
 
-ABI = 1
+ABI = 2
 ANSWERED, DIFFERENT, REFUSED, MEMORY = 0, 1, 2, 3
 # What `reqs_version_key` gives in place of a length.
 KEY_REFUSED = -2
+# Why a marker that holds nowhere has no normal text.
+NEVER_HOLDS = "no normal text: never holds"
 # The bytes of a buffer, which nearly every answer about one text fits.
 ROOM = 4096
 # How much more is given for an answer about many environments before its length is known.
@@ -89,6 +91,16 @@ _take_one = _declare(_short, "reqs_specifiers_take", Reply, 2)
 _take = _declare(_long, "reqs_specifiers_take", Reply, 2)
 _requirement = _declare(_long, "reqs_requirement", Reply, 1)
 _marker = _declare(_long, "reqs_marker", Reply, 1)
+_marker_key = _declare(_long, "reqs_marker_key", Reply, 1)
+_marker_truth = _declare(_long, "reqs_marker_truth", Reply, 1)
+_markers_disjoint = _declare(_long, "reqs_markers_disjoint", Reply, 2)
+_marker_implies = _declare(_long, "reqs_marker_implies", Reply, 2)
+_marker_negated = _declare(_long, "reqs_marker_negated", Reply, 1)
+_marker_simplify_python = _declare(_long, "reqs_marker_simplify_python", Reply, 3)
+_marker_simplify_extras = _declare(_long, "reqs_marker_simplify_extras", Reply, 2)
+_specifiers_disjoint = _declare(_long, "reqs_specifiers_disjoint", Reply, 2)
+_specifiers_subset = _declare(_long, "reqs_specifiers_subset", Reply, 2)
+_specifiers_empty = _declare(_long, "reqs_specifiers_empty", Reply, 1)
 _markers_hold = _declare(_long, "reqs_markers_hold", Reply, 3)
 _check = _declare(_long, "reqs_check", Reply, 4)
 _matrix = _declare(_long, "reqs_matrix", Reply, 4, limit=True)
@@ -183,24 +195,85 @@ def take(specifiers: bytes, versions: bytes) -> bytes:
     return _answer(_take, specifiers, versions, size=len(versions))
 
 
+def disjoint(left: bytes, right: bytes) -> bool:
+    """Whether no point lies in the ranges of both lists."""
+    return _answer(_specifiers_disjoint, left, right) == b"1"
+
+
+def subset(left: bytes, right: bytes) -> bool:
+    """Whether each point of the left list's range lies in the right one's."""
+    return _answer(_specifiers_subset, left, right) == b"1"
+
+
+def empty(specifiers: bytes) -> bool:
+    """Whether no point lies in the list's range."""
+    return _answer(_specifiers_empty, specifiers) == b"1"
+
+
 class RequirementParts(NamedTuple):
-    """A requirement's parts: normal names, extras and specifiers with commas between them; empty where there are none."""
+    """A requirement's parts: normal names, extras and specifiers with commas between them, and the URL; empty where
+    there are none. The marker is all that follows the `;` in the given text, or None where nothing does."""
 
     name: str
     extras: str
     specifiers: str
     url: str
-    marker: str
+    marker: Optional[str]
 
 
 def requirement(text: bytes) -> RequirementParts:
     """A requirement's parts."""
-    return RequirementParts(*_answer(_requirement, text).decode().split("\n", 4))
+    name, extras, specifiers, url, place = _answer(_requirement, text).decode().split("\n", 4)
+    return RequirementParts(name, extras, specifiers, url, _standing_at(text, place))
+
+
+def _standing_at(text: bytes, place: str) -> Optional[str]:
+    """The part of a text at a place, which is its first byte and the number of its bytes."""
+    if not place:
+        return None
+    start, length = map(int, place.split(" "))
+    return text[start : start + length].decode()
 
 
 def marker(text: bytes) -> str:
-    """A marker's normal text, which is empty where it always holds."""
+    """A marker's normal text, which is empty where it always holds; a Fault where it has none."""
     return _answer(_marker, text).decode()
+
+
+def marker_key(text: bytes) -> bytes:
+    """A marker's key, which markers of one meaning have in common."""
+    return _answer(_marker_key, text)
+
+
+def marker_truth(text: bytes) -> bytes:
+    """`1` where the marker always holds, `0` where it never does, and else `-`."""
+    return _answer(_marker_truth, text)
+
+
+def markers_disjoint(left: bytes, right: bytes) -> bool:
+    """Whether the two markers never hold together."""
+    return _answer(_markers_disjoint, left, right) == b"1"
+
+
+def marker_implies(left: bytes, right: bytes) -> bool:
+    """Whether the right marker holds wherever the left one does."""
+    return _answer(_marker_implies, left, right) == b"1"
+
+
+def marker_negated(text: bytes) -> str:
+    """The normal text of the marker that holds where this one doesn't."""
+    return _answer(_marker_negated, text).decode()
+
+
+def marker_simplify_python(text: bytes, lower: bytes, upper: bytes) -> str:
+    """The normal text of what is left of a marker where `python_full_version` is at least `lower` and below `upper`;
+    an empty text is no bound."""
+    return _answer(_marker_simplify_python, text, lower, upper).decode()
+
+
+def marker_simplify_extras(text: bytes, extras: bytes) -> str:
+    """The normal text of what is left of a marker where the extras, one a line, are present."""
+    return _answer(_marker_simplify_extras, text, extras).decode()
 
 
 def markers_hold(markers: bytes, environment: bytes, extras: bytes) -> bytes:

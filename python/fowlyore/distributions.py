@@ -43,7 +43,7 @@ def _normal_name(name: str) -> str:
         requirement = Requirement(name)
     except InvalidRequirement:
         return ""
-    return requirement._normal_front()[0] if str(requirement) == name else ""
+    return requirement._normal_front()[0] if requirement.name == name else ""
 
 
 def _is_version(text: str) -> bool:

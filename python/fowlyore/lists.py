@@ -15,7 +15,7 @@ from . import _native
 from .errors import Refused, characters
 from .distributions import installed
 from .markers import completed, environment_json
-from .requirements import Requirement
+from .requirements import InvalidRequirement, Requirement
 from .version import Version
 
 __all__ = [
@@ -147,11 +147,19 @@ def requirements_input(given: Requirements, name: str = "requirements") -> Input
 
 def _joined(name: str, lines: Iterable[Union[str, Requirement]]) -> str:
     """Lines as one text. Each may end with a line feed, as those of a file do, and has no other."""
-    texts = [str(it).rstrip("\r\n") for it in lines]
-    for number, it in enumerate(texts, 1):
-        if "\n" in it:
-            raise InvalidInput(f"{name}: line {number}: {it!r} goes over more than one line", input=name, text=it, line=number)
+    texts = [_line(name, number, it) for number, it in enumerate(lines, 1)]
     return "".join(f"{it}\n" for it in texts)
+
+
+def _line(name: str, number: int, given: Union[str, Requirement]) -> str:
+    """One line without its end. A requirement isn't printed for it: its marker may have no text that reads back."""
+    try:
+        text = given._line() if isinstance(given, Requirement) else str(given).rstrip("\r\n")
+    except InvalidRequirement as error:
+        raise InvalidInput(f"{name}: line {number}: {error}", input=name, text=error.text, line=number) from None
+    if "\n" in text:
+        raise InvalidInput(f"{name}: line {number}: {text!r} goes over more than one line", input=name, text=text, line=number)
+    return text
 
 
 def environment_input(given: Environment) -> Input:

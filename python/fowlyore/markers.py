@@ -1,22 +1,30 @@
 """Markers (PEP 508, Environment Markers)."""
 
+import functools
 import json
 import os
 import platform
+import re
 import sys
-from typing import Any, Dict, List, Literal, Mapping, Optional
+from typing import Any, Callable, Dict, Iterable, List, Literal, Mapping, NamedTuple, Optional, Tuple, Type, Union
 
 from . import _native
 from .errors import Refused, on_one_line, refusal
+from .version import InvalidVersion, Version, text_of
 
 __all__ = [
     "EvaluateContext", "InvalidMarker", "Marker", "UndefinedComparison", "UndefinedEnvironmentName", "default_environment",
 ]  # fmt: skip
 
 EvaluateContext = Literal["metadata", "lock_file", "requirement"]
+Bound = Union[None, str, Version]
 
-# What is printed for a marker that holds everywhere, whose normal text is empty: what never holds is `python_version < '0'`.
-_ALWAYS = "python_version >= '0'"
+# Markers that hold everywhere and nowhere, for answers that have no normal text of their own.
+_ALWAYS = "python_version >= '3' or python_version < '3'"
+_NEVER = "python_version < '3' and python_version >= '3'"
+# How deep the brackets of a marker may nest.
+_DEEPEST = 256
+_PIECE = re.compile(r"""'[^']*'|"[^"]*"|[()]|\bor\b""")
 
 
 class InvalidMarker(Refused):
@@ -86,44 +94,238 @@ def environment_json(environment: Mapping[str, Any]) -> bytes:
     return json.dumps(values).encode()
 
 
+class _Shape(NamedTuple):
+    """Of a marker's text whether an `or` stands outside its brackets, and how deep these nest."""
+
+    has_or: bool
+    depth: int
+
+
+def _shape_of(text: str) -> _Shape:
+    has_or, depth, deepest = False, 0, 0
+    for it in _PIECE.findall(text):
+        depth += (it == "(") - (it == ")")
+        deepest = max(deepest, depth)
+        has_or = has_or or (it == "or" and depth == 0)
+    return _Shape(has_or, deepest)
+
+
+@functools.total_ordering
 class Marker:
-    """A marker. Markers are equal exactly where they hold under the same conditions, and then print the same text.
+    """A marker. Markers are equal exactly where they hold under the same conditions, however they are written. A
+    condition is a value for each key, an answer to each `in` and `not in`, and a set of extras, all independent of one
+    another. `<` is a total order, of the bytes by which markers are compared, and means nothing more.
+
+    Making a marker checks its text. The bytes by which it is compared and hashed are computed when they are first
+    needed, and so is the normal text that `str` and `repr` return, which can be exponentially longer than the marker.
 
     >>> marker = Marker('python_version>"3.7" and os.name == "nt"')
-    >>> str(marker)
-    "python_full_version >= '3.8' and os_name == 'nt'"
     >>> marker == Marker('os.name == "nt" and python_full_version >= "3.8.0"')
     True
     >>> marker.evaluate({"os_name": "nt", "python_version": "3.12"})
     True
+    >>> str(Marker('python_version>"3.7" and os_name == "nt"'))
+    "python_full_version >= '3.8' and os_name == 'nt'"
     """
 
-    __slots__ = ("_given", "_text", "__weakref__")
+    __slots__ = ("_given", "_truth", "_key", "_text", "_shape", "__weakref__")
+
+    _given: str
+    _truth: Optional[bytes]
+    _key: Optional[bytes]
+    _text: Optional[str]
+    # (of what `&` and `|` made alone)
+    _shape: Optional[_Shape]
 
     def __init__(self, marker: str) -> None:
         if not isinstance(marker, str):
             raise TypeError(f"a marker is read from a str, not from {type(marker).__name__}")
         on_one_line(InvalidMarker, marker)
         try:
-            self._text = _native.marker(_native.encoded(marker))
+            truth = _native.marker_truth(_native.encoded(marker))
         except _native.Fault as fault:
             message = f"Invalid marker: {marker!r}: {fault.message}"
             raise refusal(InvalidMarker, fault, marker, message) from None
-        self._given = marker.strip()
+        self._set(marker.strip(), truth)
+
+    def _set(self, given: str, truth: Optional[bytes] = None, shape: Optional[_Shape] = None) -> None:
+        self._given, self._truth, self._shape = given, truth, shape
+        self._key = self._text = None
+
+    def __reduce__(self) -> "Tuple[type, Tuple[str]]":
+        return self.__class__, (self._given,)
 
     def __str__(self) -> str:
-        return self._text or _ALWAYS
+        """The normal text, which equal markers have in common. Where there is none it is the text that was given: of a
+        marker that always or never holds, or that has a single quote in a text, an older name of a key, or a version
+        that is more than release numbers of epoch 0. Either text reads back as an equal marker.
+
+        >>> print(Marker("'x'==platform_version"))
+        platform_version == 'x'
+        >>> print(Marker("'x'==platform.version"))
+        'x'==platform.version
+        """
+        if self._text is None:
+            self._text = self._normal_text() or self._given
+        return self._text
+
+    def _normal_text(self) -> str:
+        try:
+            return _native.marker(self._bytes())
+        except _native.Fault:
+            return ""
 
     def __repr__(self) -> str:
         return f"<Marker({str(self)!r})>"
 
+    def _bytes(self) -> bytes:
+        return _native.encoded(self._given)
+
+    def _compared(self) -> bytes:
+        if self._key is None:
+            self._key = _native.marker_key(self._bytes())
+        return self._key
+
     def __hash__(self) -> int:
-        return hash((Marker, self._text))
+        return hash((Marker, self._compared()))
 
     def __eq__(self, other: object) -> bool:
         if not isinstance(other, Marker):
             return NotImplemented
-        return self._text == other._text
+        return self._given == other._given or self._compared() == other._compared()
+
+    def __lt__(self, other: "Marker") -> bool:
+        if not isinstance(other, Marker):
+            return NotImplemented
+        return self._compared() < other._compared()
+
+    def is_true(self) -> bool:
+        """Whether it holds in every environment, with whatever extras.
+
+        >>> Marker("os_name == 'nt' or os_name != 'nt'").is_true()
+        True
+        """
+        return self._constant() == b"1"
+
+    def is_false(self) -> bool:
+        """Whether it holds in no environment, with whatever extras.
+
+        >>> Marker("os_name == 'nt' and os_name != 'nt'").is_false()
+        True
+        """
+        return self._constant() == b"0"
+
+    def _constant(self) -> bytes:
+        if self._truth is None:
+            self._truth = _native.marker_truth(self._bytes())
+        return self._truth
+
+    def is_disjoint(self, other: "Marker") -> bool:
+        """Whether no environment and no extras make both markers hold.
+
+        >>> Marker("python_version < '3.8'").is_disjoint(Marker("python_full_version >= '3.8.1'"))
+        True
+        """
+        return _native.markers_disjoint(self._bytes(), other._bytes())
+
+    def implies(self, other: "Marker") -> bool:
+        """Whether the other marker holds wherever this one does.
+
+        >>> Marker("python_version >= '3.9'").implies(Marker("python_version >= '3.8'"))
+        True
+        """
+        return _native.marker_implies(self._bytes(), other._bytes())
+
+    def __and__(self, other: "Marker") -> "Marker":
+        """The marker that holds where both do.
+
+        >>> Marker("os_name == 'nt' or os_name == 'posix'") & Marker("os_name != 'nt'") & Marker("extra == 'x'")
+        <Marker("os_name == 'posix' and extra == 'x'")>
+        """
+        if not isinstance(other, Marker):
+            return NotImplemented
+        if self._may_be_left_out():
+            return other
+        if other._may_be_left_out():
+            return self
+        (left, left_depth), (right, right_depth) = self._as_term(), other._as_term()
+        return marker_of(f"{left} and {right}", _Shape(False, max(left_depth, right_depth)))
+
+    def __or__(self, other: "Marker") -> "Marker":
+        """The marker that holds where one of them does.
+
+        >>> Marker("os_name == 'nt'") | Marker("os_name == 'posix'")
+        <Marker("os_name == 'nt' or os_name == 'posix'")>
+        """
+        if not isinstance(other, Marker):
+            return NotImplemented
+        if self._may_be_left_out():
+            return self
+        if other._may_be_left_out():
+            return other
+        depth = max(self._shaped().depth, other._shaped().depth)
+        return marker_of(f"{self._given} or {other._given}", _Shape(True, depth))
+
+    def _may_be_left_out(self) -> bool:
+        """Whether it always holds, and perhaps because none of its comparisons means anything: by itself such a marker
+        holds, but `and` and `or` pass over it. What `&` and `|` made has a comparison that means something."""
+        return self._shape is None and self.is_true()
+
+    def _shaped(self) -> _Shape:
+        return _shape_of(self._given) if self._shape is None else self._shape
+
+    def _as_term(self) -> Tuple[str, int]:
+        """Its text as a term of `and`, and how deep brackets nest there. Where they would nest too deep it is the
+        normal text, in which they don't."""
+        text, shape = self._given, self._shaped()
+        if shape.has_or and shape.depth == _DEEPEST:
+            text = str(self)
+            shape = _shape_of(text)
+        return (f"({text})", shape.depth + 1) if shape.has_or else (text, shape.depth)
+
+    def __invert__(self) -> "Marker":
+        return self.negate()
+
+    def negate(self) -> "Marker":
+        """The marker that holds where this one doesn't. It is made from its normal text, whose length is what this
+        costs, and `InvalidMarker` is raised where it has none, unless it always or never holds (see `__str__`).
+
+        >>> Marker("os_name == 'nt' and python_version >= '3.8'").negate()
+        <Marker("python_full_version < '3.8' or os_name != 'nt'")>
+        """
+        return self._answer(InvalidMarker, _native.marker_negated)
+
+    def simplify_python_versions(self, lower: Bound = None, upper: Bound = None) -> "Marker":
+        """A marker that holds as this one does where `python_full_version` is at least `lower` and below `upper`,
+        without the comparisons that this decides. It is made from its normal text, as by `negate`.
+
+        >>> marker = Marker("python_version >= '3.8' and python_version < '3.12' and os_name == 'nt'")
+        >>> marker.simplify_python_versions(lower="3.9")
+        <Marker("python_full_version < '3.12' and os_name == 'nt'")>
+        """
+        bounds = (b"" if it is None else _native.encoded(str(Version(text_of(it)))) for it in (lower, upper))
+        return self._answer(InvalidVersion, _native.marker_simplify_python, *bounds)
+
+    def simplify_extras(self, extras: Union[str, Iterable[str]]) -> "Marker":
+        """A marker that holds as this one does where these extras are requested, without the comparisons with them. It
+        is made from its normal text, as by `negate`. `UndefinedEnvironmentName` is raised where an extra is no name.
+
+        >>> Marker("extra == 'a' and (extra == 'b' or os_name == 'nt')").simplify_extras(["A"])
+        <Marker("os_name == 'nt' or extra == 'b'")>
+        """
+        lines = _native.encoded(_lines_of([extras] if isinstance(extras, str) else extras))
+        return self._answer(UndefinedEnvironmentName, _native.marker_simplify_extras, lines)
+
+    def _answer(self, refused: Type[Refused], call: Callable[..., str], *more: bytes) -> "Marker":
+        """The marker of the normal text that a call returns. `refused` is raised where one of `more` is invalid."""
+        try:
+            return marker_of(call(self._bytes(), *more) or _ALWAYS)
+        except _native.Fault as fault:
+            if fault.input > 1:
+                raise refused(fault.message) from None
+            if fault.message != _native.NEVER_HOLDS:
+                raise InvalidMarker(fault.message, text=self._given) from None
+        return marker_of(_NEVER)
 
     def evaluate(self, environment: Optional[Mapping[str, Any]] = None, context: EvaluateContext = "metadata") -> bool:
         """Whether the marker holds for the running interpreter, with the values of `environment` in place of its own. There
@@ -138,17 +340,32 @@ class Marker:
         return holds([self], values, [extra] if extra else [])[0]
 
 
+def marker_of(text: str, shape: Optional[_Shape] = None) -> Marker:
+    """The marker of a text that is known to be one, but for brackets that may nest too deep."""
+    if shape is not None and shape.depth > _DEEPEST:
+        return Marker(text)
+    marker = Marker.__new__(Marker)
+    marker._set(text, shape=shape)
+    return marker
+
+
+def _lines_of(extras: Iterable[str]) -> str:
+    """Extras one a line, as the library reads them: it passes over empty lines."""
+    lines = list(extras)
+    for it in lines:
+        if "\n" in it or not it:
+            raise UndefinedEnvironmentName(f"extra {it!r} is no name")
+    return "\n".join(lines)
+
+
 def holds(markers: List[Marker], environment: Mapping[str, Any], extras: List[str]) -> List[bool]:
     """Whether each marker holds in an environment with extras, by one call."""
-    for it in extras:
-        # (the library reads a name a line)
-        if "\n" in it:
-            raise UndefinedEnvironmentName(f"extra {it!r} is no name")
+    names = _native.encoded(_lines_of(extras))
     lines = _native.encoded("".join(f"{it._given}\n" for it in markers))
     try:
-        answers = _native.markers_hold(lines, environment_json(environment), _native.encoded("\n".join(extras)))
+        answers = _native.markers_hold(lines, environment_json(environment), names)
     except _native.Fault as fault:
         raise UndefinedEnvironmentName(fault.message) from None
     if b"?" in answers:
-        raise AssertionError(f"{markers[answers.index(b'?')]!r} is a marker and none")
+        raise AssertionError(f"{markers[answers.index(b'?')]._given!r} is a marker and none")
     return [it == ord("1") for it in answers]

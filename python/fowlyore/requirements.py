@@ -2,11 +2,11 @@
 
 import re
 from functools import cached_property
-from typing import FrozenSet, Optional, Set, Tuple
+from typing import Any, FrozenSet, Optional, Set, Tuple
 
 from . import _native
 from .errors import Refused, on_one_line, refusal
-from .markers import InvalidMarker, Marker
+from .markers import Marker, marker_of
 from .specifiers import SpecifierSet
 
 __all__ = ["InvalidRequirement", "Requirement"]
@@ -27,8 +27,9 @@ class InvalidRequirement(Refused):
 class Requirement:
     """A requirement: a name, extras, specifiers or a URL, and a marker.
 
-    Name and extras are as they were written, and compared by their normal names. The marker is None where the requirement
-    always applies. All of these can be set.
+    Name and extras are as they were written, and compared by their normal names. The marker is None where none was
+    written; to compare, that is as one that always holds. All of these can be set. The functions on lists read the
+    text that a requirement was made of, or, where a part was set, one that says what its parts are now.
 
     >>> requirement = Requirement('Requests[Socks]>=2.8.1, == 2.8.* ; python_version > "3.7"')
     >>> requirement.name, requirement.extras, str(requirement.specifier), str(requirement.marker)
@@ -43,27 +44,68 @@ class Requirement:
             raise TypeError(f"a requirement is read from a str, not from {type(text).__name__}")
         on_one_line(InvalidRequirement, text)
         try:
-            parts = _native.requirement(_native.encoded(text))
+            self._parts = _native.requirement(_native.encoded(text))
         except _native.Fault as fault:
             raise refusal(InvalidRequirement, fault, text, fault.message) from None
-        self._given, self._parts = text, parts
         found = _FRONT.match(text)
         if found is None:
             raise AssertionError(f"{text!r} has a name and none")
+        self._given = text.strip()
         self.name: str = found[1]
-        self.url: Optional[str] = parts.url or None
+        self.url: Optional[str] = self._parts.url or None
         self.extras: Set[str] = {it.strip() for it in (found[2] or "").split(",") if it.strip()}
         self._written = self._front()
+        self._read = self._values()
 
     @cached_property
     def specifier(self) -> SpecifierSet:
         """The specifiers, empty where there are none."""
-        return SpecifierSet(self._parts.specifiers)
+        return self._read_specifier
 
     @cached_property
     def marker(self) -> Optional[Marker]:
-        """The marker, or None where the requirement always applies."""
-        return _marker_of(self._parts.marker, self._given) if self._parts.marker else None
+        """The marker, or None where none was written."""
+        return self._read_marker
+
+    @cached_property
+    def _read_specifier(self) -> SpecifierSet:
+        return SpecifierSet(self._parts.specifiers)
+
+    @cached_property
+    def _read_marker(self) -> Optional[Marker]:
+        return None if self._parts.marker is None else marker_of(self._parts.marker.strip())
+
+    def _values(self) -> Tuple[Any, ...]:
+        return self.name, frozenset(self.extras), self.url or None
+
+    def _is_as_read(self) -> bool:
+        """Whether no part was set or changed."""
+        held = vars(self)
+        return (
+            self._values() == self._read
+            and ("specifier" not in held or held["specifier"] is self._read_specifier)
+            and ("marker" not in held or held["marker"] is self._read_marker)
+        )
+
+    def _line(self) -> str:
+        """Its line in a list: the given text where no part was set, and else one that says what its parts are now. That
+        is read back, and `InvalidRequirement` raised where other parts are read.
+
+        >>> requirement = Requirement("foo >= 1 ; os_name == 'nt'")
+        >>> requirement._line()
+        "foo >= 1 ; os_name == 'nt'"
+        >>> requirement.extras.add("b")
+        >>> requirement._line()
+        "foo[b]>=1; os_name == 'nt'"
+        """
+        if self._is_as_read():
+            return self._given
+        text = self._text(given_text(self.marker))
+        back = Requirement(text)
+        same = back._values() == self._values() and back.specifier == self.specifier
+        if not same or given_text(back.marker) != given_text(self.marker):
+            raise InvalidRequirement(f"{text!r} is read with other parts than were set", text=text)
+        return text
 
     def _front(self) -> str:
         extras = f"[{','.join(sorted(self.extras))}]" if self.extras else ""
@@ -75,16 +117,23 @@ class Requirement:
         parts = self._parts if front == self._written else Requirement(front)._parts
         return parts.name, frozenset(parts.extras.split(","))
 
+    def _condition(self) -> Optional[Marker]:
+        """The marker, or None where it always holds."""
+        return None if self.marker is None or self.marker.is_true() else self.marker
+
+    def _text(self, marker: str) -> str:
+        """What it says, with a marker of this text; of an empty one with none."""
+        url = f"@ {self.url}" + (" " if marker else "") if self.url else ""
+        return f"{self._front()}{self.specifier}{url}" + (f"; {marker}" if marker else "")
+
     def __str__(self) -> str:
-        url = f"@ {self.url}" + (" " if self.marker else "") if self.url else ""
-        marker = f"; {self.marker}" if self.marker else ""
-        return f"{self._front()}{self.specifier}{url}{marker}"
+        return self._text("" if self.marker is None else str(self.marker))
 
     def __repr__(self) -> str:
         return f"<Requirement({str(self)!r})>"
 
     def __hash__(self) -> int:
-        return hash((Requirement, self._normal_front(), self.specifier, self.url, self.marker))
+        return hash((Requirement, self._normal_front(), self.specifier, self.url, self._condition()))
 
     def __eq__(self, other: object) -> bool:
         if not isinstance(other, Requirement):
@@ -93,18 +142,10 @@ class Requirement:
             self._normal_front() == other._normal_front()
             and self.specifier == other.specifier
             and self.url == other.url
-            and self.marker == other.marker
+            and self._condition() == other._condition()
         )
 
 
-def _marker_of(normal: str, text: str) -> Marker:
-    """The marker of this normal text. One that has a single quote in a text can't be read back from that, and is read from
-    behind a `;` of the requirement's text, where it says the same."""
-    for given in (normal, *(text[it.end() :] for it in re.finditer(";", text))):
-        try:
-            marker = Marker(given)
-        except InvalidMarker:
-            continue
-        if marker._text == normal:
-            return marker
-    raise AssertionError(f"{text!r} has a marker and none")
+def given_text(marker: Optional[Marker]) -> str:
+    """A marker's text as it was given, and none of what isn't there."""
+    return "" if marker is None else marker._given

@@ -1,9 +1,15 @@
 """Specifiers and sets of them (PEP 440, Version specifiers).
 
 What a specifier takes is the library's answer. Which pre-releases are let in is decided here, as packaging 25 does it.
+
+`is_disjoint`, `is_subset` and `is_empty` compare specifiers as ranges. A range is a set of points on the line of
+versions: each version, pre-releases too, and each place between versions. The answers are exact over these points. So
+`>=1.2,<2` is a subset of `~=1.2`, but not the other way round: `~=1.2` goes up to `2.dev0`, and `<2` ends a little
+before, below all versions of release 2, though no version lies between these two places. `==1.0` is the one point 1.0,
+though it takes `1.0+local` too.
 """
 
-from typing import FrozenSet, Iterable, Iterator, List, Optional, Tuple, TypeVar, Union
+from typing import Callable, FrozenSet, Iterable, Iterator, List, Optional, Tuple, TypeVar, Union
 
 from . import _native
 from .errors import Refused, refusal
@@ -13,6 +19,7 @@ __all__ = ["InvalidSpecifier", "Specifier", "SpecifierSet"]
 
 UnparsedVersion = Union[Version, str]
 UnparsedVersionVar = TypeVar("UnparsedVersionVar", bound=UnparsedVersion)
+Ranged = Union["Specifier", "SpecifierSet", str]
 
 
 class InvalidSpecifier(Refused):
@@ -71,6 +78,19 @@ def _invalid(version: UnparsedVersion) -> InvalidVersion:
 
 def _is_prerelease(version: UnparsedVersion) -> bool:
     return is_prerelease(text_of(version))
+
+
+def _of_ranges(call: Callable[..., bool], *given: "Ranged") -> bool:
+    """What a call says of specifiers as ranges."""
+    lists = [SpecifierSet(it) if isinstance(it, str) else it for it in given]
+    for it in lists:
+        if not isinstance(it, (Specifier, SpecifierSet)):
+            raise TypeError(f"a range is that of a Specifier or a SpecifierSet, not of {type(it).__name__}")
+    try:
+        return call(*(it._bytes for it in lists))
+    except _native.Fault as fault:
+        text = str(lists[fault.input - 1])
+        raise InvalidSpecifier(f"{text!r} has no range: {fault.message}", text=text) from None
 
 
 class Specifier:
@@ -182,6 +202,23 @@ class Specifier:
             return iter(taken)
         finals = [it for it in taken if not _is_prerelease(it)]
         return iter(finals or (taken if prereleases is None else []))
+
+    def is_disjoint(self, other: "Ranged") -> bool:
+        """Whether this range has no point in common with another one (see this module). As `is_subset` does, it raises
+        `InvalidSpecifier` for a range whose end would need a number past 64 bits.
+
+        >>> Specifier(">=2").is_disjoint("<2"), Specifier(">=2").is_disjoint("<=2")
+        (True, False)
+        """
+        return _of_ranges(_native.disjoint, self, other)
+
+    def is_subset(self, other: "Ranged") -> bool:
+        """Whether each point of this range lies in another one (see this module).
+
+        >>> Specifier(">1.2").is_subset(">=1.2"), Specifier("==1.2.*").is_subset(">=1.2")
+        (True, False)
+        """
+        return _of_ranges(_native.subset, self, other)
 
 
 def _shown(prereleases: Optional[bool]) -> str:
@@ -309,3 +346,28 @@ class SpecifierSet:
         finals = [it for it in taken if not _is_prerelease(it)]
         # (None where there are no members)
         return iter(finals or (taken if prereleases is None else []))
+
+    def is_disjoint(self, other: "Ranged") -> bool:
+        """Whether this range has no point in common with another one (see this module). As `is_subset` and `is_empty`
+        do, it raises `InvalidSpecifier` for a range whose end would need a number past 64 bits.
+
+        >>> SpecifierSet(">=1,<2").is_disjoint("~=2.0"), SpecifierSet(">=1,<=2").is_disjoint("==2.0")
+        (True, False)
+        """
+        return _of_ranges(_native.disjoint, self, other)
+
+    def is_subset(self, other: "Ranged") -> bool:
+        """Whether each point of this range lies in another one (see this module).
+
+        >>> SpecifierSet(">=1.2,<2").is_subset("~=1.2"), SpecifierSet("~=1.2").is_subset(">=1.2,<2")
+        (True, False)
+        """
+        return _of_ranges(_native.subset, self, other)
+
+    def is_empty(self) -> bool:
+        """Whether this range has no point (see this module).
+
+        >>> SpecifierSet(">=2,<1").is_empty(), SpecifierSet(">=1,<1.1").is_empty()
+        (True, False)
+        """
+        return _of_ranges(_native.empty, self)

@@ -1,14 +1,35 @@
-"""Requirements and markers, by PEP 508."""
+"""Requirements, by PEP 508."""
 
 import copy
-import os
 import pickle
 import unittest
 import weakref
+from unittest import mock
 
-from fowlyore import InvalidMarker, InvalidRequirement, Marker, Requirement, UndefinedEnvironmentName, default_environment
+import fowlyore
+from fowlyore import InvalidInput, InvalidRequirement, Marker, Requirement, SpecifierSet, _native
 
-WINDOWS = {"os_name": "nt", "sys_platform": "win32", "platform_system": "Windows", "python_version": "3.12"}
+LINUX = {"os_name": "posix", "sys_platform": "linux", "platform_system": "Linux", "python_version": "3.11"}
+# Markers that have no normal text, or one that says something else than they do if it is read again.
+UNPRINTABLE = [
+    """os_name != "x' and sys_platform == 'win32\"""",
+    """os_name == "a' and sys_platform == 'b\"""",
+    "python_full_version in '3.11.4rc1'",
+    "implementation_version in '1+x'",
+    "implementation_version not in '1.dev3 2!1'",
+    "os.name == 'posix'",
+    "'win' in sys.platform",
+    "python_version < '3' and python_version >= '3'",
+    "os_name == 'a' or os_name != 'a'",
+    "os_name ~= 'a'",
+]
+# Pairs of markers of which one has the other's text as its normal text would be.
+PRINTED_ALIKE = [
+    ("""os_name == "a' and sys_platform == 'b\"""", "os_name == 'a' and sys_platform == 'b'"),
+    ("implementation_version in '1+x'", "implementation_version in '1'"),
+    ("os.name == 'nt'", "os_name == 'nt'"),
+    ("python_full_version in '3.11.4rc1'", "python_full_version == '3.11.4'"),
+]
 
 
 class Requirements(unittest.TestCase):
@@ -22,7 +43,11 @@ class Requirements(unittest.TestCase):
         it = Requirement("foo")
         self.assertEqual((it.extras, it.url, it.marker, str(it.specifier)), (set(), None, None, ""))
         self.assertEqual((str(it), repr(it)), ("foo", "<Requirement('foo')>"))
-        self.assertIsNone(Requirement("foo ; os_name == 'nt' or os_name != 'nt'").marker)
+
+    def test_a_marker_stands_where_one_is_written(self):
+        for text in ("os_name == 'nt' or os_name != 'nt'", "'a' == 'a'", "os_name == 'a' and os_name == 'b'"):
+            it = Requirement(f"foo ;\t{text} ")
+            self.assertEqual((it.marker, str(it.marker), str(it)), (Marker(text), text, f"foo; {text}"))
 
     def test_url(self):
         it = Requirement("pip[x] @ https://example.org/pip.whl;a ; python_version < '3'")
@@ -38,6 +63,16 @@ class Requirements(unittest.TestCase):
         for text in ("foo", "foo_bar[b]>=1,<2; os_name=='nt'", "foo_bar[a,b]>=1,<2", "foo_bar[a,b]>=1; os_name=='nt'"):
             self.assertNotEqual(one, Requirement(text))
         self.assertNotEqual(one, str(one))
+
+    def test_equal_without_a_marker_that_always_holds(self):
+        one, other = Requirement("foo"), Requirement("foo ; os_name == 'nt' or os_name != 'nt'")
+        self.assertEqual(one, other)
+        self.assertEqual(hash(one), hash(other))
+        self.assertNotEqual(one, Requirement("foo ; os_name == 'nt' and os_name != 'nt'"))
+
+    def test_different_where_markers_print_alike(self):
+        for left, right in PRINTED_ALIKE:
+            self.assertNotEqual(Requirement(f"foo ; {left}"), Requirement(f"foo ; {right}"))
 
     def test_parts_can_be_set(self):
         it = Requirement("foo[a]>=1 ; os_name == 'nt'")
@@ -57,6 +92,30 @@ class Requirements(unittest.TestCase):
         it = Requirement("""foo @ https://example.org/;x ; platform_version == "it's" """)
         self.assertTrue(it.marker.evaluate({"platform_version": "it's"}))
         self.assertFalse(it.marker.evaluate({"platform_version": "its"}))
+
+    def test_the_place_of_a_marker(self):
+        """In a URL's text a `;` may stand, and a marker has a place in bytes."""
+        rows = [
+            ("foo @ https://example.org/;os_name=='a' ; os_name == 'b'", "os_name == 'b'"),
+            ("foo @ https://example.org/\u00e9;\u00e9 ;  platform_version == '\u00e9;' ", "platform_version == '\u00e9;'"),
+            ("foo\u2003>=1 ;\u00a0os_name == 'b'", "os_name == 'b'"),
+            ("foo;os_name == ';'", "os_name == ';'"),
+            ("foo @ https://example.org/;os_name=='a'", None),
+        ]
+        for text, marker in rows:
+            given = Requirement(text).marker
+            self.assertEqual(given and given._given, marker, text)
+            self.assertEqual(given, marker and Marker(marker), text)
+
+    def test_nothing_is_printed_before_somebody_prints(self):
+        """The normal text of such a marker is exponentially long."""
+        text = " or ".join(f"extra == 'a{it}' and extra == 'b{it}'" for it in range(10, 22))
+        with mock.patch.object(_native, "marker", side_effect=AssertionError):
+            it = Requirement(f"foo ; {text}")
+            self.assertTrue(it.marker.evaluate({"extra": "a11"}) is it.marker.evaluate({"extra": "b11"}) is False)
+            self.assertEqual(it, Requirement(f"foo ; {text} or extra == 'b10' and extra == 'a10'"))
+            self.assertEqual(it._line(), f"foo ; {text}")
+            self.assertEqual(fowlyore.check([it], candidates="", extras=["a12", "b12"])[0].name, "foo")
 
     def test_refused(self):
         for text in ("", "foo=1", "foo[a", "foo>=1,<", "foo ; os_name", "foo @ ", "-r base.txt", "foo\n>=1", "foo\ud800"):
@@ -81,63 +140,74 @@ class Requirements(unittest.TestCase):
             self.assertEqual(said[-2:], ["    foo ; os_name == 'nt' and bar", " " * 30 + "^^^"], repr(text))
 
 
-class Markers(unittest.TestCase):
-    def test_evaluate(self):
+class InLists(unittest.TestCase):
+    """A requirement in a list is the text that it was read from, unless a part was set."""
+
+    def test_one_that_a_print_would_hide(self):
+        text = """evil>=1 ; os_name != "x' and sys_platform == 'win32\""""
+        candidates = {"evil": ["1.0"]}
+        self.assertEqual([str(it) for it in fowlyore.check(text, LINUX, candidates)], ["evil 1.0"])
+        self.assertEqual([str(it) for it in fowlyore.check([Requirement(text)], LINUX, candidates)], ["evil 1.0"])
+        self.assertTrue(Requirement(text).marker.evaluate(LINUX))
+
+    def test_the_same_as_its_text(self):
+        for marker in UNPRINTABLE:
+            text = f"foo>=1 ; {marker}"
+            for it in (Requirement(text), Requirement(str(Requirement(text)))):
+                self.assertTrue(fowlyore.same([it], [text]), text)
+                self.assertEqual(it, Requirement(text), text)
+
+    def test_parts_that_were_set(self):
+        for marker in UNPRINTABLE:
+            it = Requirement(f"foo>=1 ; {marker}")
+            it.extras.add("b")
+            self.assertTrue(fowlyore.same([it], [f"foo[b]>=1 ; {marker}"]), marker)
         rows = [
-            (f"os_name == '{os.name}'", None, True),
-            ("os_name == 'nt'", WINDOWS, True),
-            ("python_version < '3.13'", WINDOWS, True),
-            ("python_full_version >= '3.12.1'", WINDOWS, False),
-            ("python_full_version >= '3.12.1'", {"python_full_version": "3.12.4"}, True),
-            ("python_full_version < '3.12'", {"python_full_version": "3.11.1+"}, True),
-            ("'in32' in sys_platform", WINDOWS, True),
-            ("os_name == 'posix' or (sys_platform == 'win32' and python_version ~= '3.10')", WINDOWS, True),
-            ("extra == 'Test_It'", {"extra": "test.it"}, True),
-            ("extra == 'test'", {"extra": ""}, False),
-            ("extra == 'test'", {"extra": None}, False),
-            ("extra != 'test'", {}, True),
+            ("name", "Bar_2", "Bar_2[a]>=1 ; os_name == 'nt'"),
+            ("extras", {"b", "c"}, "foo[c,b]>=1 ; os_name == 'nt'"),
+            ("extras", set(), "foo>=1 ; os_name == 'nt'"),
+            ("specifier", SpecifierSet("<2,>=1.5"), "foo[a]>=1.5,<2 ; os_name == 'nt'"),
+            ("specifier", SpecifierSet(), "foo[a] ; os_name == 'nt'"),
+            ("marker", Marker("os.name == 'posix'"), "foo[a]>=1 ; os.name == 'posix'"),
+            ("marker", None, "foo[a]>=1"),
         ]
-        for text, environment, wanted in rows:
-            self.assertIs(Marker(text).evaluate(environment), wanted, (text, environment))
+        for part, value, text in rows:
+            for asked in (False, True):
+                it = Requirement("foo [a] >= 1 ; os_name == 'nt'")
+                before = getattr(it, part) if asked else None
+                setattr(it, part, value)
+                self.assertTrue(fowlyore.same([it], [text]), (part, value))
+                if asked:
+                    setattr(it, part, before)
+                    self.assertEqual(it._line(), "foo [a] >= 1 ; os_name == 'nt'")
 
-    def test_equal_where_they_mean_the_same(self):
-        marker = Marker("python_version > '3.7' and os_name == 'nt'")
-        self.assertEqual(marker, Marker('"nt" == os_name and python_full_version >= "3.8.0"'))
-        self.assertEqual(len({marker, Marker(str(marker))}), 1)
-        self.assertNotEqual(marker, Marker("python_version > '3.7'"))
-        self.assertNotEqual(marker, str(marker))
+    def test_a_url_that_was_set(self):
+        it = Requirement("foo[a] ; os_name == 'nt'")
+        it.url = "https://example.org/x;y"
+        self.assertTrue(fowlyore.same([it], ["foo[a] @ https://example.org/x;y ; os_name == 'nt'"]))
+        it = Requirement("foo @ https://example.org/x ; os_name == 'nt'")
+        it.url, it.specifier = None, SpecifierSet(">=1")
+        self.assertTrue(fowlyore.same([it], ["foo>=1 ; os_name == 'nt'"]))
 
-    def test_always_and_never(self):
-        always = Marker("os_name == 'nt' or os_name != 'nt'")
-        never = Marker("os_name == 'nt' and os_name == 'posix'")
-        for marker, text, holds in ((always, "python_version >= '0'", True), (never, "python_version < '0'", False)):
-            self.assertEqual(str(marker), text)
-            self.assertIs(marker.evaluate(WINDOWS), holds)
-            self.assertIs(Marker(text).evaluate(WINDOWS), holds)
+    def test_reading_parts_changes_nothing(self):
+        text = "foo [a] >= 1.0 ; os_name == 'nt'"
+        it = Requirement(text)
+        it.specifier.prereleases = True
+        self.assertEqual((it.name, it.extras, it.url, str(it.marker)), ("foo", {"a"}, None, "os_name == 'nt'"))
+        self.assertEqual([other._line() for other in (it, copy.deepcopy(it), pickle.loads(pickle.dumps(it)))], [text] * 3)
 
-    def test_refused(self):
-        no_markers = ["", "os_name", "os_name == 'nt", "no_such_key == 'a'", "os_name == 'a' os_name == 'b'", "os_name ==\n'a'"]
-        for text in no_markers:
-            with self.assertRaises(InvalidMarker, msg=text):
-                Marker(text)
-        with self.assertRaises(TypeError):
-            Marker(None)
+    def test_parts_that_no_text_has(self):
+        """What was set would be read as something else."""
+        for part, value in (
+            ("name", "foo>=2"), ("name", "foo @"), ("name", ""), ("extras", {"a,b"}), ("extras", {"a]"}),
+            ("url", "https://example.org/x ; os_name == 'nt'"), ("url", "https://example.org/x #"), ("url", "x\nbar"),
+        ):  # fmt: skip
+            it = Requirement("foo")
+            setattr(it, part, value)
+            with self.assertRaises(InvalidInput, msg=(part, value)) as found:
+                fowlyore.check(["bar", it], candidates="")
+            self.assertEqual((found.exception.input, found.exception.line), ("requirements", 2))
 
-    def test_environments_that_are_none(self):
-        for environment in ({"python_full_version": "three"}, {"implementation_version": "x"}, {"os_name": None}):
-            with self.assertRaises(UndefinedEnvironmentName, msg=environment):
-                Marker("os_name == 'nt'").evaluate(environment)
-
-    def test_extras_that_are_none(self):
-        for extra in ("a\nb", "b\n", "\nb", "\n", "no name", "-"):
-            with self.assertRaises(UndefinedEnvironmentName, msg=repr(extra)):
-                Marker("extra == 'b'").evaluate({"extra": extra})
-
-    def test_weak_references(self):
-        for it in (Marker("os_name == 'nt'"), Requirement("foo")):
-            self.assertIs(weakref.ref(it)(), it)
-
-    def test_default_environment(self):
-        environment = default_environment()
-        self.assertEqual(len(environment), 11)
-        self.assertTrue(all(isinstance(it, str) for it in environment.values()))
+    def test_ends_of_lines(self):
+        for text in ("foo\n", "\nfoo ; os_name == 'nt'\r\n", " foo\t"):
+            self.assertEqual(fowlyore.normal([Requirement(text), "bar"]), fowlyore.normal([text.strip(), "bar"]))

@@ -148,3 +148,73 @@ class Values(unittest.TestCase):
         self.assertEqual(error.text[error.start : error.end].strip(), "=2")
         with self.assertRaises(TypeError):
             Specifier(1)
+
+
+class Ranges(unittest.TestCase):
+    """As sets of points on the line of versions."""
+
+    ROWS = [
+        # left, right, whether the left one is a subset, the right one is, they are disjoint
+        (">=1.2,<2", "~=1.2", True, False, False),
+        (">=1.2", ">1.2", False, True, False),
+        (">=2", "<2", False, False, True),
+        (">=2", "<=2", False, False, False),
+        ("==1.2.*", ">=1.2", False, False, False),
+        ("==1.2.*", ">=1.2.dev0,<1.3.dev0", True, True, False),
+        ("==1.0", "==1", True, True, False),
+        ("==1.0", "==1.0+local", False, False, True),
+        ("==1.0", "!=1", False, False, True),
+        ("", ">=1,<2", False, True, False),
+        (">=2,<1", "==5", True, False, True),
+        (">1,<1.0.post1", "==1.0.post0", False, False, True),
+    ]
+
+    def test_relations(self):
+        for left, right, below, above, apart in self.ROWS:
+            one, other = SpecifierSet(left), SpecifierSet(right)
+            found = (one.is_subset(other), other.is_subset(one), one.is_disjoint(other), other.is_disjoint(one))
+            self.assertEqual(found, (below, above, apart, apart), (left, right))
+            self.assertEqual((one.is_subset(right), one.is_disjoint(right)), (below, apart))
+
+    def test_one_specifier(self):
+        for left, right, below, above, apart in self.ROWS:
+            if "," not in left + right and left:
+                one, other = Specifier(left), Specifier(right)
+                self.assertEqual((one.is_subset(other), other.is_subset(one), one.is_disjoint(other)), (below, above, apart))
+                self.assertEqual(SpecifierSet(left).is_subset(other), below)
+
+    def test_empty(self):
+        for text in (">=2,<1", "==1,==2", "==1.*,!=1.*", ">1,<1.0.post1"):
+            self.assertTrue(SpecifierSet(text).is_empty(), text)
+        for text in ("", ">=1,<=1", "<0.dev0", ">1,<1.0.1"):
+            self.assertFalse(SpecifierSet(text).is_empty(), text)
+        self.assertTrue((SpecifierSet(">=1") & "<1").is_empty())
+
+    def test_what_is_taken(self):
+        """A subset takes no more, and disjoint ones nothing together. (`===`, local and post-releases have their own rules.)"""
+        versions = [it for it in VERSIONS if "+" not in it and "post" not in it]
+        texts = [it for it in TAKEN if "+" not in it and "===" not in it]
+        taken = {it: set(SpecifierSet(it).filter(versions, prereleases=True)) for it in texts}
+        for left, right in itertools.product(texts, repeat=2):
+            one, other = SpecifierSet(left), SpecifierSet(right)
+            if one.is_subset(other):
+                self.assertLessEqual(taken[left], taken[right], (left, right))
+            if one.is_disjoint(other):
+                self.assertFalse(taken[left] & taken[right], (left, right))
+            self.assertEqual(one.is_disjoint(other), (one & other).is_empty(), (left, right))
+            self.assertTrue((one & other).is_subset(one), (left, right))
+
+    def test_refused(self):
+        greatest = 2**64 - 1
+        one = SpecifierSet(f"==1.{greatest}.*")
+        for call in (one.is_empty, lambda: one.is_subset(">=1"), lambda: SpecifierSet(">=1").is_disjoint(one)):
+            with self.assertRaises(InvalidSpecifier) as found:
+                call()
+            self.assertEqual(found.exception.text, str(one))
+        self.assertTrue(SpecifierSet(f"==1.{greatest}").is_subset(">=1"))
+        for other in ("x", ">=1;"):
+            with self.assertRaises(InvalidSpecifier):
+                one.is_subset(other)
+        for other in (1, None, Version("1")):
+            with self.assertRaises(TypeError):
+                one.is_disjoint(other)
