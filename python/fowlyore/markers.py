@@ -19,9 +19,8 @@ __all__ = [
 EvaluateContext = Literal["metadata", "lock_file", "requirement"]
 Bound = Union[None, str, Version]
 
-# Markers that hold everywhere and nowhere, for answers that have no normal text of their own.
-_ALWAYS = "python_version >= '3' or python_version < '3'"
-_NEVER = "python_version < '3' and python_version >= '3'"
+# What stands for markers that always and never hold, which have no normal text, by the library's word for them.
+_CONSTANTS = {b"1": "python_version >= '3' or python_version < '3'", b"0": "python_version < '3' and python_version >= '3'"}
 # How deep the brackets of a marker may nest.
 _DEEPEST = 256
 _PIECE = re.compile(r"""'[^']*'|"[^"]*"|[()]|\bor\b""")
@@ -200,7 +199,7 @@ class Marker:
         return self._compared() < other._compared()
 
     def is_true(self) -> bool:
-        """Whether it holds in every environment, with whatever extras.
+        """Whether it holds under all conditions (see the class).
 
         >>> Marker("os_name == 'nt' or os_name != 'nt'").is_true()
         True
@@ -208,7 +207,7 @@ class Marker:
         return self._constant() == b"1"
 
     def is_false(self) -> bool:
-        """Whether it holds in no environment, with whatever extras.
+        """Whether it holds under no condition (see the class).
 
         >>> Marker("os_name == 'nt' and os_name != 'nt'").is_false()
         True
@@ -221,7 +220,7 @@ class Marker:
         return self._truth
 
     def is_disjoint(self, other: "Marker") -> bool:
-        """Whether no environment and no extras make both markers hold.
+        """Whether both markers hold under no condition (see the class).
 
         >>> Marker("python_version < '3.8'").is_disjoint(Marker("python_full_version >= '3.8.1'"))
         True
@@ -229,7 +228,7 @@ class Marker:
         return _native.markers_disjoint(self._bytes(), other._bytes())
 
     def implies(self, other: "Marker") -> bool:
-        """Whether the other marker holds wherever this one does.
+        """Whether the other marker holds under all conditions under which this one does (see the class).
 
         >>> Marker("python_version >= '3.9'").implies(Marker("python_version >= '3.8'"))
         True
@@ -275,11 +274,11 @@ class Marker:
         return _shape_of(self._given) if self._shape is None else self._shape
 
     def _as_term(self) -> Tuple[str, int]:
-        """Its text as a term of `and`, and how deep brackets nest there. Where they would nest too deep it is the
-        normal text, in which they don't."""
+        """Its text as a term of `and`, and how deep brackets nest there. Where they would nest too deep it is another
+        text, in which they don't, if there is one."""
         text, shape = self._given, self._shaped()
         if shape.has_or and shape.depth == _DEEPEST:
-            text = str(self)
+            text = self._normal_text() or _CONSTANTS.get(self._constant(), text)
             shape = _shape_of(text)
         return (f"({text})", shape.depth + 1) if shape.has_or else (text, shape.depth)
 
@@ -319,13 +318,13 @@ class Marker:
     def _answer(self, refused: Type[Refused], call: Callable[..., str], *more: bytes) -> "Marker":
         """The marker of the normal text that a call returns. `refused` is raised where one of `more` is invalid."""
         try:
-            return marker_of(call(self._bytes(), *more) or _ALWAYS)
+            return marker_of(call(self._bytes(), *more) or _CONSTANTS[b"1"])
         except _native.Fault as fault:
             if fault.input > 1:
                 raise refused(fault.message) from None
             if fault.message != _native.NEVER_HOLDS:
                 raise InvalidMarker(fault.message, text=self._given) from None
-        return marker_of(_NEVER)
+        return marker_of(_CONSTANTS[b"0"])
 
     def evaluate(self, environment: Optional[Mapping[str, Any]] = None, context: EvaluateContext = "metadata") -> bool:
         """Whether the marker holds for the running interpreter, with the values of `environment` in place of its own. There

@@ -174,19 +174,30 @@ class Algebra(unittest.TestCase):
             self.assertEqual(left._given, right._given)
 
     def test_chains_of_both(self):
-        """The normal text stands in them where brackets would nest too deep."""
-        for start, may in (("os_name == 'nt'", True), ("""os_name == "it's\"""", False)):
-            marker = Marker(start)
+        """Where brackets would nest too deep another text stands in them, if there is one."""
+        texts = ["os_name == 'nt'", "os_name == 'nt' or sys_platform == 'b0'", NEVER, """os_name == "it's\""""]
+        for text in texts:
+            marker = Marker(text)
             for it in range(256):
                 marker = (marker | Marker(f"extra == 'a{it % 3}'")) & Marker(f"sys_platform != 'b{it % 3}'")
-            self.assertFalse(marker.is_true())
             marker |= Marker("os_name == 'c'")
-            if may:
-                marker &= Marker("os_name != 'd'")
-                self.assertTrue(marker.evaluate({"os_name": "nt", "sys_platform": "linux"}))
+            if text == texts[-1]:
+                with self.assertRaises(InvalidMarker):
+                    marker & Marker("os_name != 'd'")
                 continue
-            with self.assertRaises(InvalidMarker):
-                marker & Marker("os_name != 'd'")
+            marker &= Marker("os_name != 'd'")
+            for name, extra in (("nt", ""), ("d", "a1"), ("x", "a2"), ("c", "")):
+                wanted = name != "d" and (name == "c" or extra == "a2" or name == "nt" and text != NEVER)
+                environment = {"os_name": name, "sys_platform": "linux", "extra": extra}
+                self.assertIs(marker.evaluate(environment), wanted, (text, environment))
+
+    def test_constants_in_brackets_that_nest_deep(self):
+        one, other = Marker("os_name == 'nt'"), Marker("os_name != 'nt'")
+        always, never = one | other, one & other
+        for _ in range(256):
+            always, never = (always | one) & (one | other), (never | one & other) & other
+        self.assertTrue(always.is_true() and never.is_false())
+        self.assertEqual(((always | never) & one, (never | one & other) & one), (one, Marker(NEVER)))
 
     def test_markers_that_say_nothing(self):
         """Such a one holds by itself, but is passed over where it is joined with others in one text."""
