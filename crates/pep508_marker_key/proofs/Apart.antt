@@ -1,13 +1,12 @@
 -- Bytes that tell things apart whatever follows them, put together.
-use Rattle.std.proofs.Common.{◌≡◌, ◌↔◌, ℕ, List, [], ◌∷◌, ◌++◌, refl, ap, ap₂, sym, ◌∙◌, append_assoc, arith}
+use Rattle.std.proofs.Common.{◌≡◌, ℕ, List, [], ◌∷◌, ◌++◌, refl, ap, ap₂, sym, ◌∙◌, append_assoc, arith}
 use Rattle.std.proofs.lemmas.List.{append-nil}
 use Rattle.std.proofs.lemmas.Map.Lookups.{exact_bytes}
 use Rattle.std.specs.declared.cmp.Ordering.{Ordering}
 use Rattle.std.specs.declared.cmp.Ordering.TheVariants.{Less, Equal, Greater}
-use Rattle.std.specs.Ordering.{ordering_then, then_cmp, on, nat_cmp, is_eq}
+use Rattle.std.specs.Ordering.{ordering_then, then_cmp, nat_cmp, is_eq}
 use Rattle.std.specs.Cmp.{tied_itself, unsigned_tied, unsigned_Decides}
 use Rattle.std.specs.Cmp.Lexicographic.{slice_cmp, nat_list_cmp_total}
-use Rattle.version_ranges.specs.declared.boundary.Boundary.{Boundary}
 use Rattle.version_ranges.specs.declared.boundary.Boundary.TheVariants.{At, JustAbove}
 use Rattle.version_ranges.specs.Boundaries.{boundary_cmp}
 use Rattle.version_ranges.specs.HashingLaws.{then_equal}

@@ -1,5 +1,5 @@
 -- Keys are the same exactly where diagrams mean the same.
-use Rattle.std.proofs.Common.{◌≡◌, List, [], ◌++◌, None, ap}
+use Rattle.std.proofs.Common.{[], ◌++◌, None, ap}
 use Rattle.pep508_diagram.specs.Question.{marker}
 use Rattle.pep508_diagram.proofs.Alike.{alike_truth}
 use Rattle.pep508_diagram.proofs.Questions.{asks, one_marker_diagram}

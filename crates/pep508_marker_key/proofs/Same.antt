@@ -1,8 +1,7 @@
 -- What is written of diagrams is the same where they are one, and tells apart those that aren't.
 use Rattle.std.proofs.Common.{◌≡◌, ◌⊎◌, inl, inr, ℕ, ◌+◌, Bool, true, false, cond, List, [], ◌∷◌, ◌++◌, Option}
-use Rattle.std.proofs.Common.{Some, None, refl, ap, ap₂, sym, subst, ◌∙◌, append_assoc, arith, nat_cmp}
+use Rattle.std.proofs.Common.{Some, None, refl, ap, ap₂, sym, subst, ◌∙◌, append_assoc, arith}
 use Rattle.std.specs.declared.cmp.Ordering.TheVariants.{Equal}
-use Rattle.std.specs.Cmp.{unsigned_tied}
 use Rattle.pep440_key.specs.Key.{number_bytes}
 use Rattle.pep508_diagram.specs.Diagram.{Diagram, Leaf, Test, Asking, IsAsking, IsAlike}
 use Rattle.pep508_diagram.proofs.Alike.{shares_equal}
