@@ -1,2 +1,3 @@
 pub mod VersionTexts
 pub mod ListTexts
+pub mod RangeAnswers

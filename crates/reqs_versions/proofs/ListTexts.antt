@@ -1,5 +1,5 @@
 -- Texts that are no lists of specifiers, for their first piece that is none.
-use Rattle.std.proofs.Common.{◌≡◌, ◌≢◌, ◌∙◌, ◌-◌, ℕ, true, List, Option, Some, None, Err, ap, refl, sym}
+use Rattle.std.proofs.Common.{◌≡◌, ◌≢◌, ◌∙◌, ◌-◌, ℕ, true, List, Option, Some, None, ap, refl, sym}
 use Rattle.std.specs.Option.{option_map}
 use Rattle.std.specs.Str.{is_utf8}
 use Rattle.read_outcome.specs.Outcome.{Tells}
@@ -11,11 +11,11 @@ use Rattle.reqs_reply.specs.declared.place.Place.{Place}
 use Rattle.reqs_reply.specs.Endings.{span}
 use Rattle.reqs_versions.specs.Specifiers.{IsNoList}
 
-module _ (bytes text line : List ℕ) (start end : ℕ) (error : VersionSpecifierParseError)
+module _ (input : ℕ) (bytes text line : List ℕ) (start end : ℕ) (error : VersionSpecifierParseError)
     (e : is_utf8 bytes ≡ true) (is : text ≡ bytes) where
   by_fault : (told : Option SpecifierFault) → told_specifier error ≡ told → told ≢ None
       → Tells (option_map (fault_at line start end) told) (list_reading text)
-      → IsNoList bytes (span 1 start (end - start)) (specifier_error_text error)
+      → IsNoList input bytes (span input start (end - start)) (specifier_error_text error)
   by_fault None t plain tells = absurd (plain refl)
   by_fault (Some fault) t plain tells = record {
     fault = fault_at line start end fault;
@@ -28,10 +28,10 @@ module _ (bytes text line : List ℕ) (start end : ℕ) (error : VersionSpecifie
   }
 
   -- the piece's error tells its fault, and the piece's ends are told
-  pub no_list : (place : Place) (from to : ℕ) → place ≡ span 1 from (to - from) → from ≡ start → to ≡ end
+  pub no_list : (place : Place) (from to : ℕ) → place ≡ span input from (to - from) → from ≡ start → to ≡ end
       → told_specifier error ≢ None
       → Tells (option_map (fault_at line start end) (told_specifier error)) (list_reading text)
-      → IsNoList bytes place (specifier_error_text error)
+      → IsNoList input bytes place (specifier_error_text error)
   no_list place from to stands starts ends plain tells =
-      let there : place ≡ span 1 start (end - start) = cc in
+      let there : place ≡ span input start (end - start) = cc in
       rw there (by_fault (told_specifier error) refl plain tells)

@@ -12,27 +12,29 @@ use Rattle.pep440_specifier.specs.declared.parse_error.VersionSpecifierParseErro
 use Rattle.pep440_specifier_list.specs.Lists.{matches_all}
 use Rattle.pep440_specifier_list.specs.ListReading.{ListFault, list_reading, ReadsList}
 use Rattle.reqs_reply.specs.declared.place.Place.{Place}
-use Rattle.reqs_reply.specs.Endings.{Ending, EndsIn, NoAnswer, span, IsNotText}
+use Rattle.reqs_reply.specs.Endings.{Ending, EndsIn, span, IsNotText}
 use Rattle.reqs_reply.specs.Lines.{batch_lines}
 use Rattle.reqs_versions.specs.Versions.{version_in}
 
--- the first argument's bytes are the text of this list, whose members stand by their versions
+-- bytes are the text of this list, whose members stand by their versions
 abbrev pub IsListIn : List ℕ → List SpecifierRecord → Type 0
 IsListIn bytes list = (is_utf8 bytes ≡ true) × ReadsList (Ok list) bytes
 
--- they are a text whose first piece that is no specifier stands there, and the message tells its fault
-pub record IsNoList (bytes : List ℕ) (place : Place) (message : List ℕ) : Type 0 where
+-- the argument of this number is a text whose first piece that is no specifier stands there, and the message
+-- tells its fault
+pub record IsNoList (input : ℕ) (bytes : List ℕ) (place : Place) (message : List ℕ) : Type 0 where
   pub fault : ListFault
   pub error : VersionSpecifierParseError
   pub is_utf8_text : is_utf8 bytes ≡ true
   pub reading : list_reading bytes ≡ Err fault
   pub tells : told_specifier error ≡ Some fault.fault
-  pub stands : place ≡ span 1 fault.start (fault.end - fault.start)
+  pub stands : place ≡ span input fault.start (fault.end - fault.start)
   pub says : message ≡ specifier_error_text error
 
--- why they are refused
-abbrev pub RefusesList : List ℕ → Place → List ℕ → Type 0
-RefusesList bytes place message = IsNotText 1 bytes place message ⊎ IsNoList bytes place message
+-- why the argument of this number is refused
+abbrev pub RefusesList : ℕ → List ℕ → Place → List ℕ → Type 0
+RefusesList input bytes place message =
+    IsNotText input bytes place message ⊎ IsNoList input bytes place message
 
 -- ---- members
 
@@ -48,7 +50,7 @@ pub record AreMembers (bytes text : List ℕ) : Type 0 where
 
 -- how a call ends that is to give the members of a list
 abbrev pub SpecifiersEnd : List ℕ → Ending → Type 0
-SpecifiersEnd bytes = EndsIn (AreMembers bytes) (RefusesList bytes)
+SpecifiersEnd bytes = EndsIn (AreMembers bytes) (RefusesList 1 bytes)
 
 -- ---- matching
 
@@ -65,4 +67,4 @@ pub record AreTaken (bytes versions text : List ℕ) : Type 0 where
 
 -- how a call ends that is to say which versions a list takes
 abbrev pub TakesEnd : List ℕ → List ℕ → Ending → Type 0
-TakesEnd bytes versions = EndsIn (AreTaken bytes versions) (RefusesList bytes)
+TakesEnd bytes versions = EndsIn (AreTaken bytes versions) (RefusesList 1 bytes)

@@ -2,7 +2,9 @@
 #![tactic(auto)]
 
 mod lists;
+mod ranges;
 mod versions;
 
 pub use lists::{specifiers, specifiers_take};
+pub use ranges::{specifiers_disjoint, specifiers_empty, specifiers_subset};
 pub use versions::{version, version_key, version_order};

@@ -14,18 +14,18 @@ use reqs_reply::{Ended, Place, Reply, batch_lines, text_of};
 use std::alloc::{AllocError, Global};
 use std::fmt::Write;
 
-/// The list that the first argument's text is, or how the call ends where it is none.
-fn read_list(alloc: Global, bytes: &[u8]) -> Result<VersionSpecifiers, Ended>
+/// The list that the text of the argument of this number is, or how the call ends where it is none.
+pub(crate) fn read_list(alloc: Global, input: u32, bytes: &[u8]) -> Result<VersionSpecifiers, Ended>
     ensures list { IfOk result (λ list. IsListIn bytes.now list) }
-    ensures none { IfErr result (λ ended. EndsIn NoAnswer (RefusesList bytes.now) (ending_of ended)) }
+    ensures none { IfErr result (λ ended. EndsIn NoAnswer (RefusesList input bytes.now) (ending_of ended)) }
 {
-    let text = text_of(alloc, 1, bytes)?;
+    let text = text_of(alloc, input, bytes)?;
     match VersionSpecifiers::from_str(alloc, text) {
         Ok(list) => Ok(list),
         Err(VersionSpecifiersParseError::Memory) => Err(Ended::OutOfMemory),
         Err(VersionSpecifiersParseError::Specifier(piece)) => {
             let start = piece.start();
-            let place = Place::span(1, start, piece.end() - start);
+            let place = Place::span(input, start, piece.end() - start);
             Err(Ended::refused(place, piece.error().to_string(alloc)))
         }
     }
@@ -45,7 +45,7 @@ pub fn specifiers(alloc: Global, bytes: &[u8], out: &mut [u8]) -> Reply
 fn members(alloc: Global, bytes: &[u8]) -> Ended
     ensures { SpecifiersEnd bytes.now (ending_of result) }
 {
-    match read_list(alloc, bytes) {
+    match read_list(alloc, 1, bytes) {
         Ok(list) => Ended::answered(member_lines(alloc, &list)),
         Err(ended) => ended,
     }
@@ -77,7 +77,7 @@ pub fn specifiers_take(alloc: Global, bytes: &[u8], versions: &[u8], out: &mut [
 fn taken(alloc: Global, bytes: &[u8], versions: &[u8]) -> Ended
     ensures { TakesEnd bytes.now versions.now (ending_of result) }
 {
-    let list = match read_list(alloc, bytes) {
+    let list = match read_list(alloc, 1, bytes) {
         Ok(list) => list,
         Err(ended) => return ended,
     };

@@ -8,11 +8,12 @@ use Rattle.reqs_versions.proofs.lists.read_list.Goals as goal
 
 pub returns-in-Err-Specifier-clause-none : goal.returns-in-Err-Specifier-clause-none
 returns-in-Err-Specifier-clause-none c =
+    let input = c.args.input in
     let bytes = c.args.bytes.now in
     let piece = c.in-Err-Specifier.piece in
     let read = c.in_ok-text.ensures in
     let tells = (rw c.in-Err-Specifier.field-0-is at c.in-Err-Specifier.ensures).answered in
-    refused_with NoAnswer (RefusesList bytes) c.span-place.result c.to_string.result _ (specifier_error_text piece.error)
+    refused_with NoAnswer (RefusesList input bytes) c.span-place.result c.to_string.result _ (specifier_error_text piece.error)
     c.refused.ensures (rw c.error.ensures.error at c.to_string.ensures.ok)
-    (inr (no_list bytes _ _ piece.start piece.end piece.error read.is_text read.text c.span-place.result _ _
+    (inr (no_list input bytes _ _ piece.start piece.end piece.error read.is_text read.text c.span-place.result _ _
     c.span-place.ensures c.start-start.ensures.start c.end.ensures.end c.error.ensures.plain tells))

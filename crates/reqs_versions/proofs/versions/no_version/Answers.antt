@@ -1,4 +1,4 @@
-use Rattle.std.proofs.Common.{inr, length, refl}
+use Rattle.std.proofs.Common.{inr, refl}
 use Rattle.pep440_version.specs.ErrorPrints.{version_error_text}
 use Rattle.reqs_reply.specs.Endings.{NoAnswer}
 use Rattle.reqs_reply.proofs.Ends.{refused_with}

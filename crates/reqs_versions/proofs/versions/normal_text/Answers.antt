@@ -1,6 +1,6 @@
 use Rattle.std.proofs.Common.{refl}
 use Rattle.pep440_version.specs.Print.{version_text}
-use Rattle.reqs_reply.proofs.Ends.{answered_with, refused}
+use Rattle.reqs_reply.proofs.Ends.{answered_with}
 use Rattle.reqs_versions.specs.Versions.{IsNormalText, RefusesVersion}
 use Rattle.reqs_versions.proofs.VersionTexts.{in_text}
 use Rattle.reqs_versions.proofs.versions.normal_text.Goals as goal

@@ -1,0 +1,166 @@
+//! Lists of specifiers as ranges: sets of points on the line of versions, at versions and between them.
+
+ghost use Rattle.std.specs.Prelude.{◌≡◌, IfOk, IfErr, MatchBool};
+ghost use Rattle.std.specs.Result.{IsOkAnd};
+ghost use Rattle.version_ranges.specs.Held.{holds_at};
+ghost use Rattle.pep440_version.specs.Order.{version_cmp};
+ghost use Rattle.reqs_reply.specs.Endings.{EndsIn, NoAnswer, RepliesAs, ending_of};
+ghost use Rattle.reqs_versions.specs.Ranges.{IsRangeIn, RefusesRange, RefusesRanges};
+ghost use Rattle.reqs_versions.specs.Ranges.{AreDisjoint, Meet, IsSubset, GoesBeyond, IsEmpty, HoldsSome};
+ghost use Rattle.reqs_versions.specs.Ranges.{yes_or_no, NoRefusal};
+ghost use Rattle.reqs_versions.specs.Ranges.{RangesDisjointEnds, SubsetEnds, EmptyEnds};
+
+use crate::lists::read_list;
+use pep440_range::{RangeError, specifiers_to_range};
+use pep440_version::Version;
+use reqs_reply::{Ended, Place, Reply};
+use std::alloc::{AllocError, Global};
+use version_ranges::Ranges;
+use version_ranges::laws::every_set_is_normal;
+
+/// The range of the list that the text of the argument of this number is, or how the call ends where there is
+/// none.
+fn read_range(alloc: Global, input: u32, bytes: &[u8]) -> Result<Ranges<Version>, Ended>
+    ensures range { IfOk result (λ set. IsRangeIn bytes.now (holds_at version_cmp set)) }
+    ensures none { IfErr result (λ ended. EndsIn NoAnswer (RefusesRange input bytes.now) (ending_of ended)) }
+{
+    let list = read_list(alloc, input, bytes)?;
+    match specifiers_to_range(alloc, &list) {
+        Ok(range) => Ok(range),
+        Err(RangeError::Memory) => Err(Ended::OutOfMemory),
+        Err(error) => Err(Ended::refused(Place::span(input, 0, 0), error.to_string(alloc))),
+    }
+}
+
+/// The ranges of two lists, the first argument and the second.
+fn read_ranges(
+    alloc: Global,
+    left: &[u8],
+    right: &[u8],
+) -> Result<(Ranges<Version>, Ranges<Version>), Ended>
+    ensures left { IfOk result (λ ranges. IsRangeIn left.now (holds_at version_cmp ranges.0)) }
+    ensures right { IfOk result (λ ranges. IsRangeIn right.now (holds_at version_cmp ranges.1)) }
+    ensures none { IfErr result (λ ended.
+        EndsIn NoAnswer (RefusesRanges left.now right.now) (ending_of ended)) }
+{
+    let left = read_range(alloc, 1, left)?;
+    let right = read_range(alloc, 2, right)?;
+    Ok((left, right))
+}
+
+/// Answers whether no point lies in the ranges of both lists, `1` or `0`. A text that is no list is refused, and
+/// so is a list that has no range.
+///
+/// Linear in the texts; n specifiers take O(n log n) comparisons of versions.
+pub fn specifiers_disjoint(alloc: Global, left: &[u8], right: &[u8], out: &mut [u8]) -> Reply
+    ensures { RepliesAs (RangesDisjointEnds left.now right.now) out.old out.new result }
+{
+    disjoint_ranges(alloc, left, right).reply(out)
+}
+
+/// How the call ends that says whether two ranges share no point.
+fn disjoint_ranges(alloc: Global, left: &[u8], right: &[u8]) -> Ended
+    ensures { RangesDisjointEnds left.now right.now (ending_of result) }
+{
+    match read_ranges(alloc, left, right) {
+        Ok((left, right)) => whether(alloc, are_disjoint(alloc, &left, &right)),
+        Err(ended) => ended,
+    }
+}
+
+/// Whether no point lies in both ranges.
+#[tactic(auto, using(crate::proofs::RangeAnswers::disjoint_by))]
+fn are_disjoint(
+    alloc: Global,
+    left: &Ranges<Version>,
+    right: &Ranges<Version>,
+) -> Result<bool, AllocError>
+    ensures { IfOk result (λ answer. MatchBool answer
+        (AreDisjoint (holds_at version_cmp left.now) (holds_at version_cmp right.now))
+        (Meet (holds_at version_cmp left.now) (holds_at version_cmp right.now))) }
+{
+    let both = left.intersection(alloc, right)?;
+    Ok(is_empty(&both))
+}
+
+/// Answers whether each point of the left list's range lies in that of the right list, `1` or `0`. A text
+/// that is no list is refused, and so is a list that has no range.
+///
+/// Linear in the texts; n specifiers take O(n log n) comparisons of versions.
+pub fn specifiers_subset(alloc: Global, left: &[u8], right: &[u8], out: &mut [u8]) -> Reply
+    ensures { RepliesAs (SubsetEnds left.now right.now) out.old out.new result }
+{
+    subset_of_range(alloc, left, right).reply(out)
+}
+
+/// How the call ends that says whether one range lies in another.
+fn subset_of_range(alloc: Global, left: &[u8], right: &[u8]) -> Ended
+    ensures { SubsetEnds left.now right.now (ending_of result) }
+{
+    match read_ranges(alloc, left, right) {
+        Ok((left, right)) => whether(alloc, is_subset(alloc, &left, &right)),
+        Err(ended) => ended,
+    }
+}
+
+/// Whether each point of the left range lies in the right one.
+fn is_subset(
+    alloc: Global,
+    left: &Ranges<Version>,
+    right: &Ranges<Version>,
+) -> Result<bool, AllocError>
+    ensures { IfOk result (λ answer. MatchBool answer
+        (IsSubset (holds_at version_cmp left.now) (holds_at version_cmp right.now))
+        (GoesBeyond (holds_at version_cmp left.now) (holds_at version_cmp right.now))) }
+{
+    let others = right.complement(alloc)?;
+    let both = left.intersection(alloc, &others)?;
+    Ok(is_empty(&both))
+}
+
+/// Answers whether no point lies in the range of a list, `1` or `0`. A text that is no list is refused, and so
+/// is a list that has no range.
+///
+/// Linear in the text; n specifiers take O(n log n) comparisons of versions.
+pub fn specifiers_empty(alloc: Global, bytes: &[u8], out: &mut [u8]) -> Reply
+    ensures { RepliesAs (EmptyEnds bytes.now) out.old out.new result }
+{
+    empty_range(alloc, bytes).reply(out)
+}
+
+/// How the call ends that says whether a range is empty.
+fn empty_range(alloc: Global, bytes: &[u8]) -> Ended
+    ensures { EmptyEnds bytes.now (ending_of result) }
+{
+    match read_range(alloc, 1, bytes) {
+        Ok(range) => mark(alloc, is_empty(&range)),
+        Err(ended) => ended,
+    }
+}
+
+/// Whether no point lies in the range.
+#[tactic(auto, using(crate::proofs::RangeAnswers::empty_by))]
+fn is_empty(range: &Ranges<Version>) -> bool
+    ensures { MatchBool result (IsEmpty (holds_at version_cmp range.now))
+        (HoldsSome (holds_at version_cmp range.now)) }
+{
+    every_set_is_normal(range);
+    range.is_empty()
+}
+
+/// The call ends with `1` or `0` by an answer, for which memory may have run out.
+fn whether(alloc: Global, answer: Result<bool, AllocError>) -> Ended
+    ensures { EndsIn (λ text. IsOkAnd answer (λ b. text ≡ yes_or_no b)) NoRefusal (ending_of result) }
+{
+    match answer {
+        Ok(answer) => mark(alloc, answer),
+        Err(_) => Ended::OutOfMemory,
+    }
+}
+
+/// The call ends with `1` or `0`, by this answer.
+fn mark(alloc: Global, answer: bool) -> Ended
+    ensures { EndsIn (λ text. text ≡ yes_or_no answer) NoRefusal (ending_of result) }
+{
+    Ended::answered(String::from_str(alloc, if answer { "1" } else { "0" }))
+}
