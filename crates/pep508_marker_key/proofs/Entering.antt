@@ -1,14 +1,12 @@
 -- Trees that are entered: constants, trees that were written before, and others.
 use Rattle.std.proofs.Common.{◌≡◌, ℕ, ◌+◌, Bool, true, false, cond, List, [], ◌∷◌, ◌++◌, map}
 use Rattle.std.proofs.Common.{refl, sym, ap, subst, ◌∙◌, arith, Option, Some, None, append_assoc}
-use Rattle.std.proofs.Common.{true≢false}
 use Rattle.std.specs.List.{AllByRecursion}
 use Rattle.std.specs.Ordering.{is_eq}
 use Rattle.std.proofs.lemmas.List.{append-nil, map-append}
-use Rattle.std.proofs.Common.{◌&&◌}
 use Rattle.version_ranges.specs.Turns.{flips}
 use Rattle.pep440_key.specs.Key.{number_bytes}
-use Rattle.pep508_diagram.specs.Diagram.{Diagram, Leaf, Test, Asking, IsAlike}
+use Rattle.pep508_diagram.specs.Diagram.{IsAlike}
 use Rattle.pep508_diagram.specs.Question.{marker}
 use Rattle.pep508_diagram.proofs.Alike.{alike_itself}
 use Rattle.pep508_diagram.proofs.Places.{equal_from}
