@@ -130,16 +130,9 @@ class _Question:
         rows = rows_of(answered(_native.check, asked, self.environment, offered, self.extras))
         return {it.name: it for it in rows}
 
-    def applying(self, lines: List[_Asking]) -> List[_Asking]:
-        """The lines that apply."""
-        found: List[_Asking] = []
-        for batch in _batches(lines):
-            rows = self.rows("".join(it.of(it.alias) for it in batch))
-            found += (it for it in batch if it.alias in rows)
-        return found
-
     def refusing(self, version: Version, lines: List[_Asking]) -> List[_Asking]:
-        """Which of some lines that apply refuse a candidate: each is asked as a package of its own, all of them at once."""
+        """Which of some lines refuse a candidate: each is asked as a package of its own, all of them at once. One that doesn't
+        apply refuses none."""
         found: List[_Asking] = []
         for batch in _batches(lines):
             asked = "".join(it.of(it.alias) + _admitting(it.alias) for it in batch)
@@ -148,7 +141,7 @@ class _Question:
         return found
 
     def taken_by_all(self, lines: List[_Asking], versions: Iterable[Version]) -> Optional[Version]:
-        """The greatest candidate that all of some lines that apply accept."""
+        """The greatest candidate that all of some lines accept, but for those that don't apply."""
         asked = "".join(it.of("all") for it in lines) + _admitting("all")
         return self.rows(asked, "".join(f"all {it}\n" for it in versions))["all"].version
 
@@ -172,7 +165,7 @@ def explain(
 ) -> List[Explanation]:
     """For each row of `check` that is `none`, by name, why it is; the arguments are those of `check`.
 
-    Beside the library's call for `check` it makes for each such package with candidates at most five calls over its own lines,
+    Beside the library's call for `check` it makes for each such package with candidates at most four calls over its own lines,
     one of them with all its candidates; and for each line that refuses the three greatest ones a call with the others.
 
     >>> for it in explain(["foo!=2.1", "foo>=1", "foo<2,!=1.5"], candidates={"foo": ["0.9", "1.5", "2.1"]}):
@@ -231,10 +224,9 @@ def _versions_of(text: str, names: List[str]) -> Dict[str, List[Version]]:
     return {name: sorted(it.values(), reverse=True) for name, it in found.items()}
 
 
-def _explanation(name: str, asking: List[_Asking], versions: List[Version], question: _Question) -> Explanation:
+def _explanation(name: str, lines: List[_Asking], versions: List[Version], question: _Question) -> Explanation:
     if not versions:
         return Explanation(name)
-    lines = question.applying(asking)
     refusals = [(it, question.refusing(it, lines)) for it in versions[:NAMED]]
     without = _without_candidate([of_version for _, of_version in refusals], versions[NAMED:], question)
     if without:
@@ -243,9 +235,7 @@ def _explanation(name: str, asking: List[_Asking], versions: List[Version], ques
     return Explanation(name, versions[0], len(versions), (), told, question.taken_by_all(lines, versions))
 
 
-def _without_candidate(
-    refusing: List[List[_Asking]], others: List[Version], question: _Question
-) -> Tuple[Line, ...]:
+def _without_candidate(refusing: List[List[_Asking]], others: List[Version], question: _Question) -> Tuple[Line, ...]:
     """The lines that refuse the greatest candidates and the others too."""
     of_all = set(refusing[0]).intersection(*refusing[1:])
     lines = [it for it in refusing[0] if it in of_all]

@@ -18,6 +18,8 @@ ADMITTING = "{}>=0.dev0"
 NAMES = {"foo-bar": ["foo-bar", "Foo_Bar", "FOO.bar"], "b": ["b", "B"], "c": ["c"]}
 VERSIONS = ["0.9", "1", "1.0", "1.0.0", "1.0a1", "1.0rc1", "1.0.post1", "1.0.dev2", "1.1", "1.5", "2.0b1", "2.0", "2.1", "3"]
 OTHERS = ["1.0+x", "2.1+cpu.1", "1!0.1"]
+# Other texts of some of these.
+SPELLINGS = ["v1.0", "1.0-RC1", "2.1+CPU-1", "2.0.0"]
 # Specifiers that accept most versions, and all kinds of them.
 MILD = [f"!={it}" for it in [*VERSIONS, *OTHERS, "1.*", "1.0.*", "2.*", "3.*"]] + ["<3", "<2", ">=1", ">1.0", "~=1.0", "<1.1"]
 EACH = MILD + [f"{sign}{it}" for sign in ("<", "<=", ">", ">=", "==", "===") for it in VERSIONS]
@@ -102,7 +104,7 @@ class Calls(unittest.TestCase):
         candidates = "".join(f"a {it}\n" for it in range(200)) + "b 1\nb 2\nd 1\n"
         found, sizes = self.asked(lines, ENVIRONMENT, candidates)
         self.assertEqual([it.name for it in found], ["a", "b", "c"])
-        self.assertLessEqual(len(sizes), 1 + 5 + 4)
+        self.assertLessEqual(len(sizes), 1 + 4 + 3)
         whole = len("\n".join(lines)) + len(candidates)
         self.assertLessEqual(sum(sizes), 30 * whole)
 
@@ -111,7 +113,7 @@ class Calls(unittest.TestCase):
         found, sizes = self.asked(lines, ENVIRONMENT, {"a": [str(it) for it in range(15)]})
         self.assertEqual([it.number for it in found[0].lines_without_candidate], [16, 17, 18, 19, 20])
         # (each of 12, 13 and 14 is accepted by some line)
-        self.assertLessEqual(len(sizes), 1 + 5 + 17)
+        self.assertLessEqual(len(sizes), 1 + 3 + 17)
 
     def test_large_texts(self):
         """Of the lines no more is asked at once than a call reads, though each is asked with another name."""
@@ -130,7 +132,7 @@ class Made:
         self.lines = [self.line(choose, specifiers) for _ in range(choose.randint(1, 18))]
         self.extras = choose.choice([(), ("test",), ("other", "Test")])
         offered = [it for it in sorted(NAMES) for _ in range(choose.choice([0, 2, 3, 4, 4, 5, 6, 9]))]
-        self.pairs = [(choose.choice(NAMES[it]), choose.choice(VERSIONS + OTHERS)) for it in offered]
+        self.pairs = [(choose.choice(NAMES[it]), choose.choice(VERSIONS + OTHERS + SPELLINGS)) for it in offered]
         choose.shuffle(self.pairs)
         self.versions = {it: [version for name, version in self.pairs if name in NAMES[it]] for it in NAMES}
 
