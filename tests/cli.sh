@@ -633,6 +633,71 @@ wants "no rows, and nothing to write" 0 "" ""
 status=$?
 wants "help that can't be written" 3 "" ANYTHING
 
+# Standard streams that are closed: none of them becomes an input, and no input becomes one of them.
+
+# without STREAMS WORDS..: runs the program as `run` does, but for the streams that are closed, as `01`.
+without() {
+    local streams=$1
+    shift
+    : >out
+    : >err
+    (
+        exec >out 2>err </dev/null
+        [[ $streams != *0* ]] || exec <&-
+        [[ $streams != *1* ]] || exec >&-
+        [[ $streams != *2* ]] || exec 2>&-
+        exec "$program" "$@"
+    )
+    status=$?
+}
+
+# refuses STREAMS TEXT WORDS..: runs the program without the streams, and wants a fault that this text names, where
+# standard error is open.
+refuses() {
+    local streams=$1 said="reqs: $2$n"
+    shift 2
+    without "$streams" "$@"
+    [[ $streams != *2* ]] || said=""
+    wants "$*, without $streams" 3 "" "$said"
+}
+
+inputs=(R E C M wider apart unread empty)
+cat "${inputs[@]}" >before
+for words in "check R E C" "matrix R M C" "same R wider" "conflicts apart" "normal R"; do
+    read -r -a given <<<"$words"
+    run "${given[@]}"
+    open=$status
+    answer=$(cat out)
+    for streams in 0 2 02; do
+        without $streams "${given[@]}"
+        wants "$words, without $streams" "$open" "$answer$n" ""
+    done
+    for streams in 1 01 12 012; do
+        refuses $streams "write fault" "${given[@]}"
+    done
+    for ((place = 1; place < ${#given[@]}; place++)); do
+        for streams in 0 01 02 012; do
+            refuses $streams "-: read fault" "${given[@]:0:place}" - "${given[@]:place+1}"
+        done
+    done
+done
+refuses 0 "/dev/stdin: read fault" same R /dev/stdin
+without 0 same - R --format json
+wants "a closed standard input, as an object" 3 "" "$(object read null null 'read fault' '"-"' null)$n"
+without 02 check unread E C
+wants "a refused list, without 02" 2 "" ""
+without 01 check empty E C
+wants "no rows, and nothing to write, without 01" 0 "" ""
+without 02 frobnicate
+wants "an unknown command, without 02" 2 "" ""
+for word in --help --version; do
+    without 01 $word
+    wants "$word, without 01" 3 "" ANYTHING
+done
+cat "${inputs[@]}" >out 2>err
+status=$?
+wants "the inputs afterwards" 0 "$(cat before)$n" ""
+
 # Words.
 run --help
 wants "--help" 0 "$(cat "$top/tests/help.txt")$n" ""

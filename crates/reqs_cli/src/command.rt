@@ -1,15 +1,16 @@
 //! The command line: which files are opened, what is said of a fault, and the exit status.
 
-ghost use Rattle.std.specs.Prelude.{◌≡◌, map, string_bytes, Result, IfErr};
+ghost use Rattle.std.specs.Prelude.{◌≡◌, map, string_bytes, Result, IfErr, IfOk};
 ghost use Rattle.std.specs.Process.{exit_status};
 ghost use Rattle.reqs_ends.specs.Faults.{status_of};
 ghost use Rattle.reqs_cli.specs.Exits.{status_after};
 ghost use Rattle.reqs_cli.specs.Opened.{RunsOpened};
+ghost use Rattle.reqs_cli.specs.Source.{IfFile, IsAboveStandard};
 ghost use Rattle.reqs_cli.specs.Variables.{variables_in};
 
 use crate::asked::{Asked, format_of, matches};
 use crate::opened::{open_all, run_read};
-use crate::source::Source;
+use crate::source::{Source, open_file};
 use crate::variables::{entries, variables};
 use crate::words::{WordsFault, words};
 use clap::error::ErrorKind;
@@ -17,8 +18,8 @@ use clap::{ArgMatches, Error};
 use reqs::{Format, Input, RunFault, Status};
 use reqs_json::{fault_line, memory_line, usage_line};
 use std::alloc::Global;
-use std::fs::File;
 use std::io::{self, Read, Write};
+use std::os::fd::AsRawFd;
 use std::process::ExitCode;
 use std::rt::Runtime;
 
@@ -32,7 +33,10 @@ const MEMORY_STATUS: u8 = 3;
 const STANDARD_INPUT: &str = "-";
 
 /// Runs the command that the process was started with.
-pub fn run<R: Runtime + AllocGlobal>(rt: &R) -> ExitCode {
+pub fn run<R: Runtime + AllocGlobal>(rt: &R) -> ExitCode
+where
+    R::File: AsRawFd,
+{
     let words = match words(rt, rt.alloc()) {
         Ok(words) => words,
         Err(WordsFault::NotText(word)) => return refuse_word(rt, word.as_str()),
@@ -48,7 +52,10 @@ pub fn run<R: Runtime + AllocGlobal>(rt: &R) -> ExitCode {
 }
 
 /// Runs the command of this name.
-fn run_named<R: Runtime + AllocGlobal>(rt: &R, name: &str, given: &ArgMatches<'_>) -> ExitCode {
+fn run_named<R: Runtime + AllocGlobal>(rt: &R, name: &str, given: &ArgMatches<'_>) -> ExitCode
+where
+    R::File: AsRawFd,
+{
     match Asked::of_words(name, given) {
         Some(asked) => run_asked(rt, asked, format_of(given), given),
         None => ExitCode::from(USAGE_STATUS),
@@ -84,7 +91,10 @@ fn run_asked<R: Runtime + AllocGlobal>(
     asked: Asked,
     format: Format,
     given: &ArgMatches<'_>,
-) -> ExitCode {
+) -> ExitCode
+where
+    R::File: AsRawFd,
+{
     let Ok(paths) = asked.paths(rt.alloc(), given) else {
         return end_without_memory(rt, format, MEMORY_STATUS);
     };
@@ -220,18 +230,21 @@ fn end_without_memory<R: Eprint>(rt: &R, format: Format, status: u8) -> ExitCode
     }
 }
 
-/// Opens an input.
+/// Opens an input, a file under none of the descriptors of the standard streams.
 fn open<R: Runtime>(
     rt: &R,
     input: Input,
     path: &str,
 ) -> Result<Source<R::File, R::Reader>, RunFault>
-    ensures { IfErr result (λ fault. fault ≡ RunFault.Read input) }
+where
+    R::File: AsRawFd,
+    ensures refused { IfErr result (λ fault. fault ≡ RunFault.Read input) }
+    ensures above { IfOk result (λ source. IfFile (λ file. IsAboveStandard (R.File.raw_fd file)) source) }
 {
     if path == STANDARD_INPUT {
         return Ok(Source::Standard(rt.reader()));
     }
-    match File::open(rt, path) {
+    match open_file(rt, path) {
         Ok(file) => Ok(Source::File(file)),
         Err(_) => Err(RunFault::Read { input }),
     }

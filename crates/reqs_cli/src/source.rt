@@ -1,6 +1,14 @@
 //! Where an input comes from.
 
-use std::io::{self, Read};
+ghost use Rattle.std.specs.Prelude.{IfOk};
+ghost use Rattle.reqs_cli.specs.Source.{IsAboveStandard};
+
+use std::fs::{File, Files, OpenFile};
+use std::io::{self, ErrorKind, Read};
+use std::os::fd::{AsRawFd, RawFd};
+
+/// The descriptor of standard error, the last of the standard streams.
+const LAST_STANDARD: RawFd = 2;
 
 /// A file, or standard input.
 #[derive(Drop)]
@@ -15,5 +23,25 @@ impl<F: Read + Drop, I: Read + Drop> Read for Source<F, I> {
             Source::File(file) => file.read(buf),
             Source::Standard(input) => input.read(buf),
         }
+    }
+}
+
+/// Opens a file for reading, under none of the descriptors of the standard streams. A file gets the lowest descriptor
+/// that is free: where the program was started without a standard stream, that stream's own. It is moved then, so that
+/// the stream stays closed, and reading or writing it fails.
+pub fn open_file<R: Files>(rt: &R, path: &str) -> io::Result<R::File>
+where
+    R::File: AsRawFd,
+    ensures { IfOk result (λ file. IsAboveStandard (R.File.raw_fd file)) }
+{
+    let file = File::open(rt, path)?;
+    if file.as_raw_fd() > LAST_STANDARD {
+        return Ok(file);
+    }
+    let moved = file.try_clone()?;
+    if moved.as_raw_fd() > LAST_STANDARD {
+        Ok(moved)
+    } else {
+        Err(io::Error::from(ErrorKind::Unsupported))
     }
 }
