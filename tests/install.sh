@@ -90,6 +90,8 @@ answer check - E C
 holds "a list from standard input" [ "$status $(cat out)" = "0 foo-bar 1.19" ]
 answer check absent E C
 holds "a refusal" [ "$status $(cat err)" = "3 reqs: absent: read fault" ]
+"$prefix/bin/reqs" same - R >out 2>err <&-
+holds "a closed standard input" [ "$? $(cat err)" = "3 reqs: -: read fault" ]
 ln -s "$prefix/bin/reqs" linked
 holds "a call by a link" [ "$(./linked check R E C)" = "foo-bar 1.19" ]
 awk 'BEGIN { printf "foo ; extra == \"x0\""; for (i = 1; i < 50000; i++) printf " and extra == \"x%d\"", i * 7919 % 50000 }' >deep
