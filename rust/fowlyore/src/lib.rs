@@ -4,7 +4,9 @@
 //! Texts are handed to the library as they are, and it keeps nothing of them. Where memory runs out the process ends, as with Rust's
 //! own collections. This crate itself is not proved: it calls, and splits what it is answered.
 //!
-//! Calls share nothing, and values may go to other threads and be used by several at once:
+//! Calls share nothing and take no lock, and values may go to other threads and be used by several at once. Calls may be made in
+//! the child of a `fork` too, whatever threads the process has: of what isn't the crate's or the library's own they use memory alone,
+//! which glibc keeps usable there.
 //!
 //! ```
 //! fn is_shared<Value: Send + Sync + 'static>() {}
@@ -17,6 +19,7 @@
 //! ```
 #![warn(missing_docs)]
 
+mod kept;
 mod lists;
 mod marker;
 mod native;
@@ -32,10 +35,10 @@ pub use requirement::Requirement;
 pub use specifiers::VersionSpecifiers;
 pub use version::Version;
 
-/// The number of the linked library's interface, which is 1.
+/// The number of the linked library's interface, which is 2.
 ///
 /// ```
-/// assert_eq!(fowlyore::abi(), 1);
+/// assert_eq!(fowlyore::abi(), 2);
 /// assert!(fowlyore::is_known());
 /// ```
 #[must_use]

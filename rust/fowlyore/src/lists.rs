@@ -89,7 +89,8 @@ pub fn same(left: &[u8], right: &[u8], limit: u64) -> Result<Same, Refused> {
     if !answer.is_different {
         return Ok(Same::Yes);
     }
-    let mut lines = answer.text.lines().skip(1).map(String::from);
+    let text = answer.text();
+    let mut lines = text.lines().skip(1).map(String::from);
     let package = lines.next().unwrap_or_default();
     let marker = lines.next().unwrap_or_default();
     Ok(Same::No { package, marker })

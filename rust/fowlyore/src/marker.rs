@@ -1,72 +1,327 @@
 //! Markers (PEP 508, "Environment markers").
 
+use crate::kept::Kept;
 use crate::refused::on_one_line;
-use crate::{native, Refused};
+use crate::{native, Refused, Version};
 use std::cmp::Ordering;
 use std::fmt;
 use std::hash::{Hash, Hasher};
-use std::iter::once;
 use std::str::FromStr;
+use std::sync::atomic::{AtomicU8, Ordering as MemoryOrdering};
 
-/// A marker of one line, which prints its normal text. Two markers that hold in the same environments with the same extras are
-/// equal. Markers are ordered by their normal texts.
+/// A text that always holds, in place of the one that the marker without a text doesn't have.
+const ALWAYS: &str = "python_version >= '3' or python_version < '3'";
+/// A text that never holds, which therefore has no normal text.
+const NEVER: &str = "python_version >= '3' and python_version < '3'";
+/// How deep the brackets of a marker may nest.
+const MOST_BRACKETS: usize = 256;
+/// When a marker holds, as the library writes it; none of these where it holds at times.
+const ALWAYS_HOLDS: u8 = b'1';
+const NEVER_HOLDS: u8 = b'0';
+/// In their place where the library was not asked yet.
+const UNKNOWN: u8 = 0;
+/// Why a call about a marker's text isn't refused.
+const IS_MARKER: &str = "the text of a marker is read";
+
+/// A marker of one line. `Default` is the one that always holds, and has no text.
+///
+/// Markers are equal exactly where they hold under the same conditions, whatever was written: where no answer to the questions that
+/// they ask, of each variable and each extra for itself, makes one of them hold alone. A variable by its old name, as `os.name`, counts
+/// as another one. They are ordered so that the order agrees with that, which says nothing more.
+///
+/// Reading a marker makes no print and no key. Comparing and hashing go by the [`key`](MarkerTree::key), which is asked for when
+/// it is first needed, and kept; markers of one text, or that always or never hold, need none.
 ///
 /// ```
 /// use fowlyore::MarkerTree;
 ///
 /// let marker: MarkerTree = "python_version >= '3.8' and extra == 'socks'".parse()?;
 /// assert_eq!(marker, "extra == 'socks' and python_version > '3.7'".parse()?);
-/// assert!(!marker.is_true());
+/// assert_ne!(marker, "python_version >= '3.8'".parse()?);
+/// assert_eq!(marker.to_string(), "python_full_version >= '3.8' and extra == 'socks'");
+/// let one: MarkerTree = "os_name == \"a' and sys_platform == 'b\"".parse()?;
+/// assert_ne!(one, "os_name == 'a' and sys_platform == 'b'".parse()?);
 /// # Ok::<(), fowlyore::Refused>(())
 /// ```
-#[derive(Clone, Debug, Default)]
+#[derive(Default)]
 pub struct MarkerTree {
-    text: String,
-    /// A text that it can be read from. The normal text puts single quotes around a text that has one in it, and then
-    /// can't be read.
-    readable: String,
+    /// Empty where the marker always holds because nothing was written.
+    text: Box<str>,
+    /// By what the text was joined here; none where it was given.
+    joined: Option<Connective>,
+    /// The brackets of the text nest no deeper.
+    brackets: usize,
+    /// When it holds, as far as that is known.
+    truth: AtomicU8,
+    key: Kept,
+}
+
+#[derive(Clone, Copy, PartialEq)]
+enum Connective {
+    And,
+    Or,
 }
 
 impl MarkerTree {
-    /// The marker of this normal text, which the library wrote of a requirement's text; empty where it always holds. It is read
-    /// from the normal text, or else from behind a `;` of the requirement's text, where it says the same.
-    pub(crate) fn of_requirement(normal: &str, requirement: &str) -> MarkerTree {
-        if normal.is_empty() {
-            return MarkerTree::default();
-        }
-        once(normal)
-            .chain(perhaps_markers(requirement))
-            .filter_map(|it| it.parse::<MarkerTree>().ok())
-            .find(|it| it.text == normal)
-            .expect("a requirement's marker stands behind a `;` of its text")
-    }
-
-    /// Whether it holds in every environment.
+    /// The marker that never holds.
+    ///
+    /// ```
+    /// use fowlyore::MarkerTree;
+    ///
+    /// assert!(MarkerTree::never().is_false());
+    /// assert_eq!(MarkerTree::never(), "os_name == 'nt' and os_name == 'posix'".parse()?);
+    /// assert_eq!(MarkerTree::never().negate()?, MarkerTree::default());
+    /// # Ok::<(), fowlyore::Refused>(())
+    /// ```
     #[must_use]
-    pub fn is_true(&self) -> bool {
-        self.text.is_empty()
+    pub fn never() -> MarkerTree {
+        MarkerTree::given(NEVER, NEVER_HOLDS)
     }
 
-    /// The normal text, which `Display` prints too. Not every one is read again as its marker. Where a marker always holds, it is
-    /// empty, which is no marker: such a one is written by leaving it out (`try_to_string` of the crate `pep508_rs` gives nothing for
-    /// it). Where a marker never holds, it is `python_version < '0'`, as there, and is read again as that comparison.
+    /// The marker of a text that the library has read as one, or of white space alone, which says nothing.
+    pub(crate) fn read_already(text: &str) -> MarkerTree {
+        MarkerTree::given(text.trim(), UNKNOWN)
+    }
+
+    fn given(text: &str, truth: u8) -> MarkerTree {
+        MarkerTree {
+            text: text.into(),
+            joined: None,
+            // (those in a text between quotes count too)
+            brackets: text.matches('(').count(),
+            truth: AtomicU8::new(truth),
+            key: Kept::default(),
+        }
+    }
+
+    /// The marker of a normal text, or the one that has none because it never holds.
+    fn of_normal(answer: Result<String, Refused>) -> Result<MarkerTree, Refused> {
+        match answer {
+            Ok(text) => Ok(MarkerTree {
+                brackets: 1,
+                ..MarkerTree::given(&text, UNKNOWN)
+            }),
+            Err(refused) if native::never_holds(&refused) => Ok(MarkerTree::never()),
+            Err(refused) => Err(refused),
+        }
+    }
+
+    /// The text as it was given, without the white space around it; that of markers which [`and`](MarkerTree::and) or
+    /// [`or`](MarkerTree::or) joined has their texts in it. It is read again as this marker. It is empty for the marker without a text,
+    /// `Default`, alone.
+    ///
+    /// ```
+    /// use fowlyore::{MarkerTree, Requirement};
+    ///
+    /// let line: Requirement = "foo ; os.name == \"nt\" ".parse()?;
+    /// assert_eq!(line.marker.as_given(), "os.name == \"nt\"");
+    /// assert_eq!(MarkerTree::default().as_given(), "");
+    /// # Ok::<(), fowlyore::Refused>(())
+    /// ```
+    #[must_use]
+    pub fn as_given(&self) -> &str {
+        &self.text
+    }
+
+    /// The normal text, which markers of one meaning have in common, and which is read again as this marker; empty where it always
+    /// holds. It can be exponentially long in the marker's own text, and takes as long. Some markers have none, and are refused:
+    ///
+    /// - a text in it has a single quote, which the normal text would end at;
+    /// - it asks of a variable by an old name, as `os.name`;
+    /// - it has a version that is more than release numbers of epoch 0;
+    /// - it never holds.
+    ///
+    /// ```
+    /// use fowlyore::MarkerTree;
+    ///
+    /// let marker: MarkerTree = "python_version>'3.7' and (os_name != \"nt\")".parse()?;
+    /// assert_eq!(marker.normal()?, "python_full_version >= '3.8' and os_name != 'nt'");
+    /// for (text, why) in [
+    ///     ("os_name == \"it's\"", "no normal text: single quote"),
+    ///     ("os.name == 'nt'", "no normal text: deprecated key"),
+    ///     ("python_full_version in '3.8rc1'", "no normal text: version bound"),
+    ///     ("os_name < 'a' and os_name > 'a'", "no normal text: never holds"),
+    /// ] {
+    ///     assert_eq!(text.parse::<MarkerTree>()?.normal().unwrap_err().message, why);
+    /// }
+    /// # Ok::<(), fowlyore::Refused>(())
+    /// ```
+    pub fn normal(&self) -> Result<String, Refused> {
+        native::marker(self.readable())
+    }
+
+    /// Bytes that are the same exactly where markers are equal, in whose order markers that hold at times stand. What they are
+    /// may change with the library. They grow with what the marker means, which may be exponential in its text, and so does the time that
+    /// asking takes; they are asked for once.
+    ///
+    /// ```
+    /// use fowlyore::MarkerTree;
+    ///
+    /// let marker: MarkerTree = "os_name == 'nt' and extra == 'a'".parse()?;
+    /// assert_eq!(marker.key(), "extra == \"A\" and os_name == 'nt'".parse::<MarkerTree>()?.key());
+    /// assert_ne!(marker.key(), "os_name == 'nt'".parse::<MarkerTree>()?.key());
+    /// # Ok::<(), fowlyore::Refused>(())
+    /// ```
+    #[must_use]
+    pub fn key(&self) -> &[u8] {
+        let make = || native::marker_key(self.readable()).expect(IS_MARKER);
+        self.key.get_or_make(make)
+    }
+
+    /// Whether it always holds, whatever the environment and the extras are.
     ///
     /// ```
     /// use fowlyore::{MarkerTree, Requirement};
     ///
     /// let always: MarkerTree = "os_name == 'nt' or os_name != 'nt'".parse()?;
     /// assert!(always.is_true());
-    /// assert_eq!((always.as_str(), always.to_string().as_str()), ("", ""));
-    /// assert!("".parse::<MarkerTree>().is_err());
-    /// let never: MarkerTree = "os_name == 'nt' and os_name == 'posix'".parse()?;
-    /// assert_eq!(never.as_str(), "python_version < '0'");
-    /// let line: Requirement = "foo ; os_name == 'nt' or os_name != 'nt'".parse()?;
-    /// assert_eq!((line.to_string().as_str(), line.marker), ("foo", always));
+    /// assert_eq!(always, MarkerTree::default());
+    /// assert_eq!("foo".parse::<Requirement>()?.marker, always);
     /// # Ok::<(), fowlyore::Refused>(())
     /// ```
     #[must_use]
-    pub fn as_str(&self) -> &str {
-        &self.text
+    pub fn is_true(&self) -> bool {
+        self.truth() == ALWAYS_HOLDS
+    }
+
+    /// Whether it never holds.
+    ///
+    /// ```
+    /// use fowlyore::MarkerTree;
+    ///
+    /// assert!("os_name == 'nt' and os_name == 'posix'".parse::<MarkerTree>()?.is_false());
+    /// assert!(!"os_name == 'nt'".parse::<MarkerTree>()?.is_false());
+    /// # Ok::<(), fowlyore::Refused>(())
+    /// ```
+    #[must_use]
+    pub fn is_false(&self) -> bool {
+        self.truth() == NEVER_HOLDS
+    }
+
+    /// Whether no environment and no extras make both hold.
+    ///
+    /// ```
+    /// use fowlyore::MarkerTree;
+    ///
+    /// let old: MarkerTree = "python_version < '3.8'".parse()?;
+    /// assert!(old.is_disjoint(&"python_version >= '3.9' and os_name == 'nt'".parse()?));
+    /// assert!(!old.is_disjoint(&"os_name == 'nt'".parse()?));
+    /// # Ok::<(), fowlyore::Refused>(())
+    /// ```
+    #[must_use]
+    pub fn is_disjoint(&self, other: &MarkerTree) -> bool {
+        native::markers_disjoint(self.readable(), other.readable()).expect(IS_MARKER)
+    }
+
+    /// Whether the other marker holds wherever this one does.
+    ///
+    /// ```
+    /// use fowlyore::MarkerTree;
+    ///
+    /// let new: MarkerTree = "python_version >= '3.9' and os_name == 'nt'".parse()?;
+    /// let windows: MarkerTree = "os_name == 'nt'".parse()?;
+    /// assert!(new.implies(&windows));
+    /// assert!(!windows.implies(&new));
+    /// # Ok::<(), fowlyore::Refused>(())
+    /// ```
+    #[must_use]
+    pub fn implies(&self, other: &MarkerTree) -> bool {
+        native::marker_implies(self.readable(), other.readable()).expect(IS_MARKER)
+    }
+
+    /// The marker that holds where both do. The library is asked for nothing: the given texts are joined, and of a chain no more than
+    /// once put in brackets. Where brackets would nest more than 256 deep, as they may where `and` and `or` alternate, the normal texts are
+    /// joined; refused where there are none.
+    ///
+    /// ```
+    /// use fowlyore::MarkerTree;
+    ///
+    /// let markers: Vec<MarkerTree> = vec!["os_name == 'nt'".parse()?, "extra == 'a' or extra == 'b'".parse()?];
+    /// let all = markers.iter().try_fold(MarkerTree::default(), |all, it| all.and(it))?;
+    /// assert_eq!(all.to_string(), "(os_name == 'nt' and extra == 'a') or (os_name == 'nt' and extra == 'b')");
+    /// # Ok::<(), fowlyore::Refused>(())
+    /// ```
+    pub fn and(&self, other: &MarkerTree) -> Result<MarkerTree, Refused> {
+        match (self.is_left_out(), other.is_left_out()) {
+            (true, _) => Ok(other.clone()),
+            (_, true) => Ok(self.clone()),
+            _ => self.joined(Connective::And, other),
+        }
+    }
+
+    /// The marker that holds where one of the two does, of texts that are joined as by [`and`](MarkerTree::and).
+    ///
+    /// ```
+    /// use fowlyore::MarkerTree;
+    ///
+    /// let windows: MarkerTree = "os_name == 'nt'".parse()?;
+    /// assert_eq!(windows.or(&"os_name == 'posix'".parse()?)?, "os_name == 'posix' or os_name == 'nt'".parse()?);
+    /// assert_eq!(windows.or(&MarkerTree::never())?, windows);
+    /// # Ok::<(), fowlyore::Refused>(())
+    /// ```
+    pub fn or(&self, other: &MarkerTree) -> Result<MarkerTree, Refused> {
+        if self.is_left_out() || other.is_left_out() {
+            return Ok(MarkerTree::default());
+        }
+        self.joined(Connective::Or, other)
+    }
+
+    /// The marker that holds where this one doesn't, of the normal text that says so. Refused where there is none, as
+    /// [`normal`](MarkerTree::normal) has it, but for a negation that never holds.
+    ///
+    /// ```
+    /// use fowlyore::MarkerTree;
+    ///
+    /// let marker: MarkerTree = "python_version >= '3.8' and os_name == 'nt'".parse()?;
+    /// assert_eq!(marker.negate()?, "python_version < '3.8' or os_name != 'nt'".parse()?);
+    /// assert_eq!(MarkerTree::default().negate()?, MarkerTree::never());
+    /// assert!("os.name == 'nt'".parse::<MarkerTree>()?.negate().is_err());
+    /// # Ok::<(), fowlyore::Refused>(())
+    /// ```
+    pub fn negate(&self) -> Result<MarkerTree, Refused> {
+        MarkerTree::of_normal(native::marker_negated(self.readable()))
+    }
+
+    /// A marker that holds as this one does in each environment whose `python_full_version` lies from `lower` on and below `upper`,
+    /// and asks of it no more than that takes. Without a bound there is none on that side. Refused where it has no normal text, as
+    /// [`normal`](MarkerTree::normal) has it, but for one that never holds.
+    ///
+    /// ```
+    /// use fowlyore::MarkerTree;
+    ///
+    /// let marker: MarkerTree = "python_version >= '3.8' and python_version < '3.12' and os_name == 'nt'".parse()?;
+    /// let (lower, upper) = ("3.9".parse()?, "3.12".parse()?);
+    /// let simple = marker.simplify_python_versions(Some(&lower), Some(&upper))?;
+    /// assert_eq!(simple, "os_name == 'nt'".parse()?);
+    /// let simple = marker.simplify_python_versions(Some(&lower), None)?;
+    /// assert_eq!(simple, "python_version < '3.12' and os_name == 'nt'".parse()?);
+    /// assert_eq!(marker.simplify_python_versions(Some(&upper), None)?, MarkerTree::never());
+    /// # Ok::<(), fowlyore::Refused>(())
+    /// ```
+    pub fn simplify_python_versions(
+        &self,
+        lower: Option<&Version>,
+        upper: Option<&Version>,
+    ) -> Result<MarkerTree, Refused> {
+        let (lower, upper) = (bound(lower), bound(upper));
+        let simple = native::marker_simplify_python(self.readable(), lower, upper);
+        MarkerTree::of_normal(simple)
+    }
+
+    /// The marker with these extras taken as asked for, so that it asks of them no more. An extra that is no name is refused, and a marker
+    /// without a normal text, as [`normal`](MarkerTree::normal) has it, but for one that never holds.
+    ///
+    /// ```
+    /// use fowlyore::MarkerTree;
+    ///
+    /// let marker: MarkerTree = "extra == 'socks' and os_name == 'nt' or extra == 'test'".parse()?;
+    /// assert_eq!(marker.simplify_extras(&["Socks"])?, "os_name == 'nt' or extra == 'test'".parse()?);
+    /// assert_eq!(marker.simplify_extras(&["test"])?, MarkerTree::default());
+    /// assert_eq!(marker.simplify_extras(&["no name!"]).unwrap_err().input, 2);
+    /// # Ok::<(), fowlyore::Refused>(())
+    /// ```
+    pub fn simplify_extras(&self, extras: &[&str]) -> Result<MarkerTree, Refused> {
+        MarkerTree::of_normal(native::marker_simplify_extras(self.readable(), extras))
     }
 
     /// Whether it holds in an environment, which is JSON as of `reqs check`, with extras. An extra that is no name is refused. A
@@ -93,23 +348,115 @@ impl MarkerTree {
         if self.is_true() {
             return Ok(true);
         }
-        Ok(native::markers_hold(&self.readable, environment, extras)? == "1")
+        Ok(native::markers_hold(&self.text, environment, extras)? == "1")
+    }
+
+    /// A text of this meaning that the library reads.
+    fn readable(&self) -> &str {
+        if self.text.is_empty() {
+            ALWAYS
+        } else {
+            &self.text
+        }
+    }
+
+    fn truth(&self) -> u8 {
+        if self.text.is_empty() {
+            return ALWAYS_HOLDS;
+        }
+        let known = self.truth.load(MemoryOrdering::Relaxed);
+        if known != UNKNOWN {
+            return known;
+        }
+        let truth = native::marker_truth(&self.text).expect(IS_MARKER);
+        self.truth.store(truth, MemoryOrdering::Relaxed);
+        truth
+    }
+
+    /// What markers are compared by: markers that always hold are one, as are those that never do.
+    fn place(&self) -> (u8, &[u8]) {
+        match self.truth() {
+            truth @ (ALWAYS_HOLDS | NEVER_HOLDS) => (truth, &[]),
+            truth => (truth, self.key()),
+        }
+    }
+
+    /// Whether it may say nothing, as `'a' == 'b'` does: such a marker always holds, but within another text it is passed over by `or`
+    /// too. What was joined here says something.
+    fn is_left_out(&self) -> bool {
+        self.joined.is_none() && self.is_true()
+    }
+
+    /// The joined texts, or the joined normal texts where the brackets of the others nest too deep.
+    fn joined(&self, by: Connective, other: &MarkerTree) -> Result<MarkerTree, Refused> {
+        self.chained(by, other).or_else(|refused| {
+            let (left, right) = (self.flat(), other.flat());
+            left.chained(by, &right).map_err(|_| refused)
+        })
+    }
+
+    fn chained(&self, by: Connective, other: &MarkerTree) -> Result<MarkerTree, Refused> {
+        let text = format!("{} {} {}", self.piece(by), by.as_str(), other.piece(by));
+        let brackets = self.brackets_in(by).max(other.brackets_in(by));
+        let truth = match brackets {
+            0..=MOST_BRACKETS => UNKNOWN,
+            _ => native::marker_truth(&text)?,
+        };
+        Ok(MarkerTree {
+            joined: Some(by),
+            brackets: brackets.min(MOST_BRACKETS),
+            ..MarkerTree::given(&text, truth)
+        })
+    }
+
+    /// The marker of the normal text where it has one, and else the marker itself. It says something.
+    fn flat(&self) -> MarkerTree {
+        let flat = MarkerTree::of_normal(self.normal()).unwrap_or_else(|_| self.clone());
+        if flat.text.is_empty() {
+            return MarkerTree::given(ALWAYS, ALWAYS_HOLDS);
+        }
+        flat
+    }
+
+    /// The text as a piece of a chain.
+    fn piece(&self, by: Connective) -> String {
+        if self.joined == Some(by) {
+            self.text.to_string()
+        } else {
+            format!("({})", self.text)
+        }
+    }
+
+    /// How deep the brackets of the piece nest at most.
+    fn brackets_in(&self, by: Connective) -> usize {
+        self.brackets + usize::from(self.joined != Some(by))
     }
 }
 
-/// What may be the marker of a requirement's text: what is behind its first `;`, or behind its first one beside white space,
-/// since a URL may have others in it.
-fn perhaps_markers(requirement: &str) -> impl Iterator<Item = &str> {
-    let is_apart = |at: &usize| {
-        requirement[..*at].ends_with(char::is_whitespace)
-            || requirement[*at + 1..].starts_with(char::is_whitespace)
-    };
-    let places = || requirement.match_indices(';').map(|(at, _)| at);
-    let (first, apart) = (places().next(), places().find(is_apart));
-    first
-        .into_iter()
-        .chain(apart)
-        .map(|at| &requirement[at + 1..])
+/// The text of a bound, which is empty where there is none.
+fn bound(version: Option<&Version>) -> &str {
+    version.map_or("", Version::as_str)
+}
+
+impl Connective {
+    fn as_str(self) -> &'static str {
+        match self {
+            Connective::And => "and",
+            Connective::Or => "or",
+        }
+    }
+}
+
+impl Clone for MarkerTree {
+    fn clone(&self) -> MarkerTree {
+        MarkerTree {
+            text: self.text.clone(),
+            joined: self.joined,
+            brackets: self.brackets,
+            truth: AtomicU8::new(self.truth.load(MemoryOrdering::Relaxed)),
+            key: self.key.clone(),
+        }
+    }
 }
 
 impl FromStr for MarkerTree {
@@ -117,21 +464,43 @@ impl FromStr for MarkerTree {
 
     fn from_str(text: &str) -> Result<MarkerTree, Refused> {
         on_one_line(text)?;
-        let readable = text.trim().to_owned();
-        let text = native::marker(text)?;
-        Ok(MarkerTree { text, readable })
+        let truth = native::marker_truth(text)?;
+        Ok(MarkerTree::given(text.trim(), truth))
     }
 }
 
+impl fmt::Debug for MarkerTree {
+    fn fmt(&self, f: &mut fmt::Formatter<'_>) -> fmt::Result {
+        f.debug_tuple("MarkerTree").field(&self.text).finish()
+    }
+}
+
+/// Prints the [`normal`](MarkerTree::normal) text, at the cost that is told there, or the text as it was given where there is no normal
+/// one. The print is read again as an equal marker, unless the marker always holds: then nothing is printed, and the marker is
+/// written by leaving it out (as `try_to_string` of the crate `pep508_rs` gives nothing for it).
+///
+/// ```
+/// use fowlyore::MarkerTree;
+///
+/// let printed = |text: &str| text.parse::<MarkerTree>().map(|it| it.to_string());
+/// assert_eq!(printed("python_version > '3.7'")?, "python_full_version >= '3.8'");
+/// assert_eq!(printed("os_name == \"it's\"")?, "os_name == \"it's\"");
+/// assert_eq!(printed("os_name == 'nt' or os_name != 'nt'")?, "");
+/// assert!("".parse::<MarkerTree>().is_err());
+/// # Ok::<(), fowlyore::Refused>(())
+/// ```
 impl fmt::Display for MarkerTree {
     fn fmt(&self, f: &mut fmt::Formatter<'_>) -> fmt::Result {
-        f.pad(&self.text)
+        match self.normal() {
+            Ok(text) => f.pad(&text),
+            Err(_) => f.pad(&self.text),
+        }
     }
 }
 
 impl PartialEq for MarkerTree {
     fn eq(&self, other: &MarkerTree) -> bool {
-        self.text == other.text
+        self.cmp(other).is_eq()
     }
 }
 
@@ -145,12 +514,15 @@ impl PartialOrd for MarkerTree {
 
 impl Ord for MarkerTree {
     fn cmp(&self, other: &MarkerTree) -> Ordering {
-        self.text.cmp(&other.text)
+        if self.text == other.text {
+            return Ordering::Equal;
+        }
+        self.place().cmp(&other.place())
     }
 }
 
 impl Hash for MarkerTree {
     fn hash<H: Hasher>(&self, state: &mut H) {
-        self.text.hash(state);
+        self.place().hash(state);
     }
 }

@@ -14,7 +14,7 @@ pub(crate) struct Reply {
     len: usize,
 }
 
-const ABI: u32 = 1;
+const ABI: u32 = 2;
 const DIFFERENT: u32 = 1;
 const REFUSED: u32 = 2;
 const MEMORY: u32 = 3;
@@ -26,6 +26,9 @@ const MOST_ROOM: usize = 16 << 20;
 /// Which text of a call has the extras.
 const EXTRAS_OF_LISTS: u32 = 4;
 const EXTRAS_OF_MARKERS: u32 = 3;
+const EXTRAS_TO_SIMPLIFY: u32 = 2;
+/// What the library says of a marker that never holds, where it is asked for a normal text.
+const NEVER_HOLDS: &str = "no normal text: never holds";
 
 // `tests/rust.sh` holds these against `include/reqs.h`.
 #[rustfmt::skip]
@@ -62,12 +65,52 @@ extern "C" {
         markers: *const u8, markers_len: usize, environment: *const u8, environment_len: usize,
         extras: *const u8, extras_len: usize, out: *mut u8, out_len: usize,
     ) -> Reply;
+    fn reqs_marker_key(text: *const u8, text_len: usize, out: *mut u8, out_len: usize) -> Reply;
+    fn reqs_marker_truth(text: *const u8, text_len: usize, out: *mut u8, out_len: usize) -> Reply;
+    fn reqs_markers_disjoint(
+        left: *const u8, left_len: usize, right: *const u8, right_len: usize, out: *mut u8, out_len: usize,
+    ) -> Reply;
+    fn reqs_marker_implies(
+        left: *const u8, left_len: usize, right: *const u8, right_len: usize, out: *mut u8, out_len: usize,
+    ) -> Reply;
+    fn reqs_marker_negated(text: *const u8, text_len: usize, out: *mut u8, out_len: usize) -> Reply;
+    fn reqs_marker_simplify_python(
+        text: *const u8, text_len: usize, lower: *const u8, lower_len: usize,
+        upper: *const u8, upper_len: usize, out: *mut u8, out_len: usize,
+    ) -> Reply;
+    fn reqs_marker_simplify_extras(
+        text: *const u8, text_len: usize, extras: *const u8, extras_len: usize,
+        out: *mut u8, out_len: usize,
+    ) -> Reply;
+    fn reqs_specifiers_disjoint(
+        left: *const u8, left_len: usize, right: *const u8, right_len: usize, out: *mut u8, out_len: usize,
+    ) -> Reply;
+    fn reqs_specifiers_subset(
+        left: *const u8, left_len: usize, right: *const u8, right_len: usize, out: *mut u8, out_len: usize,
+    ) -> Reply;
+    fn reqs_specifiers_empty(text: *const u8, text_len: usize, out: *mut u8, out_len: usize) -> Reply;
 }
 
 /// What a call answered, and whether it said that two lists differ.
 pub(crate) struct Answer {
-    pub text: String,
+    bytes: Vec<u8>,
     pub is_different: bool,
+}
+
+impl Answer {
+    /// The text that the library wrote.
+    pub fn text(self) -> String {
+        written(self.bytes)
+    }
+
+    /// Whether the library wrote a yes, as which `1` stands.
+    fn is_yes(&self) -> bool {
+        self.bytes == b"1"
+    }
+}
+
+fn written(bytes: Vec<u8>) -> String {
+    String::from_utf8(bytes).expect("the library writes UTF-8")
 }
 
 /// Ends the process, as Rust's own collections do where memory runs out.
@@ -91,18 +134,19 @@ fn answered(room: usize, call: impl Fn(*mut u8, usize) -> Reply) -> Result<Answe
     out.truncate(reply.length);
     // (who keeps the answer doesn't keep the room that it didn't need)
     out.shrink_to_fit();
-    let text = String::from_utf8(out).expect("the library writes UTF-8");
     if reply.status == REFUSED {
         return Err(Refused {
-            message: text,
+            message: written(out),
             input: reply.input,
             line: reply.line,
             start: reply.start,
             len: reply.len,
         });
     }
-    let is_different = reply.status == DIFFERENT;
-    Ok(Answer { text, is_different })
+    Ok(Answer {
+        bytes: out,
+        is_different: reply.status == DIFFERENT,
+    })
 }
 
 /// The number of the interface that the linked library has.
@@ -148,7 +192,7 @@ macro_rules! asked {
 }
 
 pub(crate) fn version(text: &str) -> Result<String, Refused> {
-    asked!(reqs_version, ROOM, text).map(|it| it.text)
+    asked!(reqs_version, ROOM, text).map(Answer::text)
 }
 
 /// The key of a text's version, or nothing where it is none.
@@ -171,21 +215,77 @@ pub(crate) fn version_key(text: &str) -> Option<Vec<u8>> {
 }
 
 pub(crate) fn specifiers(text: &str) -> Result<String, Refused> {
-    asked!(reqs_specifiers, ROOM + text.len(), text).map(|it| it.text)
+    asked!(reqs_specifiers, ROOM + text.len(), text).map(Answer::text)
 }
 
 /// A byte for each line: `1` where the list takes the version, `0` where it doesn't, `?` where it is none.
 pub(crate) fn specifiers_take(list: &str, versions: &str) -> Result<String, Refused> {
     let room = ROOM.max(versions.matches('\n').count());
-    asked!(reqs_specifiers_take, room, list, versions).map(|it| it.text)
+    asked!(reqs_specifiers_take, room, list, versions).map(Answer::text)
+}
+
+pub(crate) fn specifiers_disjoint(left: &str, right: &str) -> Result<bool, Refused> {
+    asked!(reqs_specifiers_disjoint, ROOM, left, right).map(|it| it.is_yes())
+}
+
+pub(crate) fn specifiers_subset(left: &str, right: &str) -> Result<bool, Refused> {
+    asked!(reqs_specifiers_subset, ROOM, left, right).map(|it| it.is_yes())
+}
+
+pub(crate) fn specifiers_empty(text: &str) -> Result<bool, Refused> {
+    asked!(reqs_specifiers_empty, ROOM, text).map(|it| it.is_yes())
 }
 
 pub(crate) fn requirement(text: &str) -> Result<String, Refused> {
-    asked!(reqs_requirement, ROOM + text.len(), text).map(|it| it.text)
+    asked!(reqs_requirement, ROOM + text.len(), text).map(Answer::text)
 }
 
+/// The normal text of a marker.
 pub(crate) fn marker(text: &str) -> Result<String, Refused> {
-    asked!(reqs_marker, ROOM + text.len(), text).map(|it| it.text)
+    asked!(reqs_marker, ROOM + text.len(), text).map(Answer::text)
+}
+
+/// The key of a marker, in which a comparison seldom takes more than its text does eight times.
+pub(crate) fn marker_key(text: &str) -> Result<Vec<u8>, Refused> {
+    asked!(reqs_marker_key, ROOM + 8 * text.len(), text).map(|it| it.bytes)
+}
+
+/// When a marker holds, as the library writes it: `1` always, `0` never, `-` at times.
+pub(crate) fn marker_truth(text: &str) -> Result<u8, Refused> {
+    asked!(reqs_marker_truth, ROOM, text).map(|it| it.bytes[0])
+}
+
+pub(crate) fn markers_disjoint(left: &str, right: &str) -> Result<bool, Refused> {
+    asked!(reqs_markers_disjoint, ROOM, left, right).map(|it| it.is_yes())
+}
+
+pub(crate) fn marker_implies(left: &str, right: &str) -> Result<bool, Refused> {
+    asked!(reqs_marker_implies, ROOM, left, right).map(|it| it.is_yes())
+}
+
+pub(crate) fn marker_negated(text: &str) -> Result<String, Refused> {
+    asked!(reqs_marker_negated, ROOM + text.len(), text).map(Answer::text)
+}
+
+/// The bounds are empty where there are none.
+pub(crate) fn marker_simplify_python(
+    text: &str,
+    lower: &str,
+    upper: &str,
+) -> Result<String, Refused> {
+    let room = ROOM + text.len();
+    asked!(reqs_marker_simplify_python, room, text, lower, upper).map(Answer::text)
+}
+
+pub(crate) fn marker_simplify_extras(text: &str, extras: &[&str]) -> Result<String, Refused> {
+    let extras = extra_lines(extras, EXTRAS_TO_SIMPLIFY)?;
+    let room = ROOM + text.len();
+    asked!(reqs_marker_simplify_extras, room, text, extras).map(Answer::text)
+}
+
+/// Whether a text is refused as one of a marker that never holds, which has no normal text.
+pub(crate) fn never_holds(refused: &Refused) -> bool {
+    refused.message == NEVER_HOLDS
 }
 
 /// A byte for each line: `1` where the marker holds, `0` where it doesn't, `?` where it is none.
@@ -195,7 +295,7 @@ pub(crate) fn markers_hold(
     extras: &[&str],
 ) -> Result<String, Refused> {
     let extras = extra_lines(extras, EXTRAS_OF_MARKERS)?;
-    asked!(reqs_markers_hold, ROOM, markers, environment, extras).map(|it| it.text)
+    asked!(reqs_markers_hold, ROOM, markers, environment, extras).map(Answer::text)
 }
 
 pub(crate) fn check(lists: [&[u8]; 3], extras: &[&str]) -> Result<String, Refused> {
@@ -210,7 +310,7 @@ pub(crate) fn check(lists: [&[u8]; 3], extras: &[&str]) -> Result<String, Refuse
         candidates,
         extras
     )
-    .map(|it| it.text)
+    .map(Answer::text)
 }
 
 pub(crate) fn matrix(lists: [&[u8]; 3], extras: &[&str], limit: u64) -> Result<String, Refused> {
@@ -220,7 +320,7 @@ pub(crate) fn matrix(lists: [&[u8]; 3], extras: &[&str], limit: u64) -> Result<S
     let count = environments.iter().filter(|it| **it == b'{').count();
     let room = room_for_rows(requirements, count);
     asked!(reqs_matrix, room, requirements, environments, candidates, extras; limit)
-        .map(|it| it.text)
+        .map(Answer::text)
 }
 
 pub(crate) fn same(left: &[u8], right: &[u8], limit: u64) -> Result<Answer, Refused> {
@@ -228,11 +328,11 @@ pub(crate) fn same(left: &[u8], right: &[u8], limit: u64) -> Result<Answer, Refu
 }
 
 pub(crate) fn conflicts(requirements: &[u8], limit: u64) -> Result<String, Refused> {
-    asked!(reqs_conflicts, room_for_rows(requirements, 1), requirements; limit).map(|it| it.text)
+    asked!(reqs_conflicts, room_for_rows(requirements, 1), requirements; limit).map(Answer::text)
 }
 
 pub(crate) fn normal(requirements: &[u8]) -> Result<String, Refused> {
-    asked!(reqs_normal, room_for_rows(requirements, 1), requirements).map(|it| it.text)
+    asked!(reqs_normal, room_for_rows(requirements, 1), requirements).map(Answer::text)
 }
 
 #[cfg(test)]
@@ -262,7 +362,7 @@ mod tests {
         let (text, short) = ("1.0-rc.1", 3);
         let again = asked_again(|| {
             let answer = asked!(reqs_version, short, text).unwrap();
-            assert_eq!(answer.text, "1.0rc1");
+            assert_eq!(answer.text(), "1.0rc1");
         });
         assert_eq!(again, 1);
     }

@@ -5,13 +5,15 @@ use crate::{native, MarkerTree, Refused, VersionSpecifiers};
 use std::fmt;
 use std::str::FromStr;
 
-/// A requirement, of one line. Requirements are ordered by their names, then by the fields behind it.
+/// A requirement, of one line. Requirements are equal where their fields are, and ordered by their names, then by the fields after
+/// it. Where two are alike but for their markers, these are compared by their keys ([`MarkerTree`]).
 ///
 /// ```
 /// use fowlyore::Requirement;
 ///
 /// let line: Requirement = "Requests[Socks] >= 2.8.1 ; python_version < '3.13'".parse()?;
 /// assert_eq!((line.name.as_str(), line.extras.as_slice()), ("requests", &["socks".to_string()][..]));
+/// assert_eq!(line.marker.as_given(), "python_version < '3.13'");
 /// assert_eq!(line.to_string(), "requests[socks]>=2.8.1 ; python_full_version < '3.13'");
 /// assert!(line > "numpy ; os_name == 'nt'".parse()?);
 /// # Ok::<(), fowlyore::Refused>(())
@@ -26,7 +28,7 @@ pub struct Requirement {
     pub specifiers: VersionSpecifiers,
     /// Where it is to be had from.
     pub url: Option<String>,
-    /// Where it applies.
+    /// Where it applies, as it stands in the text; the marker that always holds where none stands there.
     pub marker: MarkerTree,
 }
 
@@ -38,7 +40,7 @@ impl FromStr for Requirement {
         let parts = native::requirement(text)?;
         let mut parts = parts.splitn(5, '\n');
         let mut part = || parts.next().expect("a requirement has five parts");
-        let (name, extras, specifiers, url, marker) = (part(), part(), part(), part(), part());
+        let (name, extras, specifiers, url, place) = (part(), part(), part(), part(), part());
         Ok(Requirement {
             name: name.to_owned(),
             extras: extras
@@ -48,10 +50,31 @@ impl FromStr for Requirement {
                 .collect(),
             specifiers: specifiers.parse()?,
             url: Some(url).filter(|it| !it.is_empty()).map(String::from),
-            marker: MarkerTree::of_requirement(marker, text),
+            marker: MarkerTree::read_already(part_of(text, place)),
         })
     }
 }
+
+/// The part of a text at a place: the first byte and the number of bytes, or nothing.
+fn part_of<'text>(text: &'text str, place: &str) -> &'text str {
+    let number = |it: &str| it.parse::<usize>().expect("a place has two numbers");
+    match place.split_once(' ') {
+        None => "",
+        Some((start, len)) => &text[number(start)..][..number(len)],
+    }
+}
+
+/// Prints the parts' normal texts, and the marker as that prints itself; one that always holds is left out. The print is read again as
+/// an equal requirement.
+///
+/// ```
+/// use fowlyore::Requirement;
+///
+/// let line: Requirement = "Foo @ https://example.org/;x ; os_name != \"x' and sys_platform == 'win32\"".parse()?;
+/// assert_eq!(line.to_string(), "foo @ https://example.org/;x ; os_name != \"x' and sys_platform == 'win32\"");
+/// assert_eq!(line.to_string().parse::<Requirement>()?, line);
+/// # Ok::<(), fowlyore::Refused>(())
+/// ```
 
 impl fmt::Display for Requirement {
     fn fmt(&self, f: &mut fmt::Formatter<'_>) -> fmt::Result {
@@ -63,9 +86,9 @@ impl fmt::Display for Requirement {
         if let Some(url) = &self.url {
             write!(f, " @ {url}")?;
         }
-        if !self.marker.is_true() {
-            write!(f, " ; {}", self.marker)?;
+        match self.marker.to_string() {
+            marker if marker.is_empty() => Ok(()),
+            marker => write!(f, " ; {marker}"),
         }
-        Ok(())
     }
 }

@@ -8,6 +8,16 @@ use std::str::FromStr;
 /// where their members' texts are: `==1` is another list than `==1.0`, although both take the same versions. They are ordered by
 /// these texts.
 ///
+/// As a range, a list is a set of points on the line of versions: of each version, and of the places between two versions that
+/// stand next to each other. [`is_disjoint`](VersionSpecifiers::is_disjoint), [`is_subset`](VersionSpecifiers::is_subset) and
+/// [`is_empty_range`](VersionSpecifiers::is_empty_range) are exact over points. So a point can keep two lists apart that match the
+/// same versions: `<2` ends before all that begins with 2, and `~=1.2` just after that, at `2.dev0`. So `>=1.2,<2` is a subset of
+/// `~=1.2`, and `~=1.2` is no subset of `>=1.2,<2`. A list matches a version just where the version is a point of its range, if the
+/// version has no local part, and the list no `===`, no `<` before a post-release and no `>` before what isn't a final release; `==1`
+/// matches `1+a`, which is a point of `==1+a` alone.
+///
+/// The three are refused where the range needs a number that is greater by one than 2^64 - 1, as that of `~=1.18446744073709551615.0`.
+///
 /// ```
 /// use fowlyore::{Version, VersionSpecifiers};
 ///
@@ -46,9 +56,55 @@ impl VersionSpecifiers {
             .collect()
     }
 
+    /// Whether no point lies in both ranges.
+    ///
+    /// ```
+    /// use fowlyore::VersionSpecifiers;
+    ///
+    /// let old: VersionSpecifiers = ">=1,<2".parse()?;
+    /// assert!(old.is_disjoint(&">=2".parse()?)?);
+    /// assert!(!old.is_disjoint(&">=1.9".parse()?)?);
+    /// # Ok::<(), fowlyore::Refused>(())
+    /// ```
+    pub fn is_disjoint(&self, other: &VersionSpecifiers) -> Result<bool, Refused> {
+        native::specifiers_disjoint(&self.list(), &other.list())
+    }
+
+    /// Whether each point of this range lies in the other one.
+    ///
+    /// ```
+    /// use fowlyore::VersionSpecifiers;
+    ///
+    /// let (compatible, between): (VersionSpecifiers, VersionSpecifiers) = ("~=1.2".parse()?, ">=1.2,<2".parse()?);
+    /// assert!(between.is_subset(&compatible)?);
+    /// assert!(!compatible.is_subset(&between)?);
+    /// # Ok::<(), fowlyore::Refused>(())
+    /// ```
+    pub fn is_subset(&self, other: &VersionSpecifiers) -> Result<bool, Refused> {
+        native::specifiers_subset(&self.list(), &other.list())
+    }
+
+    /// Whether no point lies in the range, as where the list contradicts itself. A list without members has every point.
+    ///
+    /// ```
+    /// use fowlyore::VersionSpecifiers;
+    ///
+    /// assert!(">=2,<1".parse::<VersionSpecifiers>()?.is_empty_range()?);
+    /// assert!(!">=1,<2".parse::<VersionSpecifiers>()?.is_empty_range()?);
+    /// assert!(!VersionSpecifiers::default().is_empty_range()?);
+    /// # Ok::<(), fowlyore::Refused>(())
+    /// ```
+    pub fn is_empty_range(&self) -> Result<bool, Refused> {
+        native::specifiers_empty(&self.list())
+    }
+
+    /// The text of the list, as the library reads it.
+    fn list(&self) -> String {
+        self.members.join(",")
+    }
+
     fn marks(&self, lines: &str) -> String {
-        let list = self.members.join(",");
-        native::specifiers_take(&list, lines).expect("normal texts are read")
+        native::specifiers_take(&self.list(), lines).expect("normal texts are read")
     }
 }
 
