@@ -4,9 +4,8 @@
 //! Texts are handed to the library as they are, and it keeps nothing of them. Where memory runs out the process ends, as with Rust's
 //! own collections. This crate itself is not proved: it calls, and splits what it is answered.
 //!
-//! Calls share nothing and take no lock, and values may go to other threads and be used by several at once. Calls may be made in
-//! the child of a `fork` too, whatever threads the process has: of what isn't the crate's or the library's own they use memory alone,
-//! which glibc keeps usable there.
+//! Calls share nothing, and neither they nor values have a lock. So values may go to other threads and be used by several at once, and
+//! calls may be made in the child of a `fork` by glibc too, of a process with threads as well, where its `malloc` is the one in use.
 //!
 //! ```
 //! fn is_shared<Value: Send + Sync + 'static>() {}

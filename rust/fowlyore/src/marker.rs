@@ -25,9 +25,13 @@ const IS_MARKER: &str = "the text of a marker is read";
 
 /// A marker of one line. `Default` is the one that always holds, and has no text.
 ///
-/// Markers are equal exactly where they hold under the same conditions, whatever was written: where no answer to the questions that
-/// they ask, of each variable and each extra for itself, makes one of them hold alone. A variable by its old name, as `os.name`, counts
-/// as another one. They are ordered so that the order agrees with that, which says nothing more.
+/// What is said of markers is said of conditions: a value of each variable, an answer to each question whether a text stands in one, as
+/// `'x' in os_name` asks, and any extras, of which none says anything of another. A variable by its old name, as `os.name`, is another
+/// one, and `python_version` is read off `python_full_version`. So there are conditions that no environment meets: under some
+/// `os_name == 'nt' and 'x' in os_name` holds.
+///
+/// Markers are equal exactly where they hold under the same conditions, whatever was written. Their order agrees with that, and means
+/// nothing more.
 ///
 /// Reading a marker makes no print and no key. Comparing and hashing go by the [`key`](MarkerTree::key), which is asked for when
 /// it is first needed, and kept; markers of one text, or that always or never hold, need none.
@@ -168,7 +172,7 @@ impl MarkerTree {
         self.key.get_or_make(make)
     }
 
-    /// Whether it always holds, whatever the environment and the extras are.
+    /// Whether it holds under every condition, and so in every environment with any extras.
     ///
     /// ```
     /// use fowlyore::{MarkerTree, Requirement};
@@ -184,7 +188,7 @@ impl MarkerTree {
         self.truth() == ALWAYS_HOLDS
     }
 
-    /// Whether it never holds.
+    /// Whether it holds under no condition, and so in no environment.
     ///
     /// ```
     /// use fowlyore::MarkerTree;
@@ -198,7 +202,7 @@ impl MarkerTree {
         self.truth() == NEVER_HOLDS
     }
 
-    /// Whether no environment and no extras make both hold.
+    /// Whether both hold under no condition, and so in no environment.
     ///
     /// ```
     /// use fowlyore::MarkerTree;
@@ -213,7 +217,7 @@ impl MarkerTree {
         native::markers_disjoint(self.readable(), other.readable()).expect(IS_MARKER)
     }
 
-    /// Whether the other marker holds wherever this one does.
+    /// Whether the other marker holds under each condition under which this one does, and so in each such environment.
     ///
     /// ```
     /// use fowlyore::MarkerTree;
@@ -339,16 +343,21 @@ impl MarkerTree {
     /// let refused = marker.evaluate(environment, &["a\nsocks"]).unwrap_err();
     /// assert_eq!((refused.message.as_str(), refused.input), ("extra a\nsocks is no name", 3));
     /// assert!(MarkerTree::default().evaluate("", &[""])?);
+    /// assert!("os_name == 'a' or os_name != 'a'".parse::<MarkerTree>()?.evaluate("", &[""])?);
     /// let line: Requirement = "foo @ https://example.org/;x ; platform_version == \"it's\"".parse()?;
     /// assert!(line.marker.evaluate(environment, &[])?);
     /// assert!("os_name ==\n'posix'".parse::<MarkerTree>().is_err());
     /// # Ok::<(), fowlyore::Refused>(())
     /// ```
     pub fn evaluate(&self, environment: &str, extras: &[&str]) -> Result<bool, Refused> {
-        if self.is_true() {
+        if self.text.is_empty() {
             return Ok(true);
         }
-        Ok(native::markers_hold(&self.text, environment, extras)? == "1")
+        match native::markers_hold(&self.text, environment, extras) {
+            Ok(mark) => Ok(mark == "1"),
+            Err(_) if self.is_true() => Ok(true),
+            Err(refused) => Err(refused),
+        }
     }
 
     /// A text of this meaning that the library reads.

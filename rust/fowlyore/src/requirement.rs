@@ -75,7 +75,6 @@ fn part_of<'text>(text: &'text str, place: &str) -> &'text str {
 /// assert_eq!(line.to_string().parse::<Requirement>()?, line);
 /// # Ok::<(), fowlyore::Refused>(())
 /// ```
-
 impl fmt::Display for Requirement {
     fn fmt(&self, f: &mut fmt::Formatter<'_>) -> fmt::Result {
         f.write_str(&self.name)?;

@@ -114,7 +114,10 @@ fn the_order_is_one() {
     markers.sort();
     for (at, one) in markers.iter().enumerate() {
         for other in &markers[at..] {
-            assert!(one <= other && other >= one, "{one:?}, {other:?}");
+            assert!(
+                one.cmp(other).is_le() && other.cmp(one).is_ge(),
+                "{one:?}, {other:?}"
+            );
             assert_eq!(one.cmp(other).is_eq(), one == other, "{one:?}, {other:?}");
         }
     }
@@ -312,7 +315,7 @@ fn simplified_markers_hold_alike() {
         let marker = read(&draws.marker(3));
         let mut bound = || Some(draws.version()).filter(|it| *it != "1");
         let bounds = [bound(), bound()].map(|it| it.map(|it| it.parse::<Version>().unwrap()));
-        let [lower, upper] = bounds.each_ref().map(Option::as_ref);
+        let (lower, upper) = (bounds[0].as_ref(), bounds[1].as_ref());
         let simple = match marker.simplify_python_versions(lower, upper) {
             Ok(simple) => simple,
             Err(refused) => {
