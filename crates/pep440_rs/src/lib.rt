@@ -13,7 +13,7 @@
 
 pub mod laws;
 
-pub use pep440_key::{push_number, push_text, version_key};
+pub use pep440_key::version_key;
 pub use pep440_range::{
     RangeError, release_specifier_to_range, release_specifiers_to_ranges, specifier_to_range,
     specifiers_to_range,

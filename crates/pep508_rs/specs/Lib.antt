@@ -45,8 +45,8 @@ pub use Rattle.pep508_view.specs.ReadOff
 pub use Rattle.pep508_view.specs.Shown
 pub use Rattle.pep508_view.specs.Sameness
 pub use Rattle.pep508_view.specs.SamenessLaws
-pub use Rattle.pep508_marker_key.specs.Told
-pub use Rattle.pep508_marker_key.specs.Walk
+pub use Rattle.pep508_marker_key.specs.Told as MarkerKeyBytes
+pub use Rattle.pep508_marker_key.specs.Walk as MarkerKeyWalk
 pub use Rattle.pep508_marker_key.specs.Key as MarkerKey
 pub use Rattle.pep508_expression.specs.Expressions
 pub use Rattle.pep508_expression.specs.Trees as ExpressionTrees
