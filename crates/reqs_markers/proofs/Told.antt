@@ -33,21 +33,21 @@ is_told error plain none =
     let is : Some (shown error.message error.excerpt) ≡ None = sym (tells error.message error.excerpt plain) ∙ none in (cc)
 
 -- a message that was made says the fault
-pub told_with : {Y E : Type 0} (error : TextError) (place : Place) (start len : ℕ) (message : Result (String Y) E)
+pub told_with : {Y E : Type 0} (input : ℕ) (error : TextError) (place : Place) (start len : ℕ) (message : Result (String Y) E)
     (ending : Ending)
     → (error.message ≡ sources.Memory → ⊥)
-    → place ≡ span 1 start len → start ≡ error.excerpt.start → len ≡ error.excerpt.len
+    → place ≡ span input start len → start ≡ error.excerpt.start → len ≡ error.excerpt.len
     → IsSpan (string_bytes error.excerpt.input) error.excerpt.start error.excerpt.len
     → MatchResult message (λ text. ending ≡ RefusedAt place (string_bytes text)) (λ error. ending ≡ OutOfMemory)
     → IfOk message (λ text. IfSome (source_text url_error_text error.message) (λ wanted. string_bytes text ≡ wanted))
-    → EndsIn NoAnswer (IsToldBy error) ending
-told_with error place start len (Ok text) ending plain stands starts ends within is made =
-    subst (EndsIn NoAnswer (IsToldBy error)) (sym is) (record {
+    → EndsIn NoAnswer (IsToldBy input error) ending
+told_with input error place start len (Ok text) ending plain stands starts ends within is made =
+    subst (EndsIn NoAnswer (IsToldBy input error)) (sym is) (record {
       fault = shown error.message error.excerpt;
       tells = tells error.message error.excerpt plain;
       stands = (cc);
       within = within;
       says = made;
     })
-told_with error place start len (Err failed) ending plain stands starts ends within is made =
-    subst (EndsIn NoAnswer (IsToldBy error)) (sym is) tt
+told_with input error place start len (Err failed) ending plain stands starts ends within is made =
+    subst (EndsIn NoAnswer (IsToldBy input error)) (sym is) tt

@@ -13,11 +13,11 @@ use Rattle.reqs_reply.specs.Endings.{span}
 abbrev pub TextError : Type 0
 TextError = Pep508Error Verbatim VerbatimUrlError
 
--- the error tells a fault, which the message says and whose part of the first argument is the place; where
--- the message is that of the crate `url`, nothing is claimed of it
-pub record IsToldBy (error : TextError) (place : Place) (message : List ℕ) : Type 0 where
+-- the error tells a fault, which the message says and whose part of the argument of this number is the place;
+-- where the message is that of the crate `url`, nothing is claimed of it
+pub record IsToldBy (input : ℕ) (error : TextError) (place : Place) (message : List ℕ) : Type 0 where
   pub fault : Fault Verbatim VerbatimUrlError
   pub tells : told_error error ≡ Some fault
-  pub stands : place ≡ span 1 fault.start fault.len
+  pub stands : place ≡ span input fault.start fault.len
   pub within : IsSpan fault.input fault.start fault.len
   pub says : IfSome (source_text url_error_text fault.source) (λ wanted. message ≡ wanted)

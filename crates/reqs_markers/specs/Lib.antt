@@ -1,3 +1,4 @@
 pub mod Errors
+pub mod NormalTexts
 pub mod Markers
 pub mod Parts

@@ -1,11 +1,8 @@
 -- What is answered on the texts of markers (PEP 508, "Environment Markers").
-use Rattle.std.specs.Prelude.{◌≡◌, ◌⊎◌, ℕ, Bool, true, if◌then◌else◌, List, [], unwrap_or, Result, Ok, Err}
+use Rattle.std.specs.Prelude.{◌≡◌, ◌⊎◌, ℕ, Bool, true, if◌then◌else◌, List, [], Result, Ok, Err}
 use Rattle.std.specs.Str.{is_utf8, chars}
-use Rattle.pep508_diagram.specs.Diagram.{Diagram}
-use Rattle.pep508_diagram.specs.Question.{Question, Valuation, truth, IsCanonical}
-use Rattle.pep508_diagram.specs.Shortened.{HasShortVersions}
+use Rattle.pep508_diagram.specs.Question.{Valuation}
 use Rattle.pep508_expression.specs.Expressions.{expression_holds}
-use Rattle.pep508_marker_text.specs.MarkerText.{marker_text}
 use Rattle.pep508_error.specs.Errors.{told_error}
 use Rattle.pep508_marker_comparison.specs.SideReading.{Refused}
 use Rattle.pep508_marker_comparison.specs.Outcome.{Shows}
@@ -17,6 +14,7 @@ use Rattle.pep508_tree.specs.Meaning.{NodeRecord}
 use Rattle.reqs_reply.specs.declared.place.Place.{Place}
 use Rattle.reqs_reply.specs.Endings.{Ending, EndsIn, IsNotText}
 use Rattle.reqs_markers.specs.Errors.{TextError, IsToldBy}
+use Rattle.reqs_markers.specs.NormalTexts.{IsTextOf, IsNoTextOf}
 
 -- whether a marker holds; one none of whose comparisons says anything does
 abbrev pub marker_holds : Marker → Valuation → Bool
@@ -29,35 +27,69 @@ ReadsTree nodes text (Ok tree) reading =
     (marker : Marker) × (reading ≡ Ok marker) × IsTreeOf nodes tree marker.formula
 ReadsTree nodes text (Err error) reading = Shows text (told_error error) reading
 
--- the text is a marker's normal one, empty where it always holds: that of the one diagram that asks nothing
--- in vain, has each version in its shortest spelling, and holds just where the marker does
-pub record IsTextOf (marker : Marker) (text : List ℕ) : Type 0 where
-  pub diagram : Diagram Question
-  pub canonical : IsCanonical diagram
-  pub short : HasShortVersions diagram
-  pub means : (v : Valuation) → truth diagram v ≡ marker_holds marker v
-  pub is_text : text ≡ unwrap_or (marker_text diagram) []
-
--- the text is the normal one of the marker that bytes are
-pub record IsNormalMarker (bytes text : List ℕ) : Type 0 where
-  pub marker : Marker
+-- bytes are the text of this marker
+pub record IsMarkerIn (bytes : List ℕ) (marker : Marker) : Type 0 where
   pub is_utf8_text : is_utf8 bytes ≡ true
   pub is_marker : marker_at (chars bytes) ≡ Ok marker
-  pub is_text : IsTextOf marker text
 
--- bytes are a text that is no marker, for what an error says
-pub record IsNoMarker (bytes : List ℕ) (place : Place) (message : List ℕ) : Type 0 where
+-- a tree of these nodes is that of the marker that bytes are
+pub record IsMarkerTree (nodes : List NodeRecord) (bytes : List ℕ) (tree : Tree) : Type 0 where
+  pub marker : Marker
+  pub is_marker : IsMarkerIn bytes marker
+  pub is_tree : IsTreeOf nodes tree marker.formula
+
+-- ---- refusals
+
+-- the argument of this number is a text that is no marker, for what an error says
+pub record IsNoMarker (input : ℕ) (bytes : List ℕ) (place : Place) (message : List ℕ) : Type 0 where
   pub error : TextError
   pub is_utf8_text : is_utf8 bytes ≡ true
-  pub told : IsToldBy error place message
+  pub told : IsToldBy input error place message
   pub shows : Shows bytes (told_error error) (marker_at (chars bytes))
 
-abbrev pub RefusesMarker : List ℕ → Place → List ℕ → Type 0
-RefusesMarker bytes place message = IsNotText 1 bytes place message ⊎ IsNoMarker bytes place message
+abbrev pub RefusesMarker : ℕ → List ℕ → Place → List ℕ → Type 0
+RefusesMarker input bytes place message =
+    IsNotText input bytes place message ⊎ IsNoMarker input bytes place message
+
+-- ---- normal texts
+
+-- what is wanted of the values of a marker that is made of another one
+abbrev pub Wants : Type 1
+Wants = Marker → (Valuation → Bool) → Type 0
+
+-- the text is the normal one of what is wanted of the marker that bytes are
+pub record GivesText (bytes : List ℕ) (Wanted : Wants) (text : List ℕ) : Type 0 where
+  pub marker : Marker
+  pub is_marker : IsMarkerIn bytes marker
+  pub is_text : IsTextOf (Wanted marker) text
+
+-- what is wanted of the marker that bytes are has no normal text, and the message says why
+pub record GivesNoText (bytes : List ℕ) (Wanted : Wants) (place : Place) (message : List ℕ) : Type 0 where
+  pub marker : Marker
+  pub is_marker : IsMarkerIn bytes marker
+  pub has_none : IsNoTextOf (Wanted marker) place message
+
+abbrev pub RefusesText : List ℕ → Wants → Place → List ℕ → Type 0
+RefusesText bytes Wanted place message =
+    RefusesMarker 1 bytes place message ⊎ GivesNoText bytes Wanted place message
+
+-- how a call ends that is to give the normal text of what is wanted of a marker
+abbrev pub TextEnds : List ℕ → Wants → Ending → Type 0
+TextEnds bytes Wanted = EndsIn (GivesText bytes Wanted) (RefusesText bytes Wanted)
+
+-- the values are those of the marker
+abbrev pub HoldsAlike : Wants
+HoldsAlike marker value = (v : Valuation) → value v ≡ marker_holds marker v
 
 -- how a call ends that is to give the normal text of a marker
 abbrev pub MarkerEnds : List ℕ → Ending → Type 0
-MarkerEnds bytes = EndsIn (IsNormalMarker bytes) (RefusesMarker bytes)
+MarkerEnds bytes = TextEnds bytes HoldsAlike
+
+-- the text is read as a marker with these values; an empty one is none, and the values are all true then
+abbrev pub ReadsBack : List ℕ → (Valuation → Bool) → Type 0
+ReadsBack text value =
+    ((text ≡ []) × ((v : Valuation) → value v ≡ true))
+    ⊎ ((again : Marker) × (marker_at (chars text) ≡ Ok again) × HoldsAlike again value)
 
 -- ---- many markers
 

@@ -1,5 +1,7 @@
 -- What is answered on the texts of requirements (PEP 508, "Grammar").
-use Rattle.std.specs.Prelude.{◌≡◌, ◌⊎◌, ℕ, true, List, [], ◌++◌, codes, unwrap_or, Option, Some, None, Result}
+use Rattle.std.specs.Prelude.{◌≡◌, ◌⊎◌, ℕ, true, List, [], ◌∷◌, ◌++◌, codes, length, unwrap_or, Option}
+use Rattle.std.specs.Prelude.{Some, None, Result, encode_utf8_all}
+use Rattle.std.specs.Fmt.{decimal}
 use Rattle.std.specs.List.{join_with_byte}
 use Rattle.std.specs.Str.{is_utf8}
 use Rattle.read_outcome.specs.Outcome.{Answers}
@@ -17,7 +19,6 @@ use Rattle.pep508_requirement.specs.declared.version_or_url.VersionOrUrl.TheVari
 use Rattle.reqs_reply.specs.declared.place.Place.{Place}
 use Rattle.reqs_reply.specs.Endings.{Ending, EndsIn, IsNotText}
 use Rattle.reqs_markers.specs.Errors.{TextError, IsToldBy}
-use Rattle.reqs_markers.specs.Markers.{IsTextOf}
 
 -- ---- reading
 
@@ -46,22 +47,47 @@ front_lines r =
     r.name ++ (codes "\n"
     ++ (join_with_byte 44 r.extras.items ++ (codes "\n" ++ asked_lines r.version_or_url)))
 
--- the text has the parts of the requirement that bytes are: those of the front, each on a line, and behind
--- them the normal text of its marker
-pub record AreParts (bytes text : List ℕ) : Type 0 where
+-- the text ends with these characters, which have so many bytes, from byte `start` on
+pub record EndsWith (text inside : List ℕ) (start len : ℕ) : Type 0 where
+  pub before : List ℕ
+  pub split : text ≡ before ++ encode_utf8_all inside
+  pub starts : start ≡ length before
+  pub counts : len ≡ length (encode_utf8_all inside)
+
+-- where a marker stands in the text, by the characters that are left after the front and white space: all that
+-- follows the first of them, the `;`
+abbrev pub IsMarkerPlace : List ℕ → List ℕ → Option (ℕ × ℕ) → Type 0
+IsMarkerPlace text [] None = Unit {0}
+IsMarkerPlace text [] (Some place) = ⊥
+IsMarkerPlace text (mark ∷ inside) None = ⊥
+IsMarkerPlace text (mark ∷ inside) (Some place) = EndsWith text inside place.0 place.1
+
+-- the first byte and how many there are; nothing where there is no marker
+abbrev pub place_text : Option (ℕ × ℕ) → List ℕ
+place_text None = []
+place_text (Some place) = decimal place.0 ++ (codes " " ++ decimal place.1)
+
+-- the parts are those of a requirement's front, each on a line, and then the place of its marker in the text,
+-- by the characters that are left after the front
+pub record HasParts (text left : List ℕ) (r : Requirement Verbatim VerbatimUrlError) (parts : List ℕ)
+    : Type 0 where
+  pub place : Option (ℕ × ℕ)
+  pub stands : IsMarkerPlace text left place
+  pub is_text : parts ≡ front_lines r ++ place_text place
+
+-- these are the parts of the requirement that bytes are
+pub record AreParts (bytes parts : List ℕ) : Type 0 where
   pub nodes : List NodeRecord
   pub requirement : Requirement Verbatim VerbatimUrlError
-  pub marker_text : List ℕ
   pub is_utf8_text : is_utf8 bytes ≡ true
   pub reads : IsRead ReadsUrl nodes bytes requirement
-  pub is_marker_text : IsTextOf reads.marker marker_text
-  pub is_text : text ≡ front_lines requirement ++ marker_text
+  pub has_parts : HasParts bytes reads.left requirement parts
 
 -- bytes are a text that is no requirement, for what an error says
 pub record IsNoRequirement (bytes : List ℕ) (place : Place) (message : List ℕ) : Type 0 where
   pub error : TextError
   pub is_utf8_text : is_utf8 bytes ≡ true
-  pub told : IsToldBy error place message
+  pub told : IsToldBy 1 error place message
   pub refused : IsRefused ReadsUrl lacks_memory no_variables bytes error
 
 abbrev pub RefusesRequirement : List ℕ → Place → List ℕ → Type 0

@@ -1,9 +1,12 @@
 //! What the library for C answers on requirements and markers (PEP 508), over bytes.
 #![tactic(auto)]
 
+pub mod laws;
 mod markers;
 mod refusing;
 mod requirements;
+mod texts;
 
-pub use markers::{mark_of_line, marker};
+pub use markers::{mark_of_line, marker, read_marker};
 pub use requirements::{no_variables, requirement};
+pub use texts::{TextFault, normal_text};

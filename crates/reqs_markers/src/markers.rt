@@ -1,23 +1,20 @@
 //! Markers.
 
-ghost use Rattle.std.specs.Prelude.{◌≡◌, ◌≢◌, if◌then◌else◌, chars, unwrap_or, IfOk, OnOk, None};
-ghost use Rattle.std.specs.Prelude.{string_bytes, []};
-ghost use Rattle.pep508_diagram.specs.Question.{IsCanonical};
-ghost use Rattle.pep508_diagram.specs.Shortened.{HasShortVersions};
-ghost use Rattle.pep508_tree.specs.Meaning.{IsTree, diagram_of};
+ghost use Rattle.std.specs.Prelude.{◌≡◌, ◌≢◌, if◌then◌else◌, chars, IfOk, IfErr, OnOk, None};
+ghost use Rattle.pep508_tree.specs.Meaning.{Extends};
 ghost use Rattle.pep508_evaluation.specs.Valuations.{valuation_of};
-ghost use Rattle.pep508_marker_text.specs.MarkerText.{marker_text};
 ghost use Rattle.pep508_error.specs.Errors.{told_error};
 ghost use Rattle.pep508_marker_read.specs.MarkerReading.{marker_at};
-ghost use Rattle.reqs_reply.specs.Endings.{RepliesAs, ending_of};
-ghost use Rattle.reqs_markers.specs.Markers.{ReadsTree, MarkerEnds, held_mark, mark_in};
+ghost use Rattle.reqs_reply.specs.Endings.{EndsIn, NoAnswer, RepliesAs, ending_of};
+ghost use Rattle.reqs_markers.specs.Markers.{IsMarkerTree, ReadsTree, RefusesMarker, MarkerEnds};
+ghost use Rattle.reqs_markers.specs.Markers.{held_mark, mark_in};
 
 use crate::refusing::refused;
+use crate::texts::normal_text;
 use pep508_environment::MarkerEnvironment;
 use pep508_error::{Pep508Error, Pep508ErrorSource};
 use pep508_evaluation::MarkerTreeEvaluation;
 use pep508_marker::Silent;
-use pep508_marker_dnf::MarkerTreeText;
 use pep508_marker_read::MarkerTreeReading;
 use pep508_name::ExtraName;
 use pep508_tree::{Interner, MarkerTree};
@@ -26,26 +23,46 @@ use reqs_reply::{Ended, Reply, text_of};
 use std::alloc::{AllocError, Global};
 use std::str;
 
-/// Answers with the normal text of the marker that a text is, which is empty where the marker always holds
-/// (PEP 508, "Environment Markers"). Another text is refused where it stops being a marker.
+/// Answers with the normal text of the marker that a text is (PEP 508, "Environment Markers"): markers that hold
+/// alike have it in common, and it is read as a marker that holds alike; it is empty where the marker always
+/// holds. A text that is no marker is refused where it stops being one, and a marker that has no such text for
+/// the first cause of `TextFault`, in the order of its variants.
+///
+/// Takes exponentially long in the text at worst, as its length is then.
 pub fn marker(alloc: Global, bytes: &[u8], out: &mut [u8]) -> Reply
     ensures { RepliesAs (MarkerEnds bytes.now) out.old out.new result }
 {
-    normal_marker(alloc, bytes).reply(out)
+    own_text(alloc, bytes).reply(out)
 }
 
 /// How the call ends that gives the normal text.
-fn normal_marker(alloc: Global, bytes: &[u8]) -> Ended
+fn own_text(alloc: Global, bytes: &[u8]) -> Ended
     ensures { MarkerEnds bytes.now (ending_of result) }
 {
-    let text = match text_of(alloc, 1, bytes) {
-        Ok(text) => text,
-        Err(ended) => return ended,
-    };
     let mut interner = Interner::new(alloc);
-    match read_tree(alloc, &mut interner, text) {
-        Ok(tree) => Ended::answered(tree_text(alloc, &interner, tree)),
-        Err(error) => refused(alloc, &error),
+    match read_marker(alloc, &mut interner, 1, bytes) {
+        Ok(tree) => normal_text(alloc, &interner, tree),
+        Err(ended) => ended,
+    }
+}
+
+/// The tree of the marker that the argument of this number is, or how the call ends that gets no marker.
+///
+/// Linear in the text but for combining trees.
+pub fn read_marker(
+    alloc: Global,
+    interner: &mut Interner,
+    input: u32,
+    bytes: &[u8],
+) -> Result<MarkerTree, Ended>
+    ensures tree { IfOk result (IsMarkerTree interner.new.nodes bytes.now) }
+    ensures none { IfErr result (λ ended. EndsIn NoAnswer (RefusesMarker input bytes.now) (ending_of ended)) }
+    ensures keeps { Extends interner.old.nodes interner.new.nodes }
+{
+    let text = text_of(alloc, input, bytes)?;
+    match read_tree(alloc, interner, text) {
+        Ok(tree) => Ok(tree),
+        Err(error) => Err(refused(alloc, input, &error)),
     }
 }
 
@@ -55,29 +72,10 @@ fn read_tree(
     interner: &mut Interner,
     text: &str,
 ) -> Result<MarkerTree, Pep508Error<VerbatimUrl>>
-    ensures { ReadsTree interner.new.nodes text.now result (marker_at (chars text.now)) }
+    ensures read { ReadsTree interner.new.nodes text.now result (marker_at (chars text.now)) }
+    ensures keeps { Extends interner.old.nodes interner.new.nodes }
 {
     MarkerTree::parse_reporter(alloc, interner, text, &mut Silent)
-}
-
-/// The normal text of a tree, which is empty where it always holds.
-#[tactic(auto, using(crate::proofs::Diagrams::canonical, crate::proofs::Diagrams::short))]
-pub(crate) fn tree_text(
-    alloc: Global,
-    interner: &Interner,
-    tree: MarkerTree,
-) -> Result<String, AllocError>
-    requires { IsTree interner.now.nodes tree }
-    ensures text { IfOk result (λ text. string_bytes text
-        ≡ unwrap_or (marker_text (diagram_of interner.now.nodes tree)) []) }
-    ensures canonical { IsCanonical (diagram_of interner.now.nodes tree) }
-    ensures short { HasShortVersions (diagram_of interner.now.nodes tree) }
-{
-    interner.are_sound();
-    match tree.try_to_string(alloc, interner)? {
-        Some(text) => Ok(text),
-        None => Ok(String::new(alloc)),
-    }
 }
 
 /// `1` where the marker that a line is holds in an environment with extras, `0` where it doesn't, `?` where

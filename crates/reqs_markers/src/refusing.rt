@@ -8,15 +8,18 @@ use pep508_url::VerbatimUrl;
 use reqs_reply::{Ended, Place};
 use std::alloc::Global;
 
-/// How a call ends whose first argument is refused with an error, or for which memory ran out.
-pub(crate) fn refused(alloc: Global, error: &Pep508Error<VerbatimUrl>) -> Ended
-    ensures { EndsIn NoAnswer (IsToldBy error.now) (ending_of result) }
+/// How a call ends whose argument of this number is refused with an error, or for which memory ran out.
+pub(crate) fn refused(alloc: Global, input: u32, error: &Pep508Error<VerbatimUrl>) -> Ended
+    ensures { EndsIn NoAnswer (IsToldBy input error.now) (ending_of result) }
 {
     match error.message() {
         Pep508ErrorSource::Memory => Ended::OutOfMemory,
         message => {
             let start = error.start();
-            Ended::refused(Place::span(1, start, error.len()), message.to_string(alloc))
+            Ended::refused(
+                Place::span(input, start, error.len()),
+                message.to_string(alloc),
+            )
         }
     }
 }

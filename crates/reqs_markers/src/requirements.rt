@@ -1,18 +1,19 @@
 //! Requirements.
 
-ghost use Rattle.std.specs.Prelude.{◌≡◌, ◌∷◌, ◌++◌, [], unwrap_or, IfOk, OnOk, string_bytes};
+ghost use Rattle.std.specs.Prelude.{◌≡◌, ◌∷◌, ◌++◌, ℕ, List, Ok, unwrap_or, IfOk, OnOk, string_bytes};
 ghost use Rattle.std.specs.List.{flat_map, join_with_byte};
-ghost use Rattle.pep508_diagram.specs.Question.{IsCanonical};
-ghost use Rattle.pep508_diagram.specs.Shortened.{HasShortVersions};
-ghost use Rattle.pep508_tree.specs.Meaning.{IsTree, diagram_of};
-ghost use Rattle.pep508_marker_text.specs.MarkerText.{marker_text};
+ghost use Rattle.std.specs.Str.{skip_leading_whitespace};
+ghost use Rattle.pep508_error.specs.Cursors.{behind};
+ghost use Rattle.pep508_requirement_text.specs.FrontReading.{Front, front_reading};
 ghost use Rattle.reqs_reply.specs.Endings.{RepliesAs, ending_of};
-ghost use Rattle.reqs_markers.specs.Parts.{no_variables, asked_lines, front_lines, RequirementEnds};
+ghost use Rattle.reqs_markers.specs.Parts.{no_variables, asked_lines, front_lines, IsMarkerPlace, place_text};
+ghost use Rattle.reqs_markers.specs.Parts.{HasParts, RequirementEnds};
 
-use crate::markers::tree_text;
 use crate::refusing::refused;
+use pep508_error::Cursor;
 use pep508_name::ExtraName;
 use pep508_requirement::{Requirement, VersionOrUrl};
+use pep508_requirement_text::read_front;
 use pep508_tree::Interner;
 use pep508_url::{Vars, VerbatimUrl};
 use reqs_reply::{Ended, Reply, text_of};
@@ -30,9 +31,11 @@ pub fn no_variables(alloc: Global) -> Result<Vars, AllocError>
 }
 
 /// Answers with the parts of the requirement that a text is (PEP 508, "Grammar"): its name, its extras and
-/// its specifiers with commas between them, and its URL as it is written, each on a line, and behind them the
-/// normal text of its marker, which is empty where that always holds. Another text is refused where it stops
-/// being a requirement.
+/// its specifiers with commas between them, and its URL as it is written, each on a line, and then where its
+/// marker stands in the text: the first byte and the number of bytes, which are all that follow the `;`. Another
+/// text is refused where it stops being a requirement.
+///
+/// Linear in the text, but for bringing specifiers in order and for combining the marker's trees.
 pub fn requirement(alloc: Global, bytes: &[u8], out: &mut [u8]) -> Reply
     ensures { RepliesAs (RequirementEnds bytes.now) out.old out.new result }
 {
@@ -52,27 +55,59 @@ fn requirement_parts(alloc: Global, bytes: &[u8]) -> Ended
     };
     let mut interner = Interner::new(alloc);
     match Requirement::parse(alloc, &mut interner, &vars, text, Some(ROOT)) {
-        Ok(requirement) => Ended::answered(parts_text(alloc, &interner, &requirement)),
-        Err(error) => refused(alloc, &error),
+        Ok(requirement) => Ended::answered(parts_text(alloc, &vars, text, &requirement)),
+        Err(error) => refused(alloc, 1, &error),
     }
 }
 
-/// The text of a requirement's parts.
+/// Where the marker of a text stands whose front can be read.
+fn marker_place(
+    alloc: Global,
+    vars: &Vars,
+    text: &str,
+) -> Result<Option<(usize, usize)>, AllocError>
+    ensures { IfOk result (λ place. (front : Front) (rest : List ℕ) → front_reading text.now ≡ Ok (front, rest) →
+        IsMarkerPlace text.now (skip_leading_whitespace rest) place) }
+{
+    match read_front(alloc, Cursor::new(text), vars) {
+        Ok((_, rest)) => Ok(inside_place(rest.after_whitespace())),
+        // The front can be read, so that nothing lacks but memory.
+        Err(_) => Err(AllocError),
+    }
+}
+
+/// Where what follows the first character of a place stands, and how many bytes it has.
+fn inside_place(left: Cursor<'_>) -> Option<(usize, usize)>
+    ensures { IsMarkerPlace left.entry.input.now (behind left.entry) result }
+{
+    let (_, inside) = left.split_first()?;
+    Some((inside.position(), inside.rest().len()))
+}
+
+/// The parts of a requirement that was read of the text.
 fn parts_text(
     alloc: Global,
-    interner: &Interner,
+    vars: &Vars,
+    text: &str,
     requirement: &Requirement<VerbatimUrl>,
 ) -> Result<String, AllocError>
-    requires { IsTree interner.now.nodes requirement.now.marker }
-    ensures text { IfOk result (λ text. string_bytes text ≡ front_lines requirement.now
-        ++ unwrap_or (marker_text (diagram_of interner.now.nodes requirement.now.marker)) []) }
-    ensures canonical { IsCanonical (diagram_of interner.now.nodes requirement.now.marker) }
-    ensures short { HasShortVersions (diagram_of interner.now.nodes requirement.now.marker) }
+    ensures { IfOk result (λ parts. (front : Front) (rest : List ℕ) → front_reading text.now ≡ Ok (front, rest) →
+        HasParts text.now (skip_leading_whitespace rest) requirement.now (string_bytes parts)) }
 {
-    let marker = tree_text(alloc, interner, requirement.marker)?;
-    let mut text = front_lines(alloc, requirement)?;
-    text.push_str(marker.as_str())?;
-    Ok(text)
+    let place = marker_place(alloc, vars, text)?;
+    let mut parts = front_lines(alloc, requirement)?;
+    push_place(&mut parts, place)?;
+    Ok(parts)
+}
+
+/// Adds where a marker stands.
+fn push_place(text: &mut String, place: Option<(usize, usize)>) -> Result<(), AllocError>
+    ensures { OnOk result (string_bytes text.new ≡ string_bytes text.old ++ place_text place) }
+{
+    match place {
+        None => Ok(()),
+        Some((start, len)) => { write!(text, "{start} {len}") }
+    }
 }
 
 /// The lines of a requirement's front.
@@ -100,7 +135,7 @@ fn push_names(text: &mut String, names: &[ExtraName]) -> Result<(), AllocError>
     }
 }
 
-/// Adds each name behind a comma.
+/// Adds each name after a comma.
 fn push_others(text: &mut String, names: &[ExtraName]) -> Result<(), AllocError>
     ensures { OnOk result (string_bytes text.new
         ≡ string_bytes text.old ++ flat_map (λ name. 44 ∷ name) names.now) }

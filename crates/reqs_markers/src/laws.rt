@@ -1,0 +1,18 @@
+//! Laws over the definitions. The functions do nothing: each one's contract is its law.
+
+ghost use Rattle.std.specs.Prelude.{◌≡◌, ℕ, List};
+ghost use Rattle.pep508_diagram.specs.Question.{Valuation};
+ghost use Rattle.reqs_markers.specs.Markers.{marker_holds, GivesText, HoldsAlike, ReadsBack};
+
+/// The normal text of a marker is read again, as a marker that holds alike.
+pub fn a_normal_text_reads_back()
+    ensures { (bytes text : List ℕ) (given : GivesText bytes HoldsAlike text) →
+        ReadsBack text (marker_holds given.marker) }
+{}
+
+/// Markers that hold alike have one normal text.
+pub fn markers_that_hold_alike_have_one_text()
+    ensures { (bytes others text other : List ℕ) (given : GivesText bytes HoldsAlike text)
+        (also : GivesText others HoldsAlike other) →
+        ((v : Valuation) → marker_holds given.marker v ≡ marker_holds also.marker v) → text ≡ other }
+{}
