@@ -404,6 +404,26 @@ mod tests {
         assert_eq!(again, 0);
     }
 
+    #[test]
+    fn keys_are_answered_once() {
+        let comparison = |it: usize| match it % 3 {
+            0 => format!("extra == 'a{it}'"),
+            1 => format!("os_name != 'a{it}'"),
+            _ => format!("python_version >= '3.{it}'"),
+        };
+        let marker = (0..300).map(comparison).collect::<Vec<_>>().join(" or ");
+        let again = asked_again(|| {
+            for text in [
+                marker.as_str(),
+                "os_name == 'nt'",
+                "python_version in '3.8 3.9 3.11'",
+            ] {
+                assert!(!marker_key(text).unwrap().is_empty());
+            }
+        });
+        assert_eq!(again, 0);
+    }
+
     fn lists_in(environment: &str) -> [&[u8]; 3] {
         [b"foo\n", environment.as_bytes(), b"foo 1\n"]
     }

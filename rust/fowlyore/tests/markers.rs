@@ -261,18 +261,18 @@ fn a_thousand_markers_are_joined_both_ways() {
     assert_eq!(any.evaluate(&environment, &["b"]), Ok(false));
 }
 
+/// Where brackets would nest deeper than they may, normal texts are joined.
 #[test]
-fn brackets_nest_no_deeper_than_they_may() {
-    let (windows, quoted) = (read("os_name == 'nt'"), read("os_name == \"it's\""));
+fn connectives_alternate_at_will() {
     let extras: Vec<MarkerTree> = (0..4).map(|it| read(&format!("extra == '{it}'"))).collect();
     // .. and extra == '0' or extra == '2' and extra == '1' or extra == '3', from the left
-    let alternated = |first: &MarkerTree| {
-        (0..400).try_fold(first.clone(), |all, at| match at % 2 {
+    let alternated = |first: &str| {
+        (0..1000).try_fold(read(first), |all, at| match at % 2 {
             0 => all.and(&extras[at / 2 % 2]),
             _ => all.or(&extras[2 + at / 2 % 2]),
         })
     };
-    let deep = alternated(&windows).unwrap();
+    let deep = alternated("os_name == 'nt'").unwrap();
     let environment = Draws::of(6).environment("3.9.2");
     for (extras, holds) in [
         (&["3"][..], true),
@@ -282,29 +282,32 @@ fn brackets_nest_no_deeper_than_they_may() {
     ] {
         assert_eq!(deep.evaluate(&environment, extras), Ok(holds), "{extras:?}");
     }
-    let refused = alternated(&quoted).unwrap_err();
+    let refused = alternated("os_name == \"it's\"").unwrap_err();
     assert!(refused.message.contains("256"), "{refused}");
-    // brackets in texts don't nest
-    let brackets = "(".repeat(1000);
-    let text = read(&format!("os_name == '{brackets}'"));
+}
+
+/// A text between so many brackets.
+fn nested(count: usize, text: &str) -> MarkerTree {
+    read(&format!("{}{text}{}", "(".repeat(count), ")".repeat(count)))
+}
+
+#[test]
+fn given_brackets_count() {
+    let windows = read("os_name == 'nt'");
+    let quoted = nested(256, "os_name == \"it's\"");
+    assert_eq!(quoted, read("os_name == \"it's\""));
+    assert!(quoted.or(&windows).unwrap_err().message.contains("256"));
+    let (most, fewer) = (nested(256, "os_name == 'a'"), nested(255, "os_name == 'a'"));
+    assert_eq!(most.or(&windows), read("os_name == 'a'").or(&windows));
+    let always = fewer.or(&read("os_name != 'a'")).unwrap();
+    assert_eq!(always.and(&windows), Ok(windows.clone()));
+    let never = fewer.and(&read("os_name == 'b'")).unwrap();
+    assert_eq!(never.or(&windows), Ok(windows.clone()));
+    // those in texts don't nest
+    let text = read(&format!("os_name == '{}'", "(".repeat(1000)));
     assert!(text.and(&windows).unwrap().is_false());
-    assert!(windows
-        .or(&text)
-        .unwrap()
-        .implies(&read("os_name != 'posix'")));
-    let nested = read(&format!(
-        "{}os_name == \"it's\"{}",
-        "(".repeat(256),
-        ")".repeat(256)
-    ));
-    assert_eq!(nested, quoted);
-    assert!(nested.or(&windows).is_err());
-    let normal = read(&format!(
-        "{}os_name == 'a'{}",
-        "(".repeat(256),
-        ")".repeat(256)
-    ));
-    assert_eq!(normal.or(&windows), read("os_name == 'a'").or(&windows));
+    let either = windows.or(&text).unwrap();
+    assert!(either.implies(&read("os_name != 'posix'")));
 }
 
 #[test]
