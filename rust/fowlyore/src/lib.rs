@@ -4,6 +4,18 @@
 //! Texts are handed to the library as they are, and it keeps nothing of them. Where memory runs out the process ends, as with Rust's
 //! own collections. This crate itself is not proved: it calls, and splits what it is answered.
 //!
+//! A value means what was written. A marker is evaluated, compared and joined by its given text, and a requirement's is what stands in the
+//! requirement's text; prints are made for whoever prints, and each is read again as an equal value:
+//!
+//! ```
+//! use fowlyore::Requirement;
+//!
+//! let line: Requirement = "Foo >= 1 ; python_version > '3.7' and os_name != \"it's\"".parse()?;
+//! assert_eq!(line.to_string(), "foo>=1 ; python_version > '3.7' and os_name != \"it's\"");
+//! assert_eq!(line.to_string().parse::<Requirement>()?, line);
+//! # Ok::<(), fowlyore::Refused>(())
+//! ```
+//!
 //! Calls share nothing, and neither they nor values have a lock. So values may go to other threads and be used by several at once, and
 //! calls may be made in the child of a `fork` by glibc too, of a process with threads as well, where its `malloc` is the one in use.
 //!

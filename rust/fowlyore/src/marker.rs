@@ -27,8 +27,8 @@ const IS_MARKER: &str = "the text of a marker is read";
 ///
 /// What is said of markers is said of conditions: a value of each variable, an answer to each question whether a text stands in one, as
 /// `'x' in os_name` asks, and any extras, of which none says anything of another. A variable by its old name, as `os.name`, is another
-/// one, and `python_version` is read off `python_full_version`. So there are conditions that no environment meets: under some
-/// `os_name == 'nt' and 'x' in os_name` holds.
+/// one, while `python_version` is read off `python_full_version`. So there are conditions that no environment meets: under some of
+/// them `os_name == 'nt' and 'x' in os_name` holds.
 ///
 /// Markers are equal exactly where they hold under the same conditions, whatever was written. Their order agrees with that, and means
 /// nothing more.
@@ -110,9 +110,8 @@ impl MarkerTree {
         }
     }
 
-    /// The text as it was given, without the white space around it; that of markers which [`and`](MarkerTree::and) or
-    /// [`or`](MarkerTree::or) joined has their texts in it. It is read again as this marker. It is empty for the marker without a text,
-    /// `Default`, alone.
+    /// The text as it was given, without the white space around it, or as it was joined by [`and`](MarkerTree::and) or
+    /// [`or`](MarkerTree::or). It is read again as an equal marker. It is empty for the marker without a text, `Default`, alone.
     ///
     /// ```
     /// use fowlyore::{MarkerTree, Requirement};
@@ -233,9 +232,11 @@ impl MarkerTree {
         native::marker_implies(self.readable(), other.readable()).expect(IS_MARKER)
     }
 
-    /// The marker that holds where both do. The library is asked for nothing: the given texts are joined, and of a chain no more than
-    /// once put in brackets. Where brackets would nest more than 256 deep, as they may where `and` and `or` alternate, the normal texts are
-    /// joined; refused where there are none.
+    /// The marker that holds where both do. Its text is the two texts with `and` between them, each in brackets unless `and` joined
+    /// it already, so that a chain of any length nests no deeper than what it joins. No print and no key are made.
+    ///
+    /// Brackets of a marker may nest 256 deep. Where they would nest deeper, as they may where `and` and `or` alternate, the
+    /// [`normal`](MarkerTree::normal) texts are joined, at their cost; refused where what nests too deep has none.
     ///
     /// ```
     /// use fowlyore::MarkerTree;
@@ -253,7 +254,7 @@ impl MarkerTree {
         }
     }
 
-    /// The marker that holds where one of the two does, of texts that are joined as by [`and`](MarkerTree::and).
+    /// The marker that holds where one of the two does, of a text that is made as by [`and`](MarkerTree::and).
     ///
     /// ```
     /// use fowlyore::MarkerTree;
@@ -484,7 +485,7 @@ impl fmt::Debug for MarkerTree {
     }
 }
 
-/// Prints the [`normal`](MarkerTree::normal) text, at the cost that is told there, or the text as it was given where there is no normal
+/// Prints the [`normal`](MarkerTree::normal) text, at the cost that is said there, or the text as it was given where there is no normal
 /// one. The print is read again as an equal marker, unless the marker always holds: then nothing is printed, and the marker is
 /// written by leaving it out (as `try_to_string` of the crate `pep508_rs` gives nothing for it).
 ///
