@@ -102,6 +102,7 @@ impl MarkerTree {
     fn of_normal(answer: Result<String, Refused>) -> Result<MarkerTree, Refused> {
         match answer {
             Ok(text) => Ok(MarkerTree {
+                // (around clauses alone)
                 brackets: 1,
                 ..MarkerTree::given(&text, UNKNOWN)
             }),
