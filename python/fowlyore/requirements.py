@@ -1,10 +1,10 @@
 """Requirements (PEP 508)."""
 
 import re
-from functools import cached_property
 from typing import Any, FrozenSet, Optional, Set, Tuple
 
 from . import _native
+from ._cached import cached_property
 from .errors import Refused, on_one_line, refusal
 from .markers import Marker, marker_of
 from .specifiers import SpecifierSet
