@@ -4,6 +4,8 @@
  * Texts. Each text is a pointer to bytes and their number; it is read as UTF-8, and needs no 0 at its end. Where
  * the number is 0 the pointer is not null either. A call reads the texts while it runs and keeps none of them.
  *
+ * Lines of versions, markers or extras are what stands between line feeds; one at the end of a text ends its last line.
+ *
  * The answer. `out` is a buffer of the caller's of `out_len` bytes, which overlaps no text; where out_len is 0 it is not
  * null either. A call writes its answer's text there, the front of it that fits, and no byte behind; no 0 is put at the
  * end. The reply's `length` is that of the whole text: where it is more than out_len, call again with as much room. A
@@ -13,7 +15,11 @@
  * calls. Where the process has none, the status is REQS_MEMORY and out is as it was.
  *
  * Threads. Calls share nothing: any threads may call at any time, with buffers that no other call writes. Don't call
- * from a signal handler, nor in the child of a fork of a process with threads.
+ * from a signal handler.
+ *
+ * Forks. In the child of a fork, of a process with threads too, each call may be made where malloc, realloc and free may
+ * be called: with glibc's fork() and its own malloc they may. Don't call in the child of vfork, _Fork or a bare clone.
+ * docs/C.md says what each rests on.
  *
  * Stack. A thread needs 512 KiB; docs/C.md says what was tried.
  *
@@ -34,7 +40,7 @@ extern "C" {
 #endif
 
 /* The number of this interface, which changes with it. */
-#define REQS_ABI 1u
+#define REQS_ABI 2u
 
 enum reqs_status {
     REQS_ANSWERED = 0,
@@ -118,16 +124,80 @@ reqs_reply reqs_specifiers_take(const uint8_t *list, size_t list_len,
                                 const uint8_t *versions, size_t versions_len,
                                 uint8_t *out, size_t out_len);
 
-/* ---- requirements and markers (PEP 508). A line of several is what stands between line feeds; one at the end of the text
- * ends its last line. */
+/* ---- lists of specifiers as ranges (PEP 440). A range is a set of points on the line of versions: at each version, and
+ * between versions where a specifier's bound lies. Each answer is one byte, '1' or '0'. A text that is no list is refused, and
+ * so is a list with a version number that can't be raised; there input is that of the list, and start and len are 0.
+ *
+ * Points are finer than versions: >=1.2,<2 is a subset of ~=1.2 and not the other way round, though both accept the same
+ * versions. ~=1.2 ends at 2.dev0 and <2 just below all versions of release 2, and between these two ends lie points, but no
+ * version. */
 
-/* Five parts of a requirement, with a line feed behind each but the last: its name in normal form; its extras with commas
- * between them; its specifiers with commas between them; its URL as it is written; the normal text of its marker. Each
- * but the name is empty where there is none. */
+/* '1' where no point lies in the ranges of both lists. */
+reqs_reply reqs_specifiers_disjoint(const uint8_t *left, size_t left_len,
+                                    const uint8_t *right, size_t right_len,
+                                    uint8_t *out, size_t out_len);
+
+/* '1' where each point of the left list's range lies in the right one's. */
+reqs_reply reqs_specifiers_subset(const uint8_t *left, size_t left_len,
+                                  const uint8_t *right, size_t right_len,
+                                  uint8_t *out, size_t out_len);
+
+/* '1' where no point lies in the range of the list. */
+reqs_reply reqs_specifiers_empty(const uint8_t *text, size_t text_len, uint8_t *out, size_t out_len);
+
+/* ---- requirements (PEP 508) */
+
+/* Five parts of a requirement, with a line feed after each but the last: its name in normal form; its extras with commas
+ * between them; its specifiers with commas between them; its URL as it is written; where its marker stands in the text, as
+ * the first byte and the number of bytes with a space between: all that follows the `;`, white space too. Each but the name
+ * is empty where there is none. */
 reqs_reply reqs_requirement(const uint8_t *text, size_t text_len, uint8_t *out, size_t out_len);
 
-/* The normal text of a marker, which markers of one meaning have in common; empty where it always holds. */
+/* ---- markers (PEP 508, "Environment Markers"). A text that is no marker is refused at the part that can't be read. A
+ * condition is a value of each key that markers ask of, of which none says anything of another, and any extras; so
+ * there are conditions that no environment meets (docs/C.md). */
+
+/* The normal text of a marker, which markers of one meaning have in common, and which is read as a marker of that meaning;
+ * empty where it always holds. It can be exponentially longer than the marker. Refused with input 1, and start and len 0,
+ * where there is no such text: a text that the marker compares with has a single quote ("no normal text: single quote"), it
+ * asks of a key by an old name ("no normal text: deprecated key"), it has a version that is more than release numbers of
+ * epoch 0 ("no normal text: version bound"), or it never holds ("no normal text: never holds"). */
 reqs_reply reqs_marker(const uint8_t *text, size_t text_len, uint8_t *out, size_t out_len);
+
+/* The key of a marker: bytes that are the same exactly where two markers hold under the same conditions. Their order by
+ * memcmp is one of markers that means nothing more. A key is about as long as the marker, and exponentially longer at
+ * worst; docs/C.md says what each call costs. */
+reqs_reply reqs_marker_key(const uint8_t *text, size_t text_len, uint8_t *out, size_t out_len);
+
+/* One byte: '1' where the marker holds under each condition, '0' where under none, '-' else. */
+reqs_reply reqs_marker_truth(const uint8_t *text, size_t text_len, uint8_t *out, size_t out_len);
+
+/* One byte: '1' where both markers hold under no condition, so in no environment, else '0'. */
+reqs_reply reqs_markers_disjoint(const uint8_t *left, size_t left_len,
+                                 const uint8_t *right, size_t right_len,
+                                 uint8_t *out, size_t out_len);
+
+/* One byte: '1' where the right marker holds under each condition under which the left one does, else '0'. */
+reqs_reply reqs_marker_implies(const uint8_t *left, size_t left_len,
+                               const uint8_t *right, size_t right_len,
+                               uint8_t *out, size_t out_len);
+
+/* The normal text of the marker that holds where this one doesn't; refused as reqs_marker refuses. */
+reqs_reply reqs_marker_negated(const uint8_t *text, size_t text_len, uint8_t *out, size_t out_len);
+
+/* The normal text of a marker that holds as this one does in environments whose python_full_version lies from `lower` on
+ * and below `upper`, each a version, or empty for no bound; it asks of that version no more than this takes. Refused as
+ * reqs_marker refuses; input is 2 or 3 where a bound is no version. */
+reqs_reply reqs_marker_simplify_python(const uint8_t *text, size_t text_len,
+                                       const uint8_t *lower, size_t lower_len,
+                                       const uint8_t *upper, size_t upper_len,
+                                       uint8_t *out, size_t out_len);
+
+/* The normal text of a marker with these extras, one a line, taken as present, so that it asks of them no more; empty lines
+ * are passed over. Refused as reqs_marker refuses; input is 2 where an extra is no name. */
+reqs_reply reqs_marker_simplify_extras(const uint8_t *text, size_t text_len,
+                                       const uint8_t *extras, size_t extras_len,
+                                       uint8_t *out, size_t out_len);
 
 /* A byte for each line of `markers`: '1' where the marker holds in the environment with the extras, one a line, '0' where
  * not, '?' where the line is no marker. */

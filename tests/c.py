@@ -1,10 +1,10 @@
 #!/usr/bin/env python3
 """Makes the calls of the library for C, by programs in C that link it.
 
-    c.py SHARED STATIC DEEP REFUSE LIBRARIES
+    c.py SHARED STATIC DEEP FORKS REFUSE LIBRARIES
 
-SHARED and STATIC are tests/c/serve.c linked with libreqs.so and with libreqs.a, DEEP is tests/c/deep.c, REFUSE is
-tests/refuse.c as a shared library, LIBRARIES is the folder of the two. What calls have to answer is of elsewhere: the
+SHARED and STATIC are tests/c/serve.c linked with libreqs.so and with libreqs.a, DEEP is tests/c/deep.c, FORKS is
+tests/c/forks.c, REFUSE is tests/refuse.c as a shared library, LIBRARIES is the folder of the two. What calls have to answer is of elsewhere: the
 examples and the stored runs of the command, whose answers are the calls', and rows of PEP 440 and PEP 508. Each call is
 made with ample room; one of each kind with room of each smaller size, and with each of its requests for memory refused
 in turn. The program of docs/C.md is compiled by the commands there, and has to print what stands there. The last line
@@ -21,8 +21,9 @@ import tempfile
 from concurrent.futures import ThreadPoolExecutor
 
 TOP = os.path.dirname(os.path.dirname(os.path.abspath(__file__)))
-CALLS = ("check", "matrix", "same", "conflicts", "normal", "version", "key", "order", "specifiers", "take", "requirement",
-         "marker", "hold", "abi")
+CALLS = ("check", "matrix", "same", "conflicts", "normal", "version", "key", "order", "specifiers", "take", "ranges disjoint", "subset",
+         "empty", "requirement", "marker", "marker key", "truth", "disjoint", "implies", "negated", "python", "extras", "hold", "abi")
+INTERFACE = 2
 ROOM = 1 << 20
 LIMIT = 4096
 ANSWERED, DIFFERENT, REFUSED, MEMORY = range(4)
@@ -36,6 +37,10 @@ AT_ONCE = {"GLIBC_TUNABLES": "glibc.malloc.tcache_count=0"}
 BEYOND = {*"popcnt pshufb ptest pextrb pextrd pextrq pinsrb pinsrd pinsrq pblendw pblendvb pmovsxbd pmovzxwd pmaxuw pcmpgtq".split()}
 # How many extras the deepest trees have: one that is asked, and one that is printed; and the threads' stack in KiB.
 DEEP = ("100000", "1000", "512")
+# How often a process with threads forks, and the allocator's settings under which it does: its own, and such that all threads
+# wait for one lock.
+FORKS = "400"
+ALLOCATORS = {"each thread's memory": {}, "one memory": {"GLIBC_TUNABLES": "glibc.malloc.arena_max=1:glibc.malloc.tcache_count=0"}}
 
 passed, failed = 0, []
 
@@ -156,7 +161,10 @@ TEXTS = [
     ("version", " 1.2.dev ", "1.2.dev0"), ("version", "00", "0"),
     ("specifiers", "<2, >= 1.0,!=1.5.*", ">=1.0\n!=1.5.*\n<2\n"), ("specifiers", "", ""), ("specifiers", "~= 2.2", "~=2.2\n"),
     ("requirement", "requests [security,tests] >= 2.8.1, == 2.8.* ; python_version < \"2.7\"",
-     "requests\nsecurity,tests\n==2.8.*,>=2.8.1\n\npython_full_version < '2.7'"),
+     "requests\nsecurity,tests\n==2.8.*,>=2.8.1\n\n46 23"),
+    ("requirement", "n @ https://e.org/a;b ; extra == 'é'", "n\n\n\nhttps://e.org/a;b\n23 14"),
+    ("requirement", "A[b,c];os_name=='b'  ", "a\nb,c\n\n\n7 14"),
+    ("requirement", "a ;os_name == ';'", "a\n\n\n\n3 14"),
     ("requirement", "pip @ https://github.com/pypa/pip/archive/1.3.1.zip#sha1=da9234ee9982d4bbb3c72346a6de940a148ea686",
      "pip\n\n\nhttps://github.com/pypa/pip/archive/1.3.1.zip#sha1=da9234ee9982d4bbb3c72346a6de940a148ea686\n"),
     ("requirement", "A.B-C_D", "a-b-c-d\n\n\n\n"),
@@ -165,6 +173,50 @@ TEXTS = [
     ("marker", "os_name == 'a' or os_name != 'a'", ""),
     ("marker", "'linux' == sys_platform and (extra=='X_y')", "sys_platform == 'linux' and extra == 'x-y'"),
 ]
+# What is answered on the meaning of markers (PEP 508, "Environment Markers"), by a call and its texts. The last of those for a
+# range of Python versions and with extras are of the tests of uv's pep508 crate.
+MEANT = [
+    ("truth", ["os_name == 'a' or os_name != 'a'"], "1"), ("truth", ["os_name == 'a' and os_name == 'b'"], "0"),
+    ("truth", ["os_name == 'a'"], "-"), ("truth", ["python_version < '3' or python_full_version >= '3.0'"], "1"),
+    ("truth", ["os_name == \"a'\" and os_name != \"a'\""], "0"), ("truth", ["python_implementation == 'x'"], "-"),
+    ("disjoint", ["python_version < '3'", "python_full_version >= '3.0.1'"], "1"), ("disjoint", ["os_name == 'a'", "os_name >= 'a'"], "0"),
+    ("disjoint", ["os_name == 'a'", "sys_platform == 'b'"], "0"), ("disjoint", ["extra == 'A_b'", "extra != 'a-b'"], "1"),
+    ("implies", ["python_version >= '3.9'", "python_version >= '3.8'"], "1"), ("implies", ["python_version >= '3.8'", "python_version >= '3.9'"], "0"),
+    ("implies", ["os_name == 'a' and extra == 'x'", "extra == 'x'"], "1"), ("implies", ["extra == 'x'", "os_name == 'a' and extra == 'x'"], "0"),
+    ("implies", ["os_name == 'a' and os_name == 'b'", "extra == 'x'"], "1"),
+    ("negated", ["os_name == 'a'"], "os_name != 'a'"), ("negated", ["os_name == 'a' or extra == 'x'"], "os_name != 'a' and extra != 'x'"),
+    ("negated", ["python_version < '3.8'"], "python_full_version >= '3.8'"), ("negated", ["os_name == 'a' and os_name == 'b'"], ""),
+    ("python", ["os_name == 'a' and python_version >= '3.8'", "3.8", ""], "os_name == 'a'"),
+    ("python", ["python_version < '3.12' or os_name == 'a'", "", "3.12"], ""),
+    ("python", ["python_version < '3.12' and python_version > '3.7'", "", ""], "python_full_version >= '3.8' and python_full_version < '3.12'"),
+    ("python", ["(python_version <= '3.11' and sys_platform == 'win32') or python_version > '3.11'", "3.12", ""], ""),
+    ("python", ["python_version < '3.10'", "3.7", ""], "python_full_version < '3.10'"),
+    ("python", ["python_version <= '3.12'", "3.12", ""], "python_full_version < '3.13'"),
+    ("extras", ["(extra == 'foo' and sys_platform == 'win32') or extra == 'foo'", "foo\n"], ""),
+    ("extras", ["sys_platform == 'linux' and extra == 'dev'", "x\n\nDEV"], "sys_platform == 'linux'"),
+    ("extras", ["sys_platform == 'linux' and extra == 'dev'", ""], "sys_platform == 'linux' and extra == 'dev'"),
+]
+# Markers of one meaning on each line, and no two lines of one meaning: keys are the same within a line and nowhere else.
+ALIKE = [
+    ["os_name == 'a' or os_name == 'b'", "os_name=='b' or (os_name == 'a' or os_name == 'b')"],
+    ["os_name == 'a' and sys_platform == 'b'", "sys_platform == 'b' and 'a' == os_name"],
+    ["os_name == \"a' and sys_platform == 'b\""], ["os_name == 'a'"], ["os_name == 'b'"], ["os_name != 'a'"], ["os_name == \"a'\""],
+    ["implementation_version in '1'", "implementation_version == '1.0'"], ["implementation_version in '1+x'"],
+    ["python_version >= '3.8'", "python_full_version >= '3.8.0'"], ["python_full_version > '3.8'"],
+    ["python_full_version >= '3.8' and python_full_version < '3.9'", "python_version == '3.8'"],
+    ["extra == 'a-b'", "extra == 'A_B'"], ["os_name == 'a' or os_name != 'a'", "extra == 'a' or extra != 'a'"],
+    ["os_name == 'a' and os_name == 'b'", "extra == 'a' and extra != 'a'"], ["os_name == 'ab' or os_name == 'c'"], ["os_name == 'a' or os_name == 'bc'"],
+]
+# Lists of specifiers as ranges.
+RANGES = [
+    ("ranges disjoint", ["<2", ">=2"], "1"), ("ranges disjoint", ["<=2", ">=2"], "0"), ("ranges disjoint", ["==1.5.*", "!=1.5.*"], "1"),
+    ("ranges disjoint", ["<2,!=1.5", "==1.5"], "1"), ("ranges disjoint", ["", "==1"], "0"), ("ranges disjoint", ["<1,>2", ""], "1"),
+    ("subset", [">=1.2,<2", "~=1.2"], "1"), ("subset", ["~=1.2", ">=1.2,<2"], "0"), ("subset", ["~=1.2", ">=1.2,==1.*"], "1"),
+    ("subset", ["==1.5", ">=1,<2"], "1"), ("subset", [">=1,<2", "==1.5"], "0"), ("subset", [">=1", ""], "1"), ("subset", ["", ">=1"], "0"),
+    ("subset", ["<1,>2", "==7"], "1"), ("subset", ["!=1.5.*", "!=1.5"], "1"),
+    ("empty", ["<1,>2"], "1"), ("empty", ["==1.5"], "0"), ("empty", [""], "0"), ("empty", ["==1.5,!=1.5.0"], "1"), ("empty", ["~=1.2,>=2.dev0"], "1"), ("empty", [">1.5,<1.6"], "0"),
+]
+AT_END = "~=18446744073709551615.0"
 # Refused texts, with the place that is told: its first byte and how many.
 REFUSALS = [
     ("version", "", (0, 0)), ("version", "1.0.*", (0, 5)), ("version", "1.0 2", (0, 5)), ("version", "a", (0, 1)),
@@ -174,6 +226,24 @@ REFUSALS = [
     ("requirement", "name; python_version", None), ("requirement", "-a", (0, 1)),
     ("marker", "os_name", None), ("marker", "(os_name == 'a'", None), ("marker", "os_name == 'a' nor", None), ("marker", "", None),
 ]
+# What is refused of several texts: the number of the one at fault, its place, and what is said where that is of this library alone.
+FAULTS = [
+    ("marker", ["os_name == \"a'\""], (1, 0, 0, 0), "no normal text: single quote"),
+    ("marker", ["os.name == 'a'"], (1, 0, 0, 0), "no normal text: deprecated key"),
+    ("marker", ["implementation_version in '1.0+x'"], (1, 0, 0, 0), "no normal text: version bound"),
+    ("marker", ["os_name == 'a' and os_name == 'b'"], (1, 0, 0, 0), "no normal text: never holds"),
+    ("negated", ["os_name == 'a' or os_name != 'a'"], (1, 0, 0, 0), "no normal text: never holds"),
+    ("negated", ["os_name != \"a'\""], (1, 0, 0, 0), "no normal text: single quote"),
+    ("python", ["python_version < '3.8'", "3.8", ""], (1, 0, 0, 0), "no normal text: never holds"),
+    ("extras", ["extra != 'a'", "a\n"], (1, 0, 0, 0), "no normal text: never holds"),
+    ("python", ["os_name == 'a'", "x", "y"], (2, 0, 0, 1), None), ("python", ["os_name == 'a'", "3.8", "3.8.*"], (3, 0, 0, 5), None),
+    ("extras", ["os_name == 'a'", "b\n-\n"], (2, 0, 0, 0), "extra - is no name"),
+    ("ranges disjoint", [">=1,2", "2"], (1, 0, 4, 1), None), ("ranges disjoint", [">=1", "<1,2"], (2, 0, 3, 1), None),
+    ("subset", [AT_END, ">=1"], (1, 0, 0, 0), "a version number can't be raised"), ("subset", [">=1", ">1," + AT_END], (2, 0, 0, 0), "a version number can't be raised"),
+    ("empty", [AT_END], (1, 0, 0, 0), "a version number can't be raised"), ("empty", ["1"], (1, 0, 0, 1), None),
+]
+# Calls whose texts are all of one kind, and a text that none of them reads, with how many they have.
+UNREAD = [("truth", 1), ("marker key", 1), ("negated", 1), ("disjoint", 2), ("implies", 2), ("python", 3), ("extras", 2), ("ranges disjoint", 2), ("subset", 2)]
 # How versions stand to each other, from PEP 440's "Summary of permitted suffixes and relative ordering".
 RISING = ["1.dev0", "1.0.dev456", "1.0a1", "1.0a2.dev456", "1.0a12.dev456", "1.0a12", "1.0b1.dev456", "1.0b2", "1.0b2.post345.dev456",
           "1.0b2.post345", "1.0rc1.dev456", "1.0rc1", "1.0", "1.0+abc.5", "1.0+abc.7", "1.0+5", "1.0.post456.dev34", "1.0.post456",
@@ -214,11 +284,38 @@ def answers(program):
         reply = made(program, [(call, [text.encode()])])[0]
         is_place = reply.place() == (1, 0, *place) if place else reply.input == 1 and reply.start + reply.len <= len(text) + 1
         wants(f"{call} of {text!r} is refused", reply.status == REFUSED and is_place and reply.length > 0, reply)
-    for call in ("version", "specifiers", "requirement", "marker"):
+    for call in ("version", "specifiers", "requirement", "marker", "marker key", "truth", "negated", "empty"):
         reply = made(program, [(call, [b"ab\xffc"])])[0]
         wants(f"{call} of bytes that are no text", (reply.status, reply.place(), reply.text())
               == (REFUSED, (1, 0, 2, 0), b"not UTF-8 at byte 2"), reply)
-    wants("the interface's number", made(program, [("abi", [])])[0].number == 1)
+    wants("the interface's number", made(program, [("abi", [])])[0].number == INTERFACE)
+
+
+def meanings(program):
+    """What markers mean, and lists of specifiers as ranges."""
+    for call, texts, wanted in [*MEANT, *RANGES]:
+        reply = made(program, [(call, [it.encode() for it in texts])])[0]
+        wants(f"{call} of {texts}", (reply.status, reply.text().decode(), reply.place()) == (ANSWERED, wanted, (0, 0, 0, 0)), reply)
+    for call, texts, place, message in FAULTS:
+        reply = made(program, [(call, [it.encode() for it in texts])])[0]
+        is_said = reply.length > 0 if message is None else reply.text().decode() == message
+        wants(f"{call} of {texts} is refused", (reply.status, reply.place()) == (REFUSED, place) and is_said, reply)
+    for call, texts in UNREAD:
+        usual = b"==1" if call in ("ranges disjoint", "subset") else b"os_name == 'a'"
+        first, *last = made(program, [(call, [*[usual] * at, *[b"\xff"] * (texts - at)]) for at in (0, 1)[:texts]])
+        wants(f"{call}: the first of several texts is refused", (first.status, first.place()) == (REFUSED, (1, 0, 0, 0)), first)
+        wants(f"{call}: the second is refused", all((it.status, it.place()) == (REFUSED, (2, 0, 0, 0)) for it in last), last)
+
+
+def marker_keys(program):
+    """Keys are the same of markers of one meaning, and of no others."""
+    texts = [text for line in ALIKE for text in line]
+    replies = made(program, [("marker key", [it.encode()]) for it in texts])
+    keys, found = [it.text() for it in replies], {}
+    for text, key in zip(texts, keys):
+        found.setdefault(key, []).append(text)
+    wants("each marker has a key", all(it.status == ANSWERED for it in replies))
+    wants("keys of markers", [*found.values()] == ALIKE, [it for it in found.values() if it not in ALIKE])
 
 
 def orders(program):
@@ -282,7 +379,13 @@ def kinds():
         ("version", [b"1.0RC1.post2.dev3+a.b"]), ("version", [b"1.0 x"]), ("key", [b"1!70000.2.3rc1+ubuntu.1"]), ("specifiers", [b">=1.0,<2,!=1.5.*"]),
         ("specifiers", [b">=1.0,2"]), ("take", [b">=1.0,===1.5", b"1.5\n2\nx\n"]), ("requirement", [b"a[b,c] >= 1; os_name == 'nt' or extra == 'e'"]),
         ("requirement", [b"a @ file:///b ; os_name =="]), ("marker", [b"os_name == 'nt' or python_version < '3.8'"]),
-        ("marker", [b"os_name =="]), ("hold", [b"os_name == 'posix'\nx\n", where, b"a\n"]), ("order", [b"1.0.0.0.1", b"1.0.0.0.2+a"]),
+        ("marker", [b"os_name =="]), ("marker", [b"os_name == 'a' and os_name == 'b'"]), ("marker key", [b"os_name == 'nt' or extra == 'e'"]),
+        ("truth", [b"os_name == 'nt'"]), ("truth", [b"os_name"]), ("disjoint", [b"os_name == 'a' or extra == 'e'", b"os_name == 'b'"]),
+        ("implies", [b"os_name == 'a'", b"os_name == 'a' or extra == 'e'"]), ("implies", [b"os_name == 'a'", b"os_name"]),
+        ("negated", [b"os_name == 'a' or python_version < '3.8'"]), ("python", [b"os_name == 'a' or python_version < '3.8'", b"3.7", b"3.9"]),
+        ("python", [b"os_name == 'a'", b"3.7", b"x"]), ("extras", [b"extra == 'a' and extra == 'b'", b"a\nc\n"]), ("extras", [b"os_name == 'a'", b"a\n-\n"]),
+        ("ranges disjoint", [b">=1,!=1.5.*", b"~=1.5.2"]), ("subset", [b"~=1.2", b">=1.2,<2"]), ("subset", [b"~=1.2", b">=1,2"]), ("empty", [b">=1,!=1.5.*,<2"]),
+        ("empty", [AT_END.encode()]), ("hold", [b"os_name == 'posix'\nx\n", where, b"a\n"]), ("order", [b"1.0.0.0.1", b"1.0.0.0.2+a"]),
     ]
 
 
@@ -342,11 +445,24 @@ def exports(shared, static):
     wants("libreqs.so exports what the header declares", names("-D", "--defined-only", shared) == declared)
     wants("libreqs.a exports what the header declares", {it for it in names("-g", "--defined-only", static) if not it.endswith(":")} == declared)
     called = names("-D", "--undefined-only", shared)
+    kinds = [it.split()[-2:] for it in subprocess.check_output(["nm", static], text=True).splitlines() if len(it.split()) > 1]
+    # (of `nothing` just the address is used, where memory is refused)
+    variables = {name for kind, name in kinds if kind in "bBdDsSC"}
+    wants("libreqs.a has no variables, by which calls or processes could be in each other's way", variables <= {"nothing"}, variables)
+    told = subprocess.check_output(["objdump", "-p", shared], text=True)
+    wants("libreqs.so is named by the number of its interface", re.search(r"SONAME +(\S+)", told)[1] == f"libreqs.so.{INTERFACE}", told)
     wants("libreqs.so is no symbolic link, at which a second run of the gate would end", not os.path.islink(shared))
     told = subprocess.check_output(["objdump", "-d", "--no-show-raw-insn", shared], text=True)
     used = {it.split("\t")[1].split()[0] for it in told.splitlines() if len(it.split("\t")) > 1 and it.split("\t")[1].strip()}
     wants("libreqs.so has the instructions of each x86-64 processor alone", "mov" in used and not used & BEYOND, used & BEYOND)
     wants("libreqs.so calls nothing else", called <= {"malloc", "realloc", "free", "memcpy", "memmove", "memset", "memcmp"}, called)
+
+
+def forks(program):
+    """Calls in the children of a process with threads."""
+    for name, settings in ALLOCATORS.items():
+        ran = subprocess.run([program, FORKS], capture_output=True, text=True, env={**os.environ, **settings})
+        wants(f"forks of a process with threads, with {name}", ran.returncode == 0, f"status {ran.returncode} {ran.stdout}")
 
 
 def blocks(page):
@@ -380,11 +496,13 @@ def documented():
 
 
 def main(words):
-    shared, static, deep, refuse, libraries = words
+    shared, static, deep, forking, refuse, libraries = words
     exports(*(os.path.join(libraries, it) for it in ("libreqs.so", "libreqs.a")))
     for program in (shared, static):
         answers(program)
+        meanings(program)
     orders(shared)
+    marker_keys(shared)
     batches(shared)
     runs(shared)
     rooms(shared)
@@ -392,6 +510,7 @@ def main(words):
     refusals(shared, refuse)
     ran = subprocess.run([deep, *DEEP], capture_output=True, text=True)
     wants("deep texts and many threads", ran.returncode == 0, f"status {ran.returncode} {ran.stdout}")
+    forks(forking)
     print(f"c: {passed} passed, {len(failed)} failed")
     return 1 if failed else 0
 

@@ -22,5 +22,6 @@ compile() {
 compile -o "$work/shared" "$top/tests/c/serve.c" -L"$library" -lreqs -Wl,-rpath,"$library"
 compile -o "$work/static" "$top/tests/c/serve.c" "$library/libreqs.a"
 compile -o "$work/deep" "$top/tests/c/deep.c" "$library/libreqs.a" -pthread
+compile -o "$work/forks" "$top/tests/c/forks.c" -L"$library" -lreqs -Wl,-rpath,"$library" -pthread
 cc -O2 -Wall -Wextra -fno-builtin -shared -fPIC -o "$work/refuse.so" "$top/tests/refuse.c" || fail "tests/refuse.c was not compiled"
-python3 "$top/tests/c.py" "$work/shared" "$work/static" "$work/deep" "$work/refuse.so" "$library"
+python3 "$top/tests/c.py" "$work/shared" "$work/static" "$work/deep" "$work/forks" "$work/refuse.so" "$library"

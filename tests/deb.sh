@@ -15,7 +15,7 @@ files=(
     usr/include/reqs.h
     usr/lib/x86_64-linux-gnu/libreqs.a
     usr/lib/x86_64-linux-gnu/libreqs.so
-    usr/lib/x86_64-linux-gnu/libreqs.so.1
+    usr/lib/x86_64-linux-gnu/libreqs.so.2
     usr/lib/x86_64-linux-gnu/pkgconfig/reqs.pc
     usr/libexec/reqs/reqs
     usr/share/bash-completion/completions/reqs

@@ -1,5 +1,5 @@
 #!/usr/bin/env bash
-# Makes the library for C of the proved archive crates/reqs_c/out/libreqs_c.a: beside it libreqs.a, libreqs.so.1 and the
+# Makes the library for C of the proved archive crates/reqs_c/out/libreqs_c.a: beside it libreqs.a, libreqs.so.2 and the
 # hard link libreqs.so (a symbolic one in out/ `rt ci` would refuse).
 #
 #     pack.sh
@@ -20,10 +20,10 @@ ar x "$kit/c/liblibc_c.a" heap.pic.o
 ld -r -o reqs.o ./*.o
 objcopy --wildcard --keep-global-symbol='reqs_*' reqs.o
 ar rcsD libreqs.a reqs.o
-${CC:-cc} -shared -nostartfiles -o libreqs.so.1 -Wl,-soname,libreqs.so.1 -Wl,-z,defs -Wl,-z,now -Wl,-z,relro -Wl,-z,noexecstack \
+${CC:-cc} -shared -nostartfiles -o libreqs.so.2 -Wl,-soname,libreqs.so.2 -Wl,-z,defs -Wl,-z,now -Wl,-z,relro -Wl,-z,noexecstack \
     -Wl,--gc-sections -Wl,--build-id=none -Wl,--whole-archive libreqs.a -Wl,--no-whole-archive
-strip --strip-unneeded libreqs.so.1
-for it in libreqs.a libreqs.so.1; do
+strip --strip-unneeded libreqs.so.2
+for it in libreqs.a libreqs.so.2; do
     mv -f "$it" "$out/$it"
 done
-ln -f "$out/libreqs.so.1" "$out/libreqs.so"
+ln -f "$out/libreqs.so.2" "$out/libreqs.so"

@@ -2,8 +2,9 @@
  *
  *     deep MOST PRINTED KIB
  *
- * A marker of MOST extras is asked, another of a fifth of them, and one of PRINTED is printed, by each command too; threads
- * have KIB of stack. The status is 0 where all was as it should be, and a line tells of each that was not. */
+ * A marker of MOST extras is asked, another of a fifth of them, and one of PRINTED is printed, by each command too; lists
+ * have a fifth of MOST specifiers; threads have KIB of stack. The status is 0 where all was as it should be, and a line tells
+ * of each that was not. */
 
 #include "reqs.h"
 
@@ -148,6 +149,46 @@ static void commands(int count) {
     free(where.bytes);
 }
 
+/* So many exclusions. */
+static struct text exclusions(int count) {
+    struct text made = room(16 * (size_t)count + 64);
+    for (int i = 0; i < count; i++) {
+        char one[24];
+        snprintf(one, sizeof one, "%s!=%d", i == 0 ? "" : ",", i);
+        add(&made, one);
+    }
+    return made;
+}
+
+static void says(const char *what, reqs_reply reply, const uint8_t *out, char wanted) {
+    if (reply.status != REQS_ANSWERED || reply.length != 1 || out[0] != (uint8_t)wanted) {
+        fails(what, reply.status);
+    }
+}
+
+/* What markers of so many extras mean, and of as many as are printed what is made of them; and lists of exclusions as
+ * ranges. */
+static void meanings(int most, int printed) {
+    static uint8_t out[1 << 20];
+    struct text all = extras(most), some = extras(most / 5), few = extras(printed), list = exclusions(most / 5);
+    const uint8_t *lower = (const uint8_t *)"3.8", *upper = (const uint8_t *)"3.9", *absent = (const uint8_t *)"y\n";
+    answered("key", reqs_marker_key(all.bytes, all.length, out, sizeof out));
+    says("truth", reqs_marker_truth(all.bytes, all.length, out, sizeof out), out, '-');
+    says("disjoint", reqs_markers_disjoint(all.bytes, all.length, some.bytes, some.length, out, sizeof out), out, '0');
+    says("implies", reqs_marker_implies(some.bytes, some.length, all.bytes, all.length, out, sizeof out), out, '1');
+    answered("negated", reqs_marker_negated(few.bytes, few.length, out, sizeof out));
+    answered("python", reqs_marker_simplify_python(few.bytes, few.length, lower, 3, upper, 3, out, sizeof out));
+    answered("extras", reqs_marker_simplify_extras(few.bytes, few.length, absent, 2, out, sizeof out));
+    says("ranges disjoint", reqs_specifiers_disjoint(list.bytes, list.length, list.bytes, list.length, out, sizeof out), out,
+         '0');
+    says("subset", reqs_specifiers_subset(list.bytes, list.length, list.bytes, list.length, out, sizeof out), out, '1');
+    says("empty", reqs_specifiers_empty(list.bytes, list.length, out, sizeof out), out, '0');
+    free(all.bytes);
+    free(some.bytes);
+    free(few.bytes);
+    free(list.bytes);
+}
+
 static int most, printed;
 
 static void *deep(void *unused) {
@@ -162,6 +203,7 @@ static void *deep(void *unused) {
     hold("extras of which one is there", extras(most), environment(1), "x7\n", REQS_ANSWERED, '1');
     hold("extras of which none is there", extras(most / 5), environment(1), "y\n", REQS_ANSWERED, '0');
     commands(printed);
+    meanings(most, printed);
     return NULL;
 }
 

@@ -16,7 +16,10 @@
 #define ROOM (1u << 20)
 #define BEHIND 64
 
-enum { CHECK, MATRIX, SAME, CONFLICTS, NORMAL, VERSION, KEY, ORDER, SPECIFIERS, TAKE, REQUIREMENT, MARKER, HOLD, ABI };
+enum {
+    CHECK, MATRIX, SAME, CONFLICTS, NORMAL, VERSION, KEY, ORDER, SPECIFIERS, TAKE, RANGES_DISJOINT, SUBSET, EMPTY,
+    REQUIREMENT, MARKER, MARKER_KEY, TRUTH, DISJOINT, IMPLIES, NEGATED, PYTHON, EXTRAS, HOLD, ABI
+};
 
 static uint8_t texts[MOST], out[ROOM + BEHIND], was[ROOM + BEHIND];
 static const uint8_t *text[4];
@@ -75,10 +78,30 @@ static reqs_reply call(uint64_t which, uint64_t limit, size_t room) {
         return reqs_specifiers(T(0), out, room);
     case TAKE:
         return reqs_specifiers_take(T(0), T(1), out, room);
+    case RANGES_DISJOINT:
+        return reqs_specifiers_disjoint(T(0), T(1), out, room);
+    case SUBSET:
+        return reqs_specifiers_subset(T(0), T(1), out, room);
+    case EMPTY:
+        return reqs_specifiers_empty(T(0), out, room);
     case REQUIREMENT:
         return reqs_requirement(T(0), out, room);
     case MARKER:
         return reqs_marker(T(0), out, room);
+    case MARKER_KEY:
+        return reqs_marker_key(T(0), out, room);
+    case TRUTH:
+        return reqs_marker_truth(T(0), out, room);
+    case DISJOINT:
+        return reqs_markers_disjoint(T(0), T(1), out, room);
+    case IMPLIES:
+        return reqs_marker_implies(T(0), T(1), out, room);
+    case NEGATED:
+        return reqs_marker_negated(T(0), out, room);
+    case PYTHON:
+        return reqs_marker_simplify_python(T(0), T(1), T(2), out, room);
+    case EXTRAS:
+        return reqs_marker_simplify_extras(T(0), T(1), out, room);
     case HOLD:
         return reqs_markers_hold(T(0), T(1), T(2), out, room);
     case ABI:

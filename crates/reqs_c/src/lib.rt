@@ -5,6 +5,7 @@
 #![tactic(auto)]
 
 mod lists;
+mod markers;
 mod requirements;
 mod versions;
 
@@ -13,7 +14,7 @@ ghost use Rattle.std.specs.Prelude.{◌≡◌};
 /// The number of this interface.
 #[unsafe(no_mangle)]
 pub extern "C" fn reqs_abi() -> u32
-    ensures { result ≡ 1 }
+    ensures { result ≡ 2 }
 {
-    1
+    2
 }

@@ -2,6 +2,7 @@
 
 ghost use Rattle.reqs_reply.specs.Endings.{RepliesAs};
 ghost use Rattle.reqs_versions.specs.Specifiers.{SpecifiersEnd, TakesEnd};
+ghost use Rattle.reqs_versions.specs.Ranges.{RangesDisjointEnds, SubsetEnds, EmptyEnds};
 ghost use Rattle.reqs_versions.specs.Versions.{VersionEnds, IsOrder, IsKey};
 
 use reqs_reply::Reply;
@@ -51,4 +52,38 @@ pub extern "C" fn reqs_specifiers_take(
     ensures { RepliesAs (TakesEnd list.now versions.now) out.old out.new result }
 {
     reqs_versions::specifiers_take(alloc, list, versions, out)
+}
+
+/// Whether no point lies in the ranges of two lists of specifiers.
+#[unsafe(no_mangle)]
+pub extern "C" fn reqs_specifiers_disjoint(
+    alloc: Global,
+    left: &[u8],
+    right: &[u8],
+    out: &mut [u8],
+) -> Reply
+    ensures { RepliesAs (RangesDisjointEnds left.now right.now) out.old out.new result }
+{
+    reqs_versions::specifiers_disjoint(alloc, left, right, out)
+}
+
+/// Whether each point of the left list's range lies in the right one's.
+#[unsafe(no_mangle)]
+pub extern "C" fn reqs_specifiers_subset(
+    alloc: Global,
+    left: &[u8],
+    right: &[u8],
+    out: &mut [u8],
+) -> Reply
+    ensures { RepliesAs (SubsetEnds left.now right.now) out.old out.new result }
+{
+    reqs_versions::specifiers_subset(alloc, left, right, out)
+}
+
+/// Whether no point lies in the range of a list of specifiers.
+#[unsafe(no_mangle)]
+pub extern "C" fn reqs_specifiers_empty(alloc: Global, text: &[u8], out: &mut [u8]) -> Reply
+    ensures { RepliesAs (EmptyEnds text.now) out.old out.new result }
+{
+    reqs_versions::specifiers_empty(alloc, text, out)
 }

@@ -1,0 +1,111 @@
+//! Markers (PEP 508, "Environment Markers").
+
+ghost use Rattle.reqs_reply.specs.Endings.{RepliesAs};
+ghost use Rattle.reqs_markers.specs.Markers.{MarkerEnds};
+ghost use Rattle.reqs_algebra.specs.Keys.{KeyEnds};
+ghost use Rattle.reqs_algebra.specs.Relations.{TruthEnds, DisjointEnds, ImpliesEnds};
+ghost use Rattle.reqs_algebra.specs.Made.{NegatedEnds};
+ghost use Rattle.reqs_algebra.specs.Simplified.{SimplifiedPythonEnds, SimplifiedExtrasEnds};
+ghost use Rattle.reqs_slices.specs.Holding.{HoldEnds};
+
+use reqs_reply::Reply;
+use std::alloc::Global;
+
+/// The normal text of a marker, which is empty where it always holds.
+#[unsafe(no_mangle)]
+pub extern "C" fn reqs_marker(alloc: Global, text: &[u8], out: &mut [u8]) -> Reply
+    ensures { RepliesAs (MarkerEnds text.now) out.old out.new result }
+{
+    reqs_markers::marker(alloc, text, out)
+}
+
+/// The key of a marker: the same bytes exactly where two markers hold alike.
+#[unsafe(no_mangle)]
+pub extern "C" fn reqs_marker_key(alloc: Global, text: &[u8], out: &mut [u8]) -> Reply
+    ensures { RepliesAs (KeyEnds text.now) out.old out.new result }
+{
+    reqs_algebra::marker_key(alloc, text, out)
+}
+
+/// Whether a marker always holds, or never.
+#[unsafe(no_mangle)]
+pub extern "C" fn reqs_marker_truth(alloc: Global, text: &[u8], out: &mut [u8]) -> Reply
+    ensures { RepliesAs (TruthEnds text.now) out.old out.new result }
+{
+    reqs_algebra::marker_truth(alloc, text, out)
+}
+
+/// Whether two markers never hold together.
+#[unsafe(no_mangle)]
+pub extern "C" fn reqs_markers_disjoint(
+    alloc: Global,
+    left: &[u8],
+    right: &[u8],
+    out: &mut [u8],
+) -> Reply
+    ensures { RepliesAs (DisjointEnds left.now right.now) out.old out.new result }
+{
+    reqs_algebra::markers_disjoint(alloc, left, right, out)
+}
+
+/// Whether the right marker holds wherever the left one does.
+#[unsafe(no_mangle)]
+pub extern "C" fn reqs_marker_implies(
+    alloc: Global,
+    left: &[u8],
+    right: &[u8],
+    out: &mut [u8],
+) -> Reply
+    ensures { RepliesAs (ImpliesEnds left.now right.now) out.old out.new result }
+{
+    reqs_algebra::marker_implies(alloc, left, right, out)
+}
+
+/// The normal text of the marker that holds where this one doesn't.
+#[unsafe(no_mangle)]
+pub extern "C" fn reqs_marker_negated(alloc: Global, text: &[u8], out: &mut [u8]) -> Reply
+    ensures { RepliesAs (NegatedEnds text.now) out.old out.new result }
+{
+    reqs_algebra::marker_negated(alloc, text, out)
+}
+
+/// The normal text of a marker, simplified for versions of Python from a bound on and below another.
+#[unsafe(no_mangle)]
+pub extern "C" fn reqs_marker_simplify_python(
+    alloc: Global,
+    text: &[u8],
+    lower: &[u8],
+    upper: &[u8],
+    out: &mut [u8],
+) -> Reply
+    ensures { RepliesAs (SimplifiedPythonEnds text.now lower.now upper.now) out.old out.new result }
+{
+    reqs_algebra::marker_simplify_python(alloc, text, lower, upper, out)
+}
+
+/// The normal text of a marker with extras, one a line, taken as present.
+#[unsafe(no_mangle)]
+pub extern "C" fn reqs_marker_simplify_extras(
+    alloc: Global,
+    text: &[u8],
+    extras: &[u8],
+    out: &mut [u8],
+) -> Reply
+    ensures { RepliesAs (SimplifiedExtrasEnds text.now extras.now) out.old out.new result }
+{
+    reqs_algebra::marker_simplify_extras(alloc, text, extras, out)
+}
+
+/// Which markers, one a line, hold in an environment with extras.
+#[unsafe(no_mangle)]
+pub extern "C" fn reqs_markers_hold(
+    alloc: Global,
+    markers: &[u8],
+    environment: &[u8],
+    extras: &[u8],
+    out: &mut [u8],
+) -> Reply
+    ensures { RepliesAs (HoldEnds markers.now environment.now extras.now) out.old out.new result }
+{
+    reqs_slices::markers_hold(alloc, markers, environment, extras, out)
+}
