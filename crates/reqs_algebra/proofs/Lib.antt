@@ -1,0 +1,3 @@
+pub mod Saying
+pub mod NameTexts
+pub mod Simplifying

@@ -1,0 +1,5 @@
+pub mod Relations
+pub mod Said
+pub mod Made
+pub mod Arguments
+pub mod Simplified

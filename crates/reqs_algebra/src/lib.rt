@@ -1,0 +1,17 @@
+//! What the library for C answers on the meaning of markers (PEP 508, "Environment Markers"), over bytes: whether
+//! they always hold, exclude or imply one another, and the normal texts of markers that are made of them.
+#![tactic(auto)]
+
+mod bounds;
+mod extras;
+mod made;
+mod names;
+mod pairs;
+mod truths;
+mod within;
+
+pub use extras::marker_simplify_extras;
+pub use made::marker_negated;
+pub use pairs::{marker_implies, markers_disjoint};
+pub use truths::marker_truth;
+pub use within::marker_simplify_python;

@@ -1,0 +1,73 @@
+//! Markers within a range of versions of Python.
+
+ghost use Rattle.std.specs.Prelude.{ℕ, List};
+ghost use Rattle.pep508_tree.specs.Meaning.{IsTree};
+ghost use Rattle.reqs_reply.specs.Endings.{RepliesAs, ending_of};
+ghost use Rattle.reqs_markers.specs.Markers.{IsMarkerTree, TextEnds};
+ghost use Rattle.reqs_algebra.specs.Simplified.{HoldsBetween, SimplifiedPythonEnds};
+
+use crate::bounds::{lower_bound, read_bound, upper_bound};
+use pep440_version::Version;
+use pep508_simplification::MarkerTreeSimplification;
+use pep508_tree::{Interner, MarkerTree};
+use reqs_markers::{normal_text, read_marker};
+use reqs_reply::{Ended, Reply};
+use std::alloc::Global;
+
+/// Answers with the normal text of a marker that says what the one that a text is says where `python_full_version`
+/// lies from the version that `lower` is on and below the one that `upper` is, and asks of it no more than that takes;
+/// an empty bound is none. A text that is no marker is refused first, then a bound that is no version, and then a
+/// marker without normal text as `reqs_markers::marker` does.
+///
+/// Compares each boundary of a version of Python with both bounds; takes exponentially long in the text at worst,
+/// as the normal text's length is then.
+pub fn marker_simplify_python(
+    alloc: Global,
+    bytes: &[u8],
+    lower: &[u8],
+    upper: &[u8],
+    out: &mut [u8],
+) -> Reply
+    ensures { RepliesAs (SimplifiedPythonEnds bytes.now lower.now upper.now) out.old out.new result }
+{
+    simplified(alloc, bytes, lower, upper).reply(out)
+}
+
+/// How the call ends.
+fn simplified(alloc: Global, bytes: &[u8], lower: &[u8], upper: &[u8]) -> Ended
+    ensures { SimplifiedPythonEnds bytes.now lower.now upper.now (ending_of result) }
+{
+    let mut interner = Interner::new(alloc);
+    let tree = match read_marker(alloc, &mut interner, 1, bytes) {
+        Ok(tree) => tree,
+        Err(ended) => return ended,
+    };
+    let least = match read_bound(alloc, 2, lower) {
+        Ok(least) => least,
+        Err(ended) => return ended,
+    };
+    match read_bound(alloc, 3, upper) {
+        Ok(end) => text_between(alloc, &mut interner, tree, &least, &end),
+        Err(ended) => ended,
+    }
+}
+
+/// How a call ends that gives the normal text of a tree that is simplified.
+fn text_between(
+    alloc: Global,
+    interner: &mut Interner,
+    tree: MarkerTree,
+    least: &Option<Version>,
+    end: &Option<Version>,
+) -> Ended
+    requires { IsTree interner.old.nodes tree }
+    ensures { (bytes : List ℕ) → IsMarkerTree interner.old.nodes bytes tree →
+        TextEnds bytes (HoldsBetween least.now end.now) (ending_of result) }
+{
+    let lower = lower_bound(least);
+    let upper = upper_bound(end);
+    match tree.simplify_python_versions(alloc, interner, lower, upper) {
+        Ok(simple) => normal_text(alloc, interner, simple),
+        Err(_) => Ended::OutOfMemory,
+    }
+}
