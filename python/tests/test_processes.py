@@ -43,7 +43,7 @@ def matrix_of_many():
 def comparisons_of_lists():
     alike = fowlyore.same("a>=1 ; os_name == 'nt'\nb", ["b", "A >= 1.0 ; 'nt' == os_name"])
     conflicts = fowlyore.conflicts(["a<1", "a>2 ; os_name == 'nt'"])
-    return bool(alike) and [str(it) for it in conflicts] == ["a 1,2"] and fowlyore.normal("A [c,b] >= 1") == ["a[b,c]>=1"]
+    return bool(alike) and [str(it) for it in conflicts] == ["a 1,2"] and fowlyore.normal("A [c,b] >= 1") == ["a[c,b]>=1"]
 
 
 def explanations():
