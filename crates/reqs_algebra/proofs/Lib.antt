@@ -1,3 +1,4 @@
 pub mod Saying
 pub mod NameTexts
 pub mod Simplifying
+pub mod KeyTexts

@@ -46,17 +46,20 @@ pub tree_values : (nodes : List NodeRecord) (bytes : List ℕ) (tree : Tree) (is
 tree_values nodes bytes tree is = λ i v. is.is_tree.truth v i
 
 -- what is said of the tree is said of the marker
+pub says_so : (nodes : List NodeRecord) (bytes : List ℕ) (tree : Tree) (Says : Values → List ℕ → Type 0)
+    (said : List ℕ) → IsMarkerTree nodes bytes tree → Says (holds nodes tree) said → SaysOf bytes Says said
+says_so nodes bytes tree Says said is h = record {
+  marker = is.marker;
+  is_marker = is.is_marker;
+  says = subst (λ (value : Values). Says value said) (tree_values nodes bytes tree is) h;
+}
+
 pub says_of : (nodes : List NodeRecord) (bytes : List ℕ) (tree : Tree) (Says : Values → List ℕ → Type 0)
     (said : List ℕ) (ending : Ending) → IsMarkerTree nodes bytes tree → Says (holds nodes tree) said
     → EndsIn (λ text. text ≡ said) NoRefusal ending → EndsIn (SaysOf bytes Says) (RefusesMarker 1 bytes) ending
 says_of nodes bytes tree Says said ending is h ends =
     answers_more (λ text. text ≡ said) (SaysOf bytes Says) (RefusesMarker 1 bytes)
-    (λ text e. record {
-      marker = is.marker;
-      is_marker = is.is_marker;
-      says = subst (Says (marker_holds is.marker)) (sym e)
-          (subst (λ (value : Values). Says value said) (tree_values nodes bytes tree is) h);
-    }) ending ends
+    (λ text e. subst (SaysOf bytes Says) (sym e) (says_so nodes bytes tree Says said is h)) ending ends
 
 module _ (nodes : List NodeRecord) (left right : List ℕ) (first second : Tree) (StandSo : Values → Values → Type 0) where
   -- and of two

@@ -1,5 +1,6 @@
 pub mod Relations
 pub mod Said
+pub mod Keys
 pub mod Made
 pub mod Arguments
 pub mod Simplified

@@ -37,10 +37,7 @@ fn no_version(alloc: Global, input: u32, bytes: &[u8], error: &VersionParseError
 {
     match error {
         VersionParseError::Memory => Ended::OutOfMemory,
-        error => Ended::refused(
-            Place::span(input, 0, bytes.len()),
-            error.to_string(alloc),
-        ),
+        error => Ended::refused(Place::span(input, 0, bytes.len()), error.to_string(alloc)),
     }
 }
 

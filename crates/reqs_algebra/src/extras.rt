@@ -42,12 +42,7 @@ fn simplified(alloc: Global, bytes: &[u8], extras: &[u8]) -> Ended
 }
 
 /// How a call ends that gives the normal text of a tree with these extras.
-fn text_with(
-    alloc: Global,
-    interner: &mut Interner,
-    tree: MarkerTree,
-    names: &[ExtraName],
-) -> Ended
+fn text_with(alloc: Global, interner: &mut Interner, tree: MarkerTree, names: &[ExtraName]) -> Ended
     requires { IsTree interner.old.nodes tree }
     ensures { (bytes : List ℕ) → IsMarkerTree interner.old.nodes bytes tree →
         TextEnds bytes (HoldsWith names.now) (ending_of result) }

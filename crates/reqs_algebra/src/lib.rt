@@ -4,6 +4,8 @@
 
 mod bounds;
 mod extras;
+mod keys;
+pub mod laws;
 mod made;
 mod names;
 mod pairs;
@@ -11,6 +13,7 @@ mod truths;
 mod within;
 
 pub use extras::marker_simplify_extras;
+pub use keys::marker_key;
 pub use made::marker_negated;
 pub use pairs::{marker_implies, markers_disjoint};
 pub use truths::marker_truth;

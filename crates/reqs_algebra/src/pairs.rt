@@ -31,7 +31,7 @@ fn disjoint(alloc: Global, left: &[u8], right: &[u8]) -> Ended
 {
     let mut interner = Interner::new(alloc);
     match read_two(alloc, &mut interner, left, right) {
-        Ok((first, second)) => said_whether(alloc, first.is_disjoint(alloc, &interner, second)),
+        Ok(trees) => said_whether(alloc, trees.0.is_disjoint(alloc, &interner, trees.1)),
         Err(ended) => ended,
     }
 }
@@ -52,7 +52,7 @@ fn implied(alloc: Global, left: &[u8], right: &[u8]) -> Ended
 {
     let mut interner = Interner::new(alloc);
     match read_two(alloc, &mut interner, left, right) {
-        Ok((first, second)) => said_whether(alloc, implies(alloc, &interner, first, second)),
+        Ok(trees) => said_whether(alloc, implies(alloc, &interner, trees.0, trees.1)),
         Err(ended) => ended,
     }
 }

@@ -1,6 +1,4 @@
-use Rattle.std.proofs.Common.{subst}
 use Rattle.pep508_tree.specs.Meaning.{holds}
-use Rattle.reqs_markers.specs.Markers.{IsMarkerTree}
 use Rattle.reqs_algebra.specs.Relations.{Implies}
 use Rattle.reqs_algebra.proofs.Saying.{says_of_two, whether}
 use Rattle.reqs_algebra.proofs.pairs.implied.Goals as goal
@@ -8,10 +6,8 @@ use Rattle.reqs_algebra.proofs.pairs.implied.Goals as goal
 pub returns-in-Ok : goal.returns-in-Ok
 returns-in-Ok c =
     let nodes = c.read_two.new.interner.nodes in
-    let first = c.in-Ok.first in
-    let second = c.in-Ok.second in
-    says_of_two nodes c.args.left.now c.args.right.now first second Implies _
-    (subst (IsMarkerTree nodes c.args.left.now) c.in-Ok.first-is c.in-Ok.ensures.first)
-    (subst (IsMarkerTree nodes c.args.right.now) c.in-Ok.second-is c.in-Ok.ensures.second)
-    (whether (Implies (holds nodes first) (holds nodes second)) c.implies.result _ c.implies.ensures
+    let trees = c.in-Ok.trees in
+    says_of_two nodes c.args.left.now c.args.right.now trees.0 trees.1 Implies _ c.in-Ok.ensures.first
+    c.in-Ok.ensures.second
+    (whether (Implies (holds nodes trees.0) (holds nodes trees.1)) c.implies.result _ c.implies.ensures
     c.said_whether.ensures)
