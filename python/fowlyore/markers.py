@@ -116,7 +116,8 @@ class Marker:
     another. `<` is a total order, of the bytes by which markers are compared, and means nothing more.
 
     Making a marker checks its text. The bytes by which it is compared and hashed are computed when they are first
-    needed, and so is the normal text that `str` and `repr` return, which can be exponentially longer than the marker.
+    needed, and so is the normal text that `str` and `repr` return. The text can be exponentially longer than the
+    marker, and so can the bytes, though they seldom are.
 
     >>> marker = Marker('python_version>"3.7" and os.name == "nt"')
     >>> marker == Marker('os.name == "nt" and python_full_version >= "3.8.0"')
