@@ -311,7 +311,7 @@ class Marker:
         is made from its normal text, as by `negate`. `UndefinedEnvironmentName` is raised where an extra is no name.
 
         >>> Marker("extra == 'a' and (extra == 'b' or os_name == 'nt')").simplify_extras(["A"])
-        <Marker("os_name == 'nt' or extra == 'b'")>
+        <Marker("extra == 'b' or os_name == 'nt'")>
         """
         lines = _native.encoded(_lines_of([extras] if isinstance(extras, str) else extras))
         return self._answer(UndefinedEnvironmentName, _native.marker_simplify_extras, lines)

@@ -275,7 +275,7 @@ class Algebra(unittest.TestCase):
 
     def test_simplify_extras(self):
         marker = Marker("extra == 'a' and (extra == 'b-1' or os_name == 'nt')")
-        rows = [([], str(marker)), (["A"], "os_name == 'nt' or extra == 'b-1'"), ("B_1", "extra == 'a'"), (["c"], str(marker))]
+        rows = [([], str(marker)), (["A"], "extra == 'b-1' or os_name == 'nt'"), ("B_1", "extra == 'a'"), (["c"], str(marker))]
         for extras, text in rows:
             self.assertEqual(str(marker.simplify_extras(extras)), text, extras)
         self.assertTrue(marker.simplify_extras(it for it in ("a", "b.1")).is_true())

@@ -184,7 +184,9 @@ class InLists(unittest.TestCase):
     def test_a_url_that_was_set(self):
         it = Requirement("foo[a] ; os_name == 'nt'")
         it.url = "https://example.org/x;y"
-        self.assertTrue(fowlyore.same([it], ["foo[a] @ https://example.org/x;y ; os_name == 'nt'"]))
+        self.assertEqual(it, Requirement("foo[a] @ https://example.org/x;y ; os_name == 'nt'"))
+        self.assertEqual([str(it) for it in fowlyore.check([it], {"os_name": "nt"}, "")], ["foo[a] direct"])
+        self.assertEqual(fowlyore.check([it], {"os_name": "posix"}, ""), [])
         it = Requirement("foo @ https://example.org/x ; os_name == 'nt'")
         it.url, it.specifier = None, SpecifierSet(">=1")
         self.assertTrue(fowlyore.same([it], ["foo>=1 ; os_name == 'nt'"]))
