@@ -4,9 +4,7 @@ use Rattle.pep508_diagram.specs.Question.{Valuation}
 use Rattle.pep508_tree.specs.Tree.{Tree}
 use Rattle.pep508_tree.specs.Meaning.{NodeRecord, holds}
 use Rattle.pep508_marker_key.specs.Key.{OneKey}
-use Rattle.reqs_reply.specs.Endings.{Ending}
 use Rattle.reqs_markers.specs.Markers.{marker_holds, IsMarkerTree}
-use Rattle.reqs_algebra.specs.Relations.{Values, SaysOf}
 use Rattle.reqs_algebra.specs.Keys.{IsKeyOf, GivesKey}
 use Rattle.reqs_algebra.proofs.Saying.{says_so}
 

@@ -2,9 +2,8 @@
 
 ghost use Rattle.std.specs.Prelude.{◌≡◌, ◌↔◌, ℕ, List};
 ghost use Rattle.pep508_diagram.specs.Question.{Valuation};
-ghost use Rattle.reqs_markers.specs.Markers.{marker_holds, GivesText, ReadsBack};
+ghost use Rattle.reqs_markers.specs.Markers.{marker_holds};
 ghost use Rattle.reqs_algebra.specs.Keys.{GivesKey};
-ghost use Rattle.reqs_algebra.specs.Made.{HoldsElsewhere};
 
 use pep508_marker_key::laws::one_key;
 
