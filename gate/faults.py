@@ -40,7 +40,8 @@ class Fault:
             file.write(text.replace(self.old, self.new) if self.old else self.new)
 
 
-PROVE, WRONG = ["gate/prove.py"], ["gate/wrong.py"]
+PROVE, WRONG, HELD = ["gate/prove.py"], ["gate/wrong.py"], ["gate/held.py"]
+SPECIFIERS = "crates/reqs_versions/specs/Specifiers.antt"
 LOW = "crates/underline"
 LAST_USE = "use unicode_width::UnicodeWidthChar;\n"
 FAILING_TEST = """
@@ -73,6 +74,12 @@ FAULTS = [
           "file: src/lib.rt\nold: c.width().unwrap_or(0)\nnew: match c.width() { Some(it) => it, None => 0 }\n"),
     Fault("a definition by the code's own table", None, ["gate/constants.py"],
           "crates/reqs_ends/specs/Inputs.antt", "abbrev pub IsWithin :", "abbrev pub IsShort :"),
+    Fault("a definition without one of its fields", None, HELD, SPECIFIERS,
+          "  pub is_list : IsListIn bytes members\n  pub is_text : text ≡ map", "  pub is_text : text ≡ map"),
+    Fault("a definition with another's name", None, HELD, SPECIFIERS,
+          "Rattle.reqs_versions.specs.Versions.{version_in}", "Rattle.pep508_environment.specs.EnvironmentValues.{version_in}"),
+    Fault("a contract without one of its clauses", None, HELD, "crates/pep440_version/src/version.rt",
+          "        ensures grown { result ≡ Err errors.Memory → version_reading text.now ≢ Err NoLeadingNumber }\n", ""),
     Fault("a lent call that is passed on", None, ["gate/lent.py"],
           "crates/pep508_rs/src/lib.rt", "{Interner, MarkerTree}", "{Interner, MarkerTree, uncounted_conjunction}"),
     Fault("a matrix that keeps a copy of its requirements", None, ["gate/lent.py"],

@@ -5,6 +5,7 @@
     gate.py --from-nothing     takes nothing from the store, and fills it
     gate.py --wrong [CRATE..]  each wrong edit of these crates, or of all
     gate.py --faults           plants faults, and sees that the gate fails at each
+    gate.py --accept NAME..    takes statements that are new, others or gone into the list of those that are held
 
 Each part closes with a line `N passed, M failed`, or with two. The last line is that of their sums; the status is 0 where
 M is 0, and 2 where the words are others. Parts that run programs are run side by side.
@@ -19,6 +20,7 @@ import sys
 import time
 from concurrent.futures import ThreadPoolExecutor
 
+import accept
 from crates import TOP, Crates, sum_of_files, toolchain_sum
 from faults import FAULTS
 from store import Store
@@ -67,6 +69,7 @@ def parts(more):
         Part("wrong edits fit", [*python, "gate/wrong.py", "--texts"]),
         Part("calls and least counts", [*python, "gate/asked.py"]),
         Part("constants in definitions", [*python, "gate/constants.py"]),
+        Part("statements held", [*python, "gate/held.py"]),
         Part("lent calls", [*python, "gate/lent.py"]),
         Part("proofs and wrong edits", [*python, "gate/together.py", *more], closings=2),
     ], [
@@ -152,9 +155,11 @@ def gate(more):
 
 def main(words):
     mode, named = words[0] if words else "", words[1:]
-    if mode not in ("", NOTHING, "--wrong", "--faults") or named and mode != "--wrong":
+    if mode not in ("", NOTHING, "--wrong", "--faults", "--accept") or named and mode not in ("--wrong", "--accept"):
         print(__doc__, file=sys.stderr)
         return 2
+    if mode == "--accept":
+        return accept.main(named)
     if not shutil.which("rt"):
         print("test: the command rt of the Rattle toolchain, which proves crates, is not on the PATH", file=sys.stderr)
         print("0 passed, 1 failed")
