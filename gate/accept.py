@@ -10,22 +10,26 @@ list has nothing yet. Where one of the names is none of these, none is taken and
 import sys
 
 from held import held
+from names import names
 
 
 def main(words):
     if not words or any(it.startswith("-") for it in words):
         print(__doc__, file=sys.stderr)
         return 2
-    lists = [held()]
-    taken = [(listed, it, listed.named(it)) for it in words for listed in lists]
-    refused = [names for _, _, names in taken if isinstance(names, str)]
-    refused += [f"no list and nothing in the tree has {it}" for it in words if not any(names for _, of, names in taken if of == it)]
-    if refused:
-        print(*[f"accept: {it}" for it in refused], sep="\n", file=sys.stderr)
+    lists, is_refused = [held(), names()], False
+    taken = {it: [(listed, listed.named(it)) for listed in lists] for it in words}
+    for word, meant in taken.items():
+        if not any(isinstance(found, list) and found for _, found in meant):
+            why = [found for _, found in meant if isinstance(found, str)] or [f"no list and nothing in the tree has {word}"]
+            print(f"accept: {why[0]}", file=sys.stderr)
+            is_refused = True
+    if is_refused:
         return 2
-    for listed, _, names in taken:
-        listed.take(names)
-        print("".join(f"{listed.path}: {it}\n" for it in names), end="")
+    for listed, found in (it for meant in taken.values() for it in meant):
+        for name in found if isinstance(found, list) else ():
+            listed.take(name)
+            print(f"{listed.path}: {name}")
     for listed in lists:
         listed.write()
     return 0

@@ -25,13 +25,17 @@ CLOSING = re.compile(r"^\d+ passed, (\d+) failed$", re.M)
 
 class Fault:
     """A fault: a name, the crate whose closure the copy has (None: all crates), the words of the part that has to
-    fail, a file, a text that stands in it once, and what stands there then. No text stands for the whole file."""
+    fail, a file, a text that stands in it once, and what stands there then. No text stands for the whole file, which
+    is deleted where nothing stands there then."""
 
     def __init__(self, name, crate, words, path, old, new):
         self.name, self.crate, self.words, self.path, self.old, self.new = name, crate, words, path, old, new
 
     def plant(self, room):
         path = os.path.join(room, self.path)
+        if self.new is None:
+            os.remove(path)
+            return
         with open(path, encoding="utf-8") as file:
             text = file.read()
         if self.old and text.count(self.old) != 1:
@@ -40,7 +44,11 @@ class Fault:
             file.write(text.replace(self.old, self.new) if self.old else self.new)
 
 
-PROVE, WRONG, HELD = ["gate/prove.py"], ["gate/wrong.py"], ["gate/held.py"]
+PROVE, WRONG, HELD, NAMES = ["gate/prove.py"], ["gate/wrong.py"], ["gate/held.py"], ["gate/names.py"]
+LENT, CONSTANTS, FITS = ["gate/lent.py"], ["gate/constants.py"], [*WRONG, "--texts"]
+# The parts that read texts alone, and leave nothing in the tree.
+TEXTS = (HELD, NAMES, LENT, CONSTANTS, FITS)
+PYTHON_TESTS = "python/tests/test_specifiers.py"
 SPECIFIERS = "crates/reqs_versions/specs/Specifiers.antt"
 LOW = "crates/underline"
 LAST_USE = "use unicode_width::UnicodeWidthChar;\n"
@@ -72,7 +80,7 @@ FAULTS = [
     Fault("an edit that is right", None, [*WRONG, "--gate", "underline"],
           "tests/wrong/underline/marks_are_the_blanks.edit", "",
           "file: src/lib.rt\nold: c.width().unwrap_or(0)\nnew: match c.width() { Some(it) => it, None => 0 }\n"),
-    Fault("a definition by the code's own table", None, ["gate/constants.py"],
+    Fault("a definition by the code's own table", None, CONSTANTS,
           "crates/reqs_ends/specs/Inputs.antt", "abbrev pub IsWithin :", "abbrev pub IsShort :"),
     Fault("a definition without one of its fields", None, HELD, SPECIFIERS,
           "  pub is_list : IsListIn bytes members\n  pub is_text : text ≡ map", "  pub is_text : text ≡ map"),
@@ -80,14 +88,19 @@ FAULTS = [
           "Rattle.reqs_versions.specs.Versions.{version_in}", "Rattle.pep508_environment.specs.EnvironmentValues.{version_in}"),
     Fault("a contract without one of its clauses", None, HELD, "crates/pep440_version/src/version.rt",
           "        ensures grown { result ≡ Err errors.Memory → version_reading text.now ≢ Err NoLeadingNumber }\n", ""),
-    Fault("a lent call that is passed on", None, ["gate/lent.py"],
+    Fault("a test that is none", None, NAMES, "crates/pep508_url_tests/src/urls.rt",
+          "#[test]\nfn keeps_variables(", "fn keeps_variables("),
+    Fault("a file of tests that is deleted", None, NAMES, PYTHON_TESTS, "", None),
+    Fault("an assertion that can't fail", None, NAMES, PYTHON_TESTS,
+          "self.assertEqual(list(SpecifierSet(text).filter(VERSIONS, prereleases=True)), taken.split(), text)", "self.assertTrue(True)"),
+    Fault("a lent call that is passed on", None, LENT,
           "crates/pep508_rs/src/lib.rt", "{Interner, MarkerTree}", "{Interner, MarkerTree, uncounted_conjunction}"),
-    Fault("a matrix that keeps a copy of its requirements", None, ["gate/lent.py"],
+    Fault("a matrix that keeps a copy of its requirements", None, LENT,
           "crates/reqs/src/matrices.rt", "let mut table = table_of(alloc, requirements, interner, limit)?;",
           "let copy = copied_packages(alloc, &requirements, &[])?; let mut table = table_of(alloc, copy, interner, limit)?;"),
-    Fault("a table that keeps its lines twice", None, ["gate/lent.py"], "crates/reqtable_table/src/table.rt",
+    Fault("a table that keeps its lines twice", None, LENT, "crates/reqtable_table/src/table.rt",
           "pub(crate) lines: Vec<TableLine>,", "pub(crate) lines: Vec<TableLine>, pub(crate) given: Vec<Given>,"),
-    Fault("no edits", None, [*WRONG, "--texts"], "tests/wrong/gate.txt", "", ""),
+    Fault("no edits", None, FITS, "tests/wrong/gate.txt", "", ""),
 ]
 
 
@@ -113,19 +126,36 @@ def ran(words, room, store):
     return done.returncode, done.stdout
 
 
-def judged(fault, is_planted):
-    """Why the gate isn't as it has to be with this fault planted, or without it, or None."""
-    with tempfile.TemporaryDirectory(prefix="reqs-faults-") as room:
-        copy_of(fault.crate, room)
-        if is_planted:
-            fault.plant(room)
-        status, said = ran(fault.words, room, default_folder())
+def judged(fault, is_planted, room):
+    """Why the gate isn't as it has to be in a copy with this fault planted, or without it, or None."""
+    if is_planted:
+        fault.plant(room)
+    status, said = ran(fault.words, room, default_folder())
     failed = [int(it) for it in CLOSING.findall(said)]
     if is_planted and (status == 0 or not failed or failed[-1] == 0):
         return f"the gate did not fail: status {status}: {said[-300:]}"
     if not is_planted and (status or fault.words == PROVE and "gate: 0 proved, " not in said):
         return f"without the fault the gate did not pass from the store: status {status}: {said[-300:]}"
     return None
+
+
+def judged_by_texts(faults):
+    """The same of faults that one part finds by reading texts: in one copy, into which each is planted and taken out again."""
+    with tempfile.TemporaryDirectory(prefix="reqs-faults-") as room:
+        copy_of(None, room)
+        yield f"the copy for {faults[0].name}", judged(faults[0], False, room)
+        for it in faults:
+            yield it.name, judged(it, True, room)
+            shutil.copy2(os.path.join(TOP, it.path), os.path.join(room, it.path))
+
+
+def judged_by_proofs(faults):
+    """The same of faults by which something is proved: each in a copy of its own."""
+    for at, is_planted in [(0, False), *((at, True) for at in range(len(faults)))]:
+        with tempfile.TemporaryDirectory(prefix="reqs-faults-") as room:
+            copy_of(faults[at].crate, room)
+            name = faults[at].name if is_planted else f"the copy for {faults[at].name}"
+            yield name, judged(faults[at], is_planted, room)
 
 
 def cut_short():
@@ -145,12 +175,11 @@ def cut_short():
 
 def main():
     passed = failed = 0
-    told, tried = [], set()
-    for fault in FAULTS:
-        shown = (fault.crate, *fault.words)
-        for is_planted in (False, True) if shown not in tried else (True,):
-            told.append((fault.name if is_planted else f"the copy for {fault.name}", judged(fault, is_planted)))
-        tried.add(shown)
+    told, groups = [], {}
+    for it in FAULTS:
+        groups.setdefault((it.crate, *it.words), []).append(it)
+    for faults in groups.values():
+        told += judged_by_texts(faults) if faults[0].words in TEXTS else judged_by_proofs(faults)
     told.append(("an entry that is cut short", cut_short()))
     for name, why in told:
         print(f"FAILED: {name}: {why}" if why else f"{name}: as it has to be", flush=True)

@@ -5,7 +5,7 @@
     gate.py --from-nothing     takes nothing from the store, and fills it
     gate.py --wrong [CRATE..]  each wrong edit of these crates, or of all
     gate.py --faults           plants faults, and sees that the gate fails at each
-    gate.py --accept NAME..    takes statements that are new, others or gone into the list of those that are held
+    gate.py --accept NAME..    takes statements and tests that are new, others or gone into the lists of them
 
 Each part closes with a line `N passed, M failed`, or with two. The last line is that of their sums; the status is 0 where
 M is 0, and 2 where the words are others. Parts that run programs are run side by side.
@@ -70,6 +70,7 @@ def parts(more):
         Part("calls and least counts", [*python, "gate/asked.py"]),
         Part("constants in definitions", [*python, "gate/constants.py"]),
         Part("statements held", [*python, "gate/held.py"]),
+        Part("tests by name", [*python, "gate/names.py"]),
         Part("lent calls", [*python, "gate/lent.py"]),
         Part("proofs and wrong edits", [*python, "gate/together.py", *more], closings=2),
     ], [

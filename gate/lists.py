@@ -70,12 +70,11 @@ class Listed:
             return f"{name}: {self.path} has lines of that, so that each other is taken by its own name"
         return inside
 
-    def take(self, names):
-        """Takes these names as they are found."""
-        for it in names:
-            self.lines.pop(it, None)
-            if it in self.found:
-                self.lines[it] = self.found[it].value
+    def take(self, name):
+        """Takes a name as it is found."""
+        self.lines.pop(name, None)
+        if name in self.found:
+            self.lines[name] = self.found[name].value
 
     def write(self):
         groups = {}

@@ -37,7 +37,8 @@ class Cached(unittest.TestCase):
         self.assertEqual(slow.value, 1)
         del slow.value
         threading.Thread(target=slow.both.wait).start()
-        self.assertIs(slow.value, slow.value)
+        again = slow.value
+        self.assertIs(slow.value, again)
 
     def test_of_the_class(self):
         self.assertEqual((Slow.value.__doc__, Slow.value.name), ("A value.", "value"))
