@@ -3,12 +3,14 @@
 
     gate.py                    proves what the store doesn't hold, and takes the rest from there
     gate.py --from-nothing     takes nothing from the store, and fills it
+    gate.py --release          the same, and what is left out fails
     gate.py --wrong [CRATE..]  each wrong edit of these crates, or of all
     gate.py --faults           plants faults, and sees that the gate fails at each
     gate.py --accept NAME..    takes statements and tests that are new, others or gone into the lists of them
 
 Each part closes with a line `N passed, M failed`, or with two. The last line is that of their sums; the status is 0 where
-M is 0, and 2 where the words are others. Parts that run programs are run side by side.
+M is 0, and 2 where the words are others. Before it stands what was left out, for want of what this machine doesn't have.
+Parts that run programs are run side by side.
 """
 
 import hashlib
@@ -27,8 +29,8 @@ from store import Store
 
 CLOSING = re.compile(r"^(?:[a-z]+: )?(\d+) passed, (\d+) failed$", re.M)
 # How a part says that it left something out, for want of what the machine may have another time.
-LEFT_OUT = re.compile(r"^(?:[a-z]+\.sh: left out|not tried): ", re.M)
-NOTHING = "--from-nothing"
+LEFT_OUT = re.compile(r"^(?:[a-z]+\.sh: left out|not tried): (.*)", re.M)
+NOTHING, RELEASE = "--from-nothing", "--release"
 QUESTIONS = ("pep440_vectors", "pep508_vectors", "pep508_marker_vectors")
 # What of tests/ the parts read that run programs.
 OF_REQS = ("alike.py", "cli.sh", "drawn.py", "help.txt", "install.sh", "lists", "objects.py", "pages", "pairs.py", "refuse.c", "refused.py",
@@ -90,7 +92,7 @@ def parts(more):
 
 
 def run(part, show):
-    """Runs a part and shows what it says. Returns what passed and failed, and whether nothing was left out."""
+    """Runs a part and shows what it says. Returns what passed and failed, and what was left out, a sentence each."""
     said = []
     how = {"stdin": subprocess.DEVNULL, "stdout": subprocess.PIPE, "stderr": subprocess.STDOUT, "errors": "replace"}
     with subprocess.Popen(part.words, cwd=TOP, **how) as ran:
@@ -100,29 +102,30 @@ def run(part, show):
     closings = CLOSING.findall("".join(said))[-part.closings :]
     if len(closings) < part.closings:
         show(f"test: {part.name} ended with status {ran.returncode} and without its closing line\n")
-        return 0, 1, False
+        return 0, 1, []
     good, bad = (sum(int(it[at]) for it in closings) for at in (0, 1))
     if bad == 0 and (ran.returncode or any(it[0] == "0" for it in closings)):
         show(f"test: {part.name} ended with status {ran.returncode}, {good} passed and none failed: that is no pass\n")
         bad = 1
-    return good, bad, not LEFT_OUT.search("".join(said))
+    return good, bad, LEFT_OUT.findall("".join(said))
 
 
 def judged(part, crates, store, show):
-    """What passed and failed of a part, which isn't run where the store has the verdict of one that left nothing out."""
+    """What passed and failed of a part, and what it left out; it isn't run where the store has the verdict that nothing
+    failed and nothing was left out."""
     began = time.monotonic()
     show(f"test: {part.name}\n")
     entry = part.entry(crates)
     kept = re.fullmatch(r"(\d+) passed", store.verdict(entry) or "") if entry else None
     if kept:
         show(f"    {kept[1]} passed, taken from the store\n")
-        good, bad = int(kept[1]), 0
+        good, bad, left = int(kept[1]), 0, []
     else:
-        good, bad, is_whole = run(part, show)
-        if entry and is_whole and not bad and part.entry(Crates()) == entry:
+        good, bad, left = run(part, show)
+        if entry and not left and not bad and part.entry(Crates()) == entry:
             store.keep_verdict(entry, f"{good} passed")
     show(f"test: {part.name}: {good} passed, {bad} failed in {time.monotonic() - began:.0f} s\n")
-    return good, bad
+    return good, bad, [f"{part.name}: {it}" for it in left]
 
 
 def judged_apart(part, crates, store):
@@ -139,24 +142,28 @@ def are_built(programs):
     return all(subprocess.run([*words, it], cwd=TOP).returncode == 0 for it in programs)
 
 
-def gate(more):
+def gate(more, demands_all):
     store, crates = Store(reads=not more), Crates()
     alone, together = parts(more)
-    counts = [judged(it, crates, store, lambda text: print(text, end="", flush=True)) for it in alone]
+    verdicts = [judged(it, crates, store, lambda text: print(text, end="", flush=True)) for it in alone]
     if are_built(["reqs_cli", "reqs_c", *QUESTIONS]):
         with ThreadPoolExecutor() as pool:
-            counts += pool.map(lambda part: judged_apart(part, crates, store), together)
+            verdicts += pool.map(lambda part: judged_apart(part, crates, store), together)
     else:
         print("test: the programs and the library for C were not built, so nothing that runs them was tried")
-        counts.append((0, len(together)))
-    passed, failed = (sum(it[at] for it in counts) for at in (0, 1))
+        verdicts.append((0, len(together), []))
+    left = [it for verdict in verdicts for it in verdict[2]]
+    passed, failed = (sum(it[at] for it in verdicts) for at in (0, 1))
+    if left:
+        print("test: left out, though a release needs all of it (./test --release):", *left, sep="\n    ")
+    failed += len(left) if demands_all else 0
     print(f"{passed} passed, {failed} failed")
     return 1 if failed else 0
 
 
 def main(words):
     mode, named = words[0] if words else "", words[1:]
-    if mode not in ("", NOTHING, "--wrong", "--faults", "--accept") or named and mode not in ("--wrong", "--accept"):
+    if mode not in ("", NOTHING, RELEASE, "--wrong", "--faults", "--accept") or named and mode not in ("--wrong", "--accept"):
         print(__doc__, file=sys.stderr)
         return 2
     if mode == "--accept":
@@ -168,7 +175,7 @@ def main(words):
     if mode in ("--wrong", "--faults"):
         script = {"--wrong": "wrong.py", "--faults": "faults.py"}[mode]
         return subprocess.run([sys.executable, os.path.join(TOP, "gate", script), *named], cwd=TOP).returncode
-    return gate([mode] if mode else [])
+    return gate([NOTHING] if mode else [], mode == RELEASE)
 
 
 if __name__ == "__main__":

@@ -106,7 +106,7 @@ removes() {
 }
 
 if ! command -v dpkg-deb >/dev/null || ! command -v dpkg >/dev/null; then
-    echo "not tried: a Debian package, since there is no dpkg"
+    echo "not tried: a Debian package, since there is no dpkg (Debian's package dpkg)"
     holds "./pack deb says that there is no dpkg-deb" says_so
     finish
 fi

@@ -122,7 +122,7 @@ def try_answers(tests, dask):
     if dask:
         try_engine(tests, index, wanted, "two workers of Dask", dask, ["--workers", "2", "pieces200000"])
     else:
-        print("not tried: Dask, which no interpreter here has (python3-distributed)")
+        print("not tried: Dask, which no interpreter here has (Debian's package python3-distributed)")
 
 
 def are_pieces(pieces, most):

@@ -1,6 +1,6 @@
 #!/usr/bin/env bash
 # Tests of the Python package, by each interpreter from 3.8 on that there is, over the library that `./build reqs_c` makes; of its
-# types, by mypy; and of its wheel, installed into an environment of its own.
+# types, by mypy; of its wheel, installed into an environment of its own; and packaging's own tests, where they were fetched.
 #
 #     python.sh [LIBRARY]
 #
@@ -33,18 +33,20 @@ if [ $# -eq 0 ] && ! "$top/build" reqs_c >"$work/said" 2>&1 </dev/null; then
 fi
 library=$(realpath -- "$library")
 
-# Interpreters by the version that they tell, each once.
+# Interpreters by the version that they tell, each once: those on the path, and those that pyenv has.
 declare -A interpreters
-for name in python3 python3.{8..20}; do
+for name in python3 python3.{8..20} "${PYENV_ROOT:-${HOME-}/.pyenv}"/versions/3.*/bin/python3; do
     version=$("$name" -c 'import sys; print("%d.%d" % sys.version_info[:2])' 2>/dev/null) || continue
     [ "${version#*.}" -lt 8 ] || interpreters[$version]=${interpreters[$version]-$name}
 done
 
 run_tests() {
-    local said=$work/said-$1 count
+    local said=$work/said-$1 count skipped
     cd "$top/python" || return
     FOWLYORE_LIBRARY=$library "$2" -W error -m unittest discover -q -t . -s tests >"$said" 2>&1
     count=$(sed -n 's/^Ran \([0-9]*\) tests\? .*/\1/p' "$said")
+    skipped=$(sed -n 's/^OK (.*skipped=\([0-9]*\).*/\1/p' "$said")
+    [ -z "$skipped" ] || echo "not tried: tests by Python $1, of which $skipped were skipped"
     if tail -n 1 "$said" | grep -q '^OK' && [ "${count:-0}" -gt 0 ]; then
         passed=$((passed + count))
     else
@@ -56,10 +58,13 @@ run_tests() {
 for version in "${!interpreters[@]}"; do
     run_tests "$version" "${interpreters[$version]}"
 done
+for minor in {8..13}; do
+    [ "${interpreters[3.$minor]-}" ] || echo "not tried: the tests by Python 3.$minor, which is not there (pyenv install 3.$minor)"
+done
 
 # The types of the package, which its users' checks rest on.
 if ! command -v mypy >/dev/null; then
-    echo "not tried: the types, by mypy, which is not on the PATH"
+    echo "not tried: the types, by mypy, which is not on the PATH (Debian's package mypy, or pip install mypy)"
 elif (cd "$top/python" && mypy --strict --cache-dir "$work/types" fowlyore) >"$work/said" 2>&1; then
     passed=$((passed + 1))
 else
@@ -80,11 +85,21 @@ try_wheel() {
 }
 
 if ! python3 -m pip --version 2>/dev/null | grep -qE '^pip (2[3-9]|[3-9][0-9])'; then
-    echo "not tried: the wheel, which wants pip 23 or later"
+    echo "not tried: the wheel, which wants pip 23 or later (pip install --upgrade pip)"
 elif try_wheel; then
     passed=$((passed + 1))
 else
     fail "the wheel, installed into an environment of its own"
 fi
-echo "not tried: packaging's own tests, which tests/packaging_suite/run.py fetches"
+
+# Packaging's tests over this package.
+suite=$top/out/packaging_suite
+if ! compgen -G "$suite/source/packaging-*" >/dev/null; then
+    echo "not tried: packaging's own tests, which are not there (python3 tests/packaging_suite/run.py fetches them)"
+else
+    python3 "$top/tests/packaging_suite/run.py" --library "$library" "$suite" >"$work/said" 2>&1
+    counts=$(sed -n 's/^packaging: \([0-9]*\) passed, \([0-9]*\) failed$/\1 \2/p' "$work/said" | tail -n 1)
+    [ "${counts#* }" = 0 ] || { tail -n 60 "$work/said"; fail "packaging's own tests"; }
+    passed=$((passed + ${counts:+${counts% *}} + 0))
+fi
 finish
