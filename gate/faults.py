@@ -17,6 +17,7 @@ import subprocess
 import sys
 import tempfile
 
+import keys
 from crates import TOP, Crates
 from store import Store, default_folder
 
@@ -52,17 +53,18 @@ PYTHON_TESTS = "python/tests/test_specifiers.py"
 SPECIFIERS = "crates/reqs_versions/specs/Specifiers.antt"
 LOW = "crates/underline"
 LAST_USE = "use unicode_width::UnicodeWidthChar;\n"
-FAILING_TEST = """
+FAILING = "a_letter_takes_two_columns"
+FAILING_TEST = f"""
 #[cfg(test)]
-mod tests {
+mod tests {{
     use std::test::Fail;
 
     #[test]
-    fn a_letter_takes_two_columns(rt: HostRuntime) -> Result<(), Fail> {
+    fn {FAILING}(rt: HostRuntime) -> Result<(), Fail> {{
         assert_eq!(rt; crate::columns("a"), 2);
         Ok(())
-    }
-}
+    }}
+}}
 """
 FAULTS = [
     Fault("a body", "underline", PROVE, f"{LOW}/src/lib.rt", "c.width().unwrap_or(0)", "c.width().unwrap_or(1)"),
@@ -102,6 +104,20 @@ FAULTS = [
           "pub(crate) lines: Vec<TableLine>,", "pub(crate) lines: Vec<TableLine>, pub(crate) given: Vec<Given>,"),
     Fault("no edits", None, FITS, "tests/wrong/gate.txt", "", ""),
 ]
+# Scripts that take a crate's tests for proved, and keep that.
+SLIP = Fault("tests that are taken for proved", "underline", PROVE, "gate/prove.py", "        # (a library is unpacked once", """\
+        if tests:
+            write(os.path.join(out, parts[0]), "")
+            self.keep(crate, entry, tests)
+            remove(os.path.join(out, parts[0]))
+            return 0
+        # (a library is unpacked once""")
+# Prints the name of the entry of a crate's tests.
+ENTRY = """import sys
+sys.path.insert(0, "gate")
+import prove, store, toolchain
+print(prove.Prover(toolchain.load(), store.Store()).entry("underline", True))
+"""
 
 
 def copy_of(crate, room):
@@ -158,16 +174,39 @@ def judged_by_proofs(faults):
             yield name, judged(faults[at], is_planted, room)
 
 
+def taken_over():
+    """Why the gate takes over a failing test what it may not, or None: what scripts kept that prove no tests, and an entry of
+    tests without their program."""
+    test = next(it for it in FAULTS if it.new == LAST_USE + FAILING_TEST)
+    with tempfile.TemporaryDirectory() as folder, tempfile.TemporaryDirectory(prefix="reqs-faults-") as room:
+        copy_of("underline", room)
+        test.plant(room)
+        SLIP.plant(room)
+        status, said = ran(PROVE, room, folder)
+        if status:
+            return f"the scripts that prove no tests failed: {said[-300:]}"
+        shutil.copy2(os.path.join(TOP, SLIP.path), os.path.join(room, SLIP.path))
+        status, said = ran(PROVE, room, folder)
+        if status == 0 or FAILING not in said:
+            return f"what such scripts kept was taken: status {status}: {said[-300:]}"
+        name = ran(["-c", ENTRY], room, folder)[1].strip()
+        Store(folder).keep(name, room, ["HANDLES"])
+        status, said = ran(PROVE, room, folder)
+        if status == 0 or FAILING not in said:
+            return f"an entry without its program was taken: status {status}: {said[-300:]}"
+    return None
+
+
 def cut_short():
     """Why an entry of the store that is cut short is taken, or None: the crate has to be proved in its place."""
     with tempfile.TemporaryDirectory(prefix="reqs-faults-") as room, tempfile.TemporaryDirectory() as folder:
         copy_of("read_outcome", room)
-        entry = f"{Crates().sum('read_outcome')}.library"
+        entry, parts = f"{keys.of_proof(Crates(), 'read_outcome')}.library", ["rlib/read_outcome.rlib"]
         store = Store(folder)
         with open(Store().path("packed", f"{entry}.tar.gz"), "rb") as whole:
             with open(store.path("packed", f"{entry}.tar.gz"), "wb") as part:
                 part.write(whole.read()[:-1000])
-        if store.take(entry, room):
+        if store.take(entry, room, parts):
             return "it was taken"
         _, said = ran(PROVE, room, folder)
     return None if "gate: 1 proved, 0 taken" in said else "the crate was not proved anew"
@@ -181,6 +220,7 @@ def main():
     for faults in groups.values():
         told += judged_by_texts(faults) if faults[0].words in TEXTS else judged_by_proofs(faults)
     told.append(("an entry that is cut short", cut_short()))
+    told.append(("a failing test that the store knows otherwise", taken_over()))
     for name, why in told:
         print(f"FAILED: {name}: {why}" if why else f"{name}: as it has to be", flush=True)
         passed, failed = passed + (why is None), failed + (why is not None)

@@ -13,7 +13,6 @@ M is 0, and 2 where the words are others. Before it stands what was left out, fo
 Parts that run programs are run side by side.
 """
 
-import hashlib
 import os
 import re
 import shutil
@@ -23,7 +22,8 @@ import time
 from concurrent.futures import ThreadPoolExecutor
 
 import accept
-from crates import TOP, Crates, sum_of_files, toolchain_sum
+import keys
+from crates import TOP, Crates, toolchain_sum
 from faults import FAULTS
 from store import Store
 
@@ -50,9 +50,8 @@ class Part:
         """The name of its verdict in the store, or None where it is tried each time."""
         if not self.rests_on:
             return None
-        files = sum_of_files(os.path.join(TOP, it) for it in self.rests_on)
-        said = repr((self.name, self.words, toolchain_sum(), [crates.sum(it) for it in self.programs], files))
-        return f"{hashlib.sha256(said.encode()).hexdigest()}.part"
+        programs = [keys.of_proof(crates, it) for it in self.programs]
+        return f"{keys.summed((self.name, toolchain_sum(), programs, keys.of_part(self.words, self.rests_on)))}.part"
 
 
 def parts(more):
@@ -147,6 +146,8 @@ def gate(more, demands_all):
     alone, together = parts(more)
     verdicts = [judged(it, crates, store, lambda text: print(text, end="", flush=True)) for it in alone]
     if are_built(["reqs_cli", "reqs_c", *QUESTIONS]):
+        # (found once, before all ask for it)
+        keys.versions()
         with ThreadPoolExecutor() as pool:
             verdicts += pool.map(lambda part: judged_apart(part, crates, store), together)
     else:

@@ -16,10 +16,11 @@ import subprocess
 import sys
 import threading
 
+import keys
 import toolchain
 from crates import TOP, Crates, kit_folder
 from lanes import Lanes, Task
-from store import Store
+from store import Store, remove
 
 # The library for C runs on each processor of its kind, as wheels and Debian's packages say of what they hold.
 CPU = "x86-64"
@@ -29,6 +30,8 @@ MARK = "sum"
 # What a proof takes by one job, as measured: a crate is loaded, and then so much for a line. Functions of programs and of
 # tests own more values.
 SECONDS, SECONDS_A_LINE = 7, {LIBRARY: 0.13, PROGRAM: 0.6, STATIC: 0.6, TESTS: 0.6}
+# What packs the library for C sees of the environment; `rt` sees less.
+ENVIRONMENT = {**os.environ}
 # Some checks take a fifth more memory than is reckoned.
 MEMORY = 0.85
 
@@ -49,21 +52,34 @@ class Prover:
         return TESTS if tests else PROGRAM if crate.is_program() else STATIC if crate.is_static() else LIBRARY
 
     def entry(self, name, tests=False):
-        return f"{self.crates.sum(name)}.{self.kind(name, tests)}"
+        return f"{keys.of_proof(self.crates, name)}.{self.kind(name, tests)}"
+
+    def parts(self, name, tests=False):
+        """What lies in out/ once a crate or its tests are proved. An entry that lacks any of it is none."""
+        programs = [name, f"{name}.by-rattle"]
+        made = {TESTS: [f"{name}_tests"], PROGRAM: programs, STATIC: [archive_of(name)], LIBRARY: [f"rlib/{name}.rlib"]}
+        return made[self.kind(name, tests)]
 
     def take_or_prove(self, crate, flags, tests):
         """Stands in place of `rt`'s way to prove a crate from nothing, and gives a status as that does."""
-        entry, out = self.entry(crate.name, tests), os.path.join(crate.folder, "out")
+        entry, out, parts = self.entry(crate.name, tests), os.path.join(crate.folder, "out"), self.parts(crate.name, tests)
         # (a library is unpacked once something is proved over it)
         is_library = self.kind(crate.name, tests) == LIBRARY
-        if self.store.has(entry) if is_library else self.store.take(entry, out):
+        if self.store.has(entry, parts) if is_library else self.store.take(entry, out, parts):
             self.taken.append(entry)
             return 0
         lost = [it.name for it in crate.below() if not self.lay_out(it.name)]
         if lost:
             print(f"gate: {crate.name}: the library {lost[0]} can't be taken from the store", file=crate.out)
             return 1
+        # (what an earlier run built there says nothing of this one)
+        for it in parts:
+            remove(os.path.join(out, it))
         status = self.prove(crate, flags, tests)
+        lacking = [it for it in parts if not os.path.exists(os.path.join(out, it))]
+        if status == 0 and lacking:
+            print(f"gate: {crate.name} was proved, and out/{lacking[0]} was not made", file=crate.out)
+            return 1
         if status == 0:
             self.proved.append(entry)
             self.keep(crate, entry, tests)
@@ -80,31 +96,29 @@ class Prover:
         """Keeps what was proved, unless a text changed meanwhile."""
         if Crates().sum(crate.name) != self.crates.sum(crate.name):
             return
-        out, kind = os.path.join(crate.folder, "out"), self.kind(crate.name, tests)
-        programs = [crate.name, f"{crate.name}.by-rattle"]
-        archives = [archive_of(crate.name)]
-        made = {TESTS: [f"{crate.name}_tests"], PROGRAM: programs, STATIC: archives, LIBRARY: ["rlib"]}[kind]
-        if os.path.isdir(os.path.join(out, "rlib")) and kind == LIBRARY:
+        out, is_library = os.path.join(crate.folder, "out"), self.kind(crate.name, tests) == LIBRARY
+        if is_library:
             # (by its stamp `rt check` knows a library for its own)
             write(os.path.join(out, "rlib", "stamp"), crate.stamp())
-            write(os.path.join(out, "rlib", MARK), self.crates.sum(crate.name))
-        self.store.keep(entry, out, [it for it in made if os.path.exists(os.path.join(out, it))])
+            write(os.path.join(out, "rlib", MARK), keys.of_proof(self.crates, crate.name))
+        self.store.keep(entry, out, ["rlib"] if is_library else self.parts(crate.name, tests))
 
     def lay_out(self, name):
         """Has a library that was proved or kept in its crate's out/, and says whether it is there."""
-        out = os.path.join(self.crates[name].folder, "out")
+        out, mark = os.path.join(self.crates[name].folder, "out"), keys.of_proof(self.crates, name)
+        is_there = lambda: read(os.path.join(out, "rlib", MARK)) == mark
         with self.turns[name]:
-            if read(os.path.join(out, "rlib", MARK)) == self.crates.sum(name):
+            if is_there():
                 return True
             os.makedirs(out, exist_ok=True)
-            return self.store.take(self.entry(name), out)
+            return self.store.take(self.entry(name), out, self.parts(name)) and is_there()
 
     def in_lanes(self, tasks):
         """Stands in place of `rt`'s way to run tasks side by side, and takes them in its form."""
         made = {}
         for key, (waits, lines, memory, call) in tasks.items():
             name, tests = (key, False) if isinstance(key, str) else (key[0], key[1] == TESTS)
-            is_kept = self.store.has(self.entry(name, tests))
+            is_kept = self.store.has(self.entry(name, tests), ())
             seconds = SECONDS + SECONDS_A_LINE[self.kind(name, tests)] * lines
             made[key] = Task(waits, 1 if is_kept or not lines else seconds, memory, call)
         made.update(self.more_tasks())
@@ -206,7 +220,7 @@ def program(prover, name):
     if not Chain(prover, [name]).run() or not os.path.isfile(built):
         print(f"gate: {name} was not built", file=sys.stderr)
         return 1
-    if crate.is_static() and subprocess.run(["bash", "tools/pack.sh"], cwd=TOP).returncode:
+    if crate.is_static() and subprocess.run(["bash", "tools/pack.sh"], cwd=TOP, env=ENVIRONMENT).returncode:
         print(f"gate: of the archive of {name} no library was made", file=sys.stderr)
         return 1
     write(os.path.join(out, MARK), mark)

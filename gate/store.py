@@ -44,18 +44,35 @@ class Store:
     def path(self, kind, name):
         return os.path.join(self.folder, kind, name)
 
-    def has(self, name):
-        return self.reads and os.path.isfile(self.path("packed", f"{name}.tar.gz"))
-
-    def take(self, name, folder):
-        """Unpacks an entry below a folder. Says whether it was there, and whole."""
+    def has(self, name, parts):
+        """Whether there is an entry with these files or folders."""
         path = self.path("packed", f"{name}.tar.gz")
-        if not self.has(name):
+        if not self.reads or not os.path.isfile(path):
+            return False
+        try:
+            # (read as far as to the last of them, and they stand first)
+            left = {*parts}
+            with tarfile.open(path, "r:gz") as packed:
+                while left:
+                    inside = packed.next()
+                    if inside is None:
+                        return False
+                    left.discard(inside.name)
+            return True
+        except (OSError, EOFError, tarfile.TarError, zlib.error):
+            return False
+
+    def take(self, name, folder, parts):
+        """Unpacks an entry below a folder. Says whether it was there, and whole, with these in it."""
+        path = self.path("packed", f"{name}.tar.gz")
+        if not self.reads or not os.path.isfile(path):
             return False
         try:
             with tempfile.TemporaryDirectory(dir=folder, prefix=".taken-") as room:
                 with tarfile.open(path, "r:gz") as packed:
                     packed.extractall(room, **({"filter": "tar"} if hasattr(tarfile, "tar_filter") else {}))
+                if not all(os.path.exists(os.path.join(room, it)) for it in parts):
+                    raise tarfile.TarError(f"{name} lacks a part")
                 for it in os.listdir(room):
                     remove(os.path.join(folder, it))
                     os.rename(os.path.join(room, it), os.path.join(folder, it))

@@ -19,6 +19,10 @@ NAMES = (
 LIBRARY_NAMES = ("Crate", "crates_below", "lock", "guarded", "text_of")
 
 
+# Variables by which `rt` does otherwise. No verdict rests on them.
+VARIABLES = ("CC", "CFLAGS", "RT_ALLOW_C", "RT_BACKEND", "RT_SECONDS")
+
+
 class Unknown(Exception):
     """This toolchain's `rt` isn't made as the one that is known here."""
 
@@ -26,6 +30,8 @@ class Unknown(Exception):
 def load():
     """Returns the module of `rt`, made to find each crate's sum and what stands below it once."""
     path = os.path.join(kit_folder(), "bin", "rt")
+    for it in VARIABLES:
+        os.environ.pop(it, None)
     sys.dont_write_bytecode = True
     try:
         loader = importlib.machinery.SourceFileLoader("rt", path)

@@ -22,7 +22,6 @@ A verdict is kept in the store by the sum of all that it rests on, and what has 
 last line is `N passed, M failed`; the status is 0 where M is 0, and 2 where a name is no crate's.
 """
 
-import hashlib
 import os
 import re
 import shutil
@@ -32,14 +31,14 @@ import tempfile
 import threading
 import time
 
+import keys
 import toolchain
-from crates import TOP, Crates, sum_of_files
+from crates import Crates
 from edits import FLOORS, Misfit, edits_of, read_gate, strays
 from lanes import Task
 from prove import SECONDS, Chain, Prover
 from store import Store
 
-SCRIPTS = sum_of_files([os.path.join(TOP, "gate", it) for it in ("edits.py", "wrong.py")])
 # Where one of the edits in a check doesn't compile, the check tells of none.
 MOST_TOGETHER = 20
 # What an edit takes in its check, about.
@@ -136,9 +135,7 @@ class Trial:
 
     def key(self, edit):
         """The name of an edit's verdict: the sum of all that it rests on."""
-        own = hashlib.sha256(edit.content).hexdigest()
-        rests_on = self.prover.crates.sum(edit.crate.name), own, SCRIPTS
-        return hashlib.sha256(repr(rests_on).encode()).hexdigest() + ".edit"
+        return f"{keys.of_edit(self.prover.crates, edit.crate.name, edit.content)}.edit"
 
     def verdict(self, edit):
         return "refused; control proved" if edit.control else "refused"
