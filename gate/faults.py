@@ -47,6 +47,7 @@ class Fault:
 
 PROVE, WRONG, HELD, NAMES = ["gate/prove.py"], ["gate/wrong.py"], ["gate/held.py"], ["gate/names.py"]
 LENT, CONSTANTS, FITS = ["gate/lent.py"], ["gate/constants.py"], [*WRONG, "--texts"]
+PACK = [*PROVE, "--program", "reqs_c"]
 # The parts that read texts alone, and leave nothing in the tree.
 TEXTS = (HELD, NAMES, LENT, CONSTANTS, FITS)
 PYTHON_TESTS = "python/tests/test_specifiers.py"
@@ -102,6 +103,7 @@ FAULTS = [
           "let copy = copied_packages(alloc, &requirements, &[])?; let mut table = table_of(alloc, copy, interner, limit)?;"),
     Fault("a table that keeps its lines twice", None, LENT, "crates/reqtable_table/src/table.rt",
           "pub(crate) lines: Vec<TableLine>,", "pub(crate) lines: Vec<TableLine>, pub(crate) given: Vec<Given>,"),
+    Fault("a library for C that isn't packed", "reqs_c", PACK, "tools/pack.sh", "set -eu\n", "exit 1\n"),
     Fault("no edits", None, FITS, "tests/wrong/gate.txt", "", ""),
 ]
 # Scripts that take a crate's tests for proved, and keep that.
@@ -148,7 +150,8 @@ def judged(fault, is_planted, room):
         fault.plant(room)
     status, said = ran(fault.words, room, default_folder())
     failed = [int(it) for it in CLOSING.findall(said)]
-    if is_planted and (status == 0 or not failed or failed[-1] == 0):
+    is_told = fault.words == PACK or failed and failed[-1]
+    if is_planted and (status == 0 or not is_told):
         return f"the gate did not fail: status {status}: {said[-300:]}"
     if not is_planted and (status or fault.words == PROVE and "gate: 0 proved, " not in said):
         return f"without the fault the gate did not pass from the store: status {status}: {said[-300:]}"

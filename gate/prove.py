@@ -215,15 +215,15 @@ def program(prover, name):
     crate = prover.crates[name]
     out, mark = os.path.join(crate.folder, "out"), prover.entry(name)
     built = os.path.join(out, archive_of(name) if crate.is_static() else name)
-    if os.path.isfile(built) and read(os.path.join(out, MARK)) == mark:
-        return 0
-    if not Chain(prover, [name]).run() or not os.path.isfile(built):
-        print(f"gate: {name} was not built", file=sys.stderr)
-        return 1
+    if not os.path.isfile(built) or read(os.path.join(out, MARK)) != mark:
+        if not Chain(prover, [name]).run() or not os.path.isfile(built):
+            print(f"gate: {name} was not built", file=sys.stderr)
+            return 1
+        write(os.path.join(out, MARK), mark)
+    # (what packs the archive is in no sum, so that is done each time)
     if crate.is_static() and subprocess.run(["bash", "tools/pack.sh"], cwd=TOP, env=ENVIRONMENT).returncode:
         print(f"gate: of the archive of {name} no library was made", file=sys.stderr)
         return 1
-    write(os.path.join(out, MARK), mark)
     return 0
 
 

@@ -23,7 +23,8 @@ ar rcsD libreqs.a reqs.o
 ${CC:-cc} -shared -nostartfiles -o libreqs.so.2 -Wl,-soname,libreqs.so.2 -Wl,-z,defs -Wl,-z,now -Wl,-z,relro -Wl,-z,noexecstack \
     -Wl,--gc-sections -Wl,--build-id=none -Wl,--whole-archive libreqs.a -Wl,--no-whole-archive
 strip --strip-unneeded libreqs.so.2
+# (what is the same stays, so that it can be packed again while others use it)
 for it in libreqs.a libreqs.so.2; do
-    mv -f "$it" "$out/$it"
+    cmp -s "$it" "$out/$it" || mv -f "$it" "$out/$it"
 done
-ln -f "$out/libreqs.so.2" "$out/libreqs.so"
+[ "$out/libreqs.so" -ef "$out/libreqs.so.2" ] || ln -f "$out/libreqs.so.2" "$out/libreqs.so"
