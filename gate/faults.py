@@ -21,7 +21,7 @@ import keys
 from crates import TOP, Crates
 from store import Store, default_folder
 
-CLOSING = re.compile(r"^\d+ passed, (\d+) failed$", re.M)
+CLOSING = re.compile(r"^(?:[a-z]+: )?\d+ passed, (\d+) failed$", re.M)
 
 
 class Fault:
@@ -48,8 +48,9 @@ class Fault:
 PROVE, WRONG, HELD, NAMES = ["gate/prove.py"], ["gate/wrong.py"], ["gate/held.py"], ["gate/names.py"]
 LENT, CONSTANTS, FITS = ["gate/lent.py"], ["gate/constants.py"], [*WRONG, "--texts"]
 PACK = [*PROVE, "--program", "reqs_c"]
-# The parts that read texts alone, and leave nothing in the tree.
-TEXTS = (HELD, NAMES, LENT, CONSTANTS, FITS)
+DOCUMENTED = ["tests/documented.py", os.path.join(TOP, "crates", "reqs_cli", "out", "reqs_cli")]
+# The parts that prove nothing, and leave nothing in the tree.
+TEXTS = (HELD, NAMES, LENT, CONSTANTS, FITS, DOCUMENTED)
 PYTHON_TESTS = "python/tests/test_specifiers.py"
 SPECIFIERS = "crates/reqs_versions/specs/Specifiers.antt"
 LOW = "crates/underline"
@@ -91,6 +92,10 @@ FAULTS = [
           "Rattle.reqs_versions.specs.Versions.{version_in}", "Rattle.pep508_environment.specs.EnvironmentValues.{version_in}"),
     Fault("a contract without one of its clauses", None, HELD, "crates/pep440_version/src/version.rt",
           "        ensures grown { result ≡ Err errors.Memory → version_reading text.now ≢ Err NoLeadingNumber }\n", ""),
+    Fault("a claim of README.md that says more", None, HELD, "README.md",
+          "Every function is proved safe (", "Every function and the toolchain are proved safe ("),
+    Fault("another first answer in README.md", None, DOCUMENTED, "README.md", "    numpy none\n", "    numpy 2.0\n"),
+    Fault("another answer in a document", None, DOCUMENTED, "docs/LISTS.md", "    numpy 2,7\n", "    numpy 2\n"),
     Fault("a test that is none", None, NAMES, "crates/pep508_url_tests/src/urls.rt",
           "#[test]\nfn keeps_variables(", "fn keeps_variables("),
     Fault("a file of tests that is deleted", None, NAMES, PYTHON_TESTS, "", None),

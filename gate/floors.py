@@ -14,6 +14,7 @@ import tempfile
 from crates import TOP
 
 sys.path.insert(0, os.path.join(TOP, "tests"))
+import documented
 import objects
 import refused
 
@@ -53,6 +54,7 @@ def counts(programs):
     stored = json.loads(read("tests", "runs.json"))
     yield "runs", sum(len(stored[it]) for it in ("runs", "worked", "matrix", "lists"))
     yield "objects", objects.count()
+    yield "documented", documented.count()
     with tempfile.TemporaryDirectory(prefix="floors-") as room:
         yield "commands", len(list(refused.commands(room)))
 

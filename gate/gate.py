@@ -33,7 +33,7 @@ LEFT_OUT = re.compile(r"^(?:[a-z]+\.sh: left out|not tried): (.*)", re.M)
 NOTHING, RELEASE = "--from-nothing", "--release"
 QUESTIONS = ("pep440_vectors", "pep508_vectors", "pep508_marker_vectors")
 # What of tests/ the parts read that run programs.
-OF_REQS = ("alike.py", "cli.sh", "drawn.py", "help.txt", "install.sh", "lists", "objects.py", "pages", "pairs.py", "refuse.c", "refused.py",
+OF_REQS = ("alike.py", "cli.sh", "documented.py", "drawn.py", "help.txt", "install.sh", "lists", "objects.py", "pages", "pairs.py", "refuse.c", "refused.py",
            "refused.sh", "runs.json", "runs.py", "try.sh")
 
 OF_C = ("c", "c.py", "c.sh", "refuse.c", "runs.json")
@@ -57,7 +57,7 @@ class Part:
 def parts(more):
     """The parts that are run one after another, and those that are then run side by side."""
     python = [sys.executable]
-    of_reqs = ("docs/JSON.md", "examples", "reqs", "build", "install", "share", "try", *(f"tests/{it}" for it in OF_REQS))
+    of_reqs = ("examples", "reqs", "build", "install", "share", "try", *(f"tests/{it}" for it in OF_REQS))
     of_c = ("build", "docs/C.md", "gate/prove.py", "include", "tools")
     licences = ("LICENSE-APACHE", "LICENSE-BSD")
     of_pack = (*licences, "build", "examples", "gate/prove.py", "include", "pack", "tools")
@@ -75,7 +75,7 @@ def parts(more):
         Part("lent calls", [*python, "gate/lent.py"]),
         Part("proofs and wrong edits", [*python, "gate/together.py", *more], closings=2),
     ], [
-        Part("command line", ["bash", "tests/cli.sh"], ["reqs_cli"], of_reqs),
+        Part("command line", ["bash", "tests/cli.sh"], ["reqs_cli"], [*of_reqs, "README.md", "docs"]),
         Part("answers compared", [*python, "tests/alike.py", "1000"], ["reqs_cli"], of_reqs),
         Part("lists compared", [*python, "tests/pairs.py", "500"], ["reqs_cli"], of_reqs),
         Part("a first answer", ["bash", "tests/try.sh"], ["reqs_cli"], of_reqs),

@@ -758,7 +758,7 @@ wants "a limit of no cases, for conflicts" 2 "" "reqs: R: more than 0 cases for 
 run check --frobnicate R E C
 wants "an unknown option" 2 "" SOMETHING
 
-# The stored runs, and the same runs asked for objects.
+# The stored runs, the same runs asked for objects, and the command lines of the documents.
 stored() {
     python3 "$top/tests/$1.py" "$program" >runs.out
     grep -v "^$1: " runs.out
@@ -777,6 +777,7 @@ stored() {
 if command -v python3 >/dev/null; then
     stored runs
     stored objects
+    stored documented
 else
     failed=$((failed + 1))
     echo "FAILED: python3 is not on the PATH, and the stored runs need it"

@@ -6,8 +6,8 @@
 Each run is asked by `--format json`, where runs.py asks for a text: its status is the same,
 what it writes is one line that is one compact JSON object with its keys in order, and the text that this object tells is that of
 the run. An answer is on standard output and a fault on standard error, and nothing is on the other. By `--format text` it is
-asked too, and then it writes the text. The examples of docs/JSON.md are run as well. A line is printed for each that differs;
-the last line is `objects: N passed, M failed`. tests/least.txt says how many there are at least.
+asked too, and then it writes the text. A line is printed for each that differs; the last line is
+`objects: N passed, M failed`. tests/least.txt says how many there are at least.
 """
 
 import json
@@ -18,7 +18,6 @@ import sys
 
 import runs
 
-TOP = os.path.dirname(os.path.dirname(os.path.abspath(__file__)))
 EVERYWHERE = "all environments"
 
 # The kinds of faults by what is said of them, and where a place of bytes stands in it.
@@ -141,34 +140,13 @@ def faults_of(command, wanted, got):
     return [] if told == wished else [f"it tells {told!r}, not {wished!r}"]
 
 
-def examples():
-    """The examples of docs/JSON.md: a command line, and what it writes."""
-    with open(os.path.join(TOP, "docs", "JSON.md"), encoding="utf-8") as file:
-        lines = file.read().splitlines()
-    for at, line in enumerate(lines):
-        if line.startswith("    $ "):
-            written = []
-            for below in lines[at + 1:]:
-                if not below.startswith("    ") or below.startswith("    $ "):
-                    break
-                written.append(below.removeprefix("    ") + "\n")
-            yield line.removeprefix("    $ "), "".join(written)
-
-
-def differs(program, command, written):
-    """How an example ends otherwise than it says."""
-    how = {"capture_output": True, "timeout": 60, "text": True, "cwd": TOP, "stdin": subprocess.DEVNULL}
-    done = subprocess.run(["bash", "-c", command.replace("./reqs ", f"{program} ")], **how)
-    return [] if done.stdout + done.stderr == written else [f"it writes {done.stdout + done.stderr!r}"]
-
-
 def count():
-    """How many runs and examples there are."""
-    return sum(1 for _ in runs.runs_of(runs.stored_runs())) + sum(1 for _ in examples())
+    """How many runs there are."""
+    return sum(1 for _ in runs.runs_of(runs.stored_runs()))
 
 
 def tried(program):
-    """What each run and each example is, and what is wrong with it."""
+    """What each run is, and what is wrong with it."""
     for turn, (name, words, texts, wanted) in enumerate(runs.runs_of(runs.stored_runs())):
         try:
             found = faults_of(words[0], wanted, runs.ended(program, with_format(words, "json", turn), texts))
@@ -176,8 +154,6 @@ def tried(program):
             found = [str(error)]
         found += runs.differences(program, with_format(words, "text", turn), texts, wanted)
         yield f"object of {name}", found
-    for command, written in examples():
-        yield f"example of docs/JSON.md: {command}", differs(program, command, written)
 
 
 if __name__ == "__main__":

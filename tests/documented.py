@@ -1,0 +1,64 @@
+#!/usr/bin/env python3
+"""Runs the command lines of the documents, and compares what they write with what stands there.
+
+    documented.py PROGRAM
+
+A command line stands behind `    $ ` in README.md or in a page of docs/ or examples/, and what it writes in the indented lines
+below. PROGRAM is run in place of `./reqs` and `./try`. A line is printed for each that differs; the last line is
+`documented: N passed, M failed`. tests/least.txt says how many there are at least. The lines of docs/C.md are run by c.py,
+the Python sessions by python/tests/test_documents.py.
+"""
+
+import re
+import shlex
+import subprocess
+import sys
+from pathlib import Path
+
+import runs
+
+TOP = Path(__file__).resolve().parents[1]
+PAGES = ("README.md", "docs/*.md", "examples/*.md", "examples/*/*.md")
+OTHERS = {TOP / "docs" / "C.md"}
+# These change what is installed on the machine: python.sh and deb.sh install the packages into rooms of their own.
+INSTALLS = {
+    "pip install out/packages/fowlyore-*.whl && python -m fowlyore check requirements.txt",
+    "sudo apt install ./out/packages/reqs_0.1.0_amd64.deb && reqs conflicts requirements.txt",
+}
+
+
+def examples():
+    """The command lines: the page, the line and what it writes."""
+    for page in sorted({it for of in PAGES for it in TOP.glob(of)} - OTHERS):
+        lines = page.read_text(encoding="utf-8").splitlines()
+        for at, line in enumerate(lines):
+            if line.startswith("    $ ") and line[6:] not in INSTALLS:
+                written = []
+                for below in lines[at + 1 :]:
+                    if not below.startswith("    ") or below.startswith("    $ "):
+                        break
+                    written.append(below[4:] + "\n")
+                yield page.relative_to(TOP), line[6:], "".join(written)
+
+
+def differs(program, command, written):
+    """How an example ends otherwise than it says."""
+    how = {"capture_output": True, "timeout": 60, "text": True, "cwd": TOP, "stdin": subprocess.DEVNULL}
+    line = re.sub(r"\./(?:reqs|try) ", lambda _: f"{shlex.quote(program)} ", command)
+    done = subprocess.run(["bash", "-c", line], **how)
+    return [] if done.stdout + done.stderr == written else [f"it writes {done.stdout + done.stderr!r}"]
+
+
+def count():
+    """How many command lines there are."""
+    return sum(1 for _ in examples())
+
+
+def tried(program):
+    """What each command line is, and what is wrong with it."""
+    for page, command, written in examples():
+        yield f"{page}: {command}", differs(program, command, written)
+
+
+if __name__ == "__main__":
+    sys.exit(runs.command(__doc__, "documented", tried))
