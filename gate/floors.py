@@ -17,6 +17,7 @@ sys.path.insert(0, os.path.join(TOP, "tests"))
 import documented
 import objects
 import refused
+import sizes
 
 def read(*path):
     with open(os.path.join(TOP, *path), encoding="utf-8") as file:
@@ -55,6 +56,7 @@ def counts(programs):
     yield "runs", sum(len(stored[it]) for it in ("runs", "worked", "matrix", "lists"))
     yield "objects", objects.count()
     yield "documented", documented.count()
+    yield "sizes", sizes.count()
     with tempfile.TemporaryDirectory(prefix="floors-") as room:
         yield "commands", len(list(refused.commands(room)))
 

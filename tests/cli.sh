@@ -758,7 +758,7 @@ wants "a limit of no cases, for conflicts" 2 "" "reqs: R: more than 0 cases for 
 run check --frobnicate R E C
 wants "an unknown option" 2 "" SOMETHING
 
-# The stored runs, the same runs asked for objects, and the command lines of the documents.
+# The stored runs, the same runs asked for objects, the command lines of the documents, and inputs of each size.
 stored() {
     python3 "$top/tests/$1.py" "$program" >runs.out
     grep -v "^$1: " runs.out
@@ -778,6 +778,7 @@ if command -v python3 >/dev/null; then
     stored runs
     stored objects
     stored documented
+    stored sizes
 else
     failed=$((failed + 1))
     echo "FAILED: python3 is not on the PATH, and the stored runs need it"
