@@ -1,4 +1,5 @@
--- What is answered with the normal text of a marker that is made of another one (PEP 508, "Environment Markers").
+-- What is answered with the normal text of a marker that is made of another one (PEP 508, "Environment
+-- Markers").
 use Rattle.std.specs.Prelude.{◌≡◌, not, ℕ, List}
 use Rattle.pep508_diagram.specs.Question.{Valuation}
 use Rattle.reqs_reply.specs.Endings.{Ending}

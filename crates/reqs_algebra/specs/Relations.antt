@@ -1,4 +1,5 @@
--- What is answered on the meaning of markers (PEP 508, "Environment Markers"): of one alone, and of two together.
+-- What is answered on the meaning of markers (PEP 508, "Environment Markers"): of one alone, and of two
+-- together.
 use Rattle.std.specs.Prelude.{◌≡◌, ◌⊎◌, ◌&&◌, ℕ, Bool, true, false, List, codes}
 use Rattle.pep508_diagram.specs.Question.{Valuation}
 use Rattle.pep508_marker_read.specs.MarkerReading.{Marker}

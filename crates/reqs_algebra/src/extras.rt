@@ -14,12 +14,12 @@ use reqs_markers::{normal_text, read_marker};
 use reqs_reply::{Ended, Reply};
 use std::alloc::Global;
 
-/// Answers with the normal text of the marker that a text is, with the extras taken as present that are the lines of
-/// the second text; empty lines are passed over. A text that is no marker is refused first, then the first extra that
-/// is no name, and then a marker without normal text as `reqs_markers::marker` does.
+/// Answers with the normal text of the marker that a text is, with the extras taken as present that are the
+/// lines of the second text; empty lines are passed over. A text that is no marker is refused first, then the
+/// first extra that is no name, and then a marker without normal text as `reqs_markers::marker` does.
 ///
-/// Compares each extra in the marker with all that are given; takes exponentially long in the text at worst, as the
-/// normal text's length is then.
+/// Compares each extra in the marker with all that are given; takes exponentially long in the text at worst,
+/// as the normal text's length is then.
 pub fn marker_simplify_extras(alloc: Global, bytes: &[u8], extras: &[u8], out: &mut [u8]) -> Reply
     ensures { RepliesAs (SimplifiedExtrasEnds bytes.now extras.now) out.old out.new result }
 {

@@ -11,10 +11,10 @@ use reqs_markers::read_marker;
 use reqs_reply::{Ended, Reply};
 use std::alloc::{AllocError, Global};
 
-/// Answers with the key of the marker that a text is: bytes that are the same exactly where two markers hold in the
-/// same environments with the same extras (`laws::keys_are_of_meanings`), however they are written. So keys are
-/// compared, hashed and sorted in place of markers; their order means nothing more. Another text is refused where it
-/// stops being a marker.
+/// Answers with the key of the marker that a text is: bytes that are the same exactly where two markers hold
+/// in the same environments with the same extras (`laws::keys_are_of_meanings`), however they are written. So
+/// keys are compared, hashed and sorted in place of markers; their order means nothing more. Another text is
+/// refused where it stops being a marker.
 ///
 /// Linear in the text but for combining the marker's trees; then O(n log n) in the nodes of the tree.
 pub fn marker_key(alloc: Global, bytes: &[u8], out: &mut [u8]) -> Reply

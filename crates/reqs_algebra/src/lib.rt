@@ -1,5 +1,6 @@
-//! What the library for C answers on the meaning of markers (PEP 508, "Environment Markers"), over bytes: whether
-//! they always hold, exclude or imply one another, and the normal texts of markers that are made of them.
+//! What the library for C answers on the meaning of markers (PEP 508, "Environment Markers"), over bytes:
+//! whether they always hold, exclude or imply one another, and the normal texts of markers that are made of
+//! them.
 #![tactic(auto)]
 
 mod bounds;

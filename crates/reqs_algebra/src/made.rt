@@ -9,9 +9,9 @@ use reqs_markers::{normal_text, read_marker};
 use reqs_reply::{Ended, Reply};
 use std::alloc::Global;
 
-/// Answers with the normal text of the marker that holds exactly where the one doesn't that a text is. Another text is
-/// refused where it stops being a marker; a marker whose negation has no normal text is refused as `reqs_markers::marker`
-/// does.
+/// Answers with the normal text of the marker that holds exactly where the one doesn't that a text is.
+/// Another text is refused where it stops being a marker; a marker whose negation has no normal text is
+/// refused as `reqs_markers::marker` does.
 ///
 /// Takes exponentially long in the text at worst, as the normal text's length is then.
 pub fn marker_negated(alloc: Global, bytes: &[u8], out: &mut [u8]) -> Reply

@@ -15,8 +15,8 @@ use reqs_markers::read_marker;
 use reqs_reply::{Ended, Reply};
 use std::alloc::{AllocError, Global};
 
-/// Answers `1` where no environment and no extras make both markers hold that two texts are, else `0`. Another
-/// text is refused where it stops being a marker, the first one first.
+/// Answers `1` where no environment and no extras make both markers hold that two texts are, else `0`.
+/// Another text is refused where it stops being a marker, the first one first.
 ///
 /// Looks at pairs of a node of the one marker's tree and one of the other's, each at most once.
 pub fn markers_disjoint(alloc: Global, left: &[u8], right: &[u8], out: &mut [u8]) -> Reply
@@ -36,8 +36,8 @@ fn disjoint(alloc: Global, left: &[u8], right: &[u8]) -> Ended
     }
 }
 
-/// Answers `1` where the second marker holds in each environment, with whatever extras, in which the first one
-/// does, else `0`. A text that is no marker is refused where it stops being one, the first one first.
+/// Answers `1` where the second marker holds in each environment, with whatever extras, in which the first
+/// one does, else `0`. A text that is no marker is refused where it stops being one, the first one first.
 ///
 /// Costs what `markers_disjoint` does.
 pub fn marker_implies(alloc: Global, left: &[u8], right: &[u8], out: &mut [u8]) -> Reply

@@ -12,8 +12,8 @@ use reqs_markers::read_marker;
 use reqs_reply::{Ended, Reply};
 use std::alloc::Global;
 
-/// Answers `1` where the marker that a text is holds in each environment with all extras, `0` where it holds in
-/// none, and `-` else. Another text is refused where it stops being a marker.
+/// Answers `1` where the marker that a text is holds in each environment with all extras, `0` where it holds
+/// in none, and `-` else. Another text is refused where it stops being a marker.
 ///
 /// Linear in the text but for combining the marker's trees, after which the answer is at hand.
 pub fn marker_truth(alloc: Global, bytes: &[u8], out: &mut [u8]) -> Reply

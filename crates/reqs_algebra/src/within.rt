@@ -14,13 +14,13 @@ use reqs_markers::{normal_text, read_marker};
 use reqs_reply::{Ended, Reply};
 use std::alloc::Global;
 
-/// Answers with the normal text of a marker that says what the one that a text is says where `python_full_version`
-/// lies from the version that `lower` is on and below the one that `upper` is, and asks of it no more than that takes;
-/// an empty bound is none. A text that is no marker is refused first, then a bound that is no version, and then a
-/// marker without normal text as `reqs_markers::marker` does.
+/// Answers with the normal text of a marker that says what the one that a text is says where
+/// `python_full_version` lies from the version that `lower` is on and below the one that `upper` is, and asks
+/// of it no more than that takes; an empty bound is none. A text that is no marker is refused first, then a
+/// bound that is no version, and then a marker without normal text as `reqs_markers::marker` does.
 ///
-/// Compares each boundary of a version of Python with both bounds; takes exponentially long in the text at worst,
-/// as the normal text's length is then.
+/// Compares each boundary of a version of Python with both bounds; takes exponentially long in the text at
+/// worst, as the normal text's length is then.
 pub fn marker_simplify_python(
     alloc: Global,
     bytes: &[u8],

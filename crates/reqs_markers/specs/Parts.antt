@@ -54,8 +54,8 @@ pub record EndsWith (text inside : List ℕ) (start len : ℕ) : Type 0 where
   pub starts : start ≡ length before
   pub counts : len ≡ length (encode_utf8_all inside)
 
--- where a marker stands in the text, by the characters that are left after the front and white space: all that
--- follows the first of them, the `;`
+-- where a marker stands in the text, by the characters that are left after the front and white space: all
+-- that follows the first of them, the `;`
 abbrev pub IsMarkerPlace : List ℕ → List ℕ → Option (ℕ × ℕ) → Type 0
 IsMarkerPlace text [] None = Unit {0}
 IsMarkerPlace text [] (Some place) = ⊥

@@ -23,10 +23,10 @@ use reqs_reply::{Ended, Reply, text_of};
 use std::alloc::{AllocError, Global};
 use std::str;
 
-/// Answers with the normal text of the marker that a text is (PEP 508, "Environment Markers"): markers that hold
-/// alike have it in common, and it is read as a marker that holds alike; it is empty where the marker always
-/// holds. A text that is no marker is refused where it stops being one, and a marker that has no such text for
-/// the first cause of `TextFault`, in the order of its variants.
+/// Answers with the normal text of the marker that a text is (PEP 508, "Environment Markers"): markers that
+/// hold alike have it in common, and it is read as a marker that holds alike; it is empty where the marker
+/// always holds. A text that is no marker is refused where it stops being one, and a marker that has no such
+/// text for the first cause of `TextFault`, in the order of its variants.
 ///
 /// Takes exponentially long in the text at worst, as its length is then.
 pub fn marker(alloc: Global, bytes: &[u8], out: &mut [u8]) -> Reply

@@ -32,8 +32,8 @@ pub fn no_variables(alloc: Global) -> Result<Vars, AllocError>
 
 /// Answers with the parts of the requirement that a text is (PEP 508, "Grammar"): its name, its extras and
 /// its specifiers with commas between them, and its URL as it is written, each on a line, and then where its
-/// marker stands in the text: the first byte and the number of bytes, which are all that follow the `;`. Another
-/// text is refused where it stops being a requirement.
+/// marker stands in the text: the first byte and the number of bytes, which are all that follow the `;`.
+/// Another text is refused where it stops being a requirement.
 ///
 /// Linear in the text, but for bringing specifiers in order and for combining the marker's trees.
 pub fn requirement(alloc: Global, bytes: &[u8], out: &mut [u8]) -> Reply
@@ -66,7 +66,8 @@ fn marker_place(
     vars: &Vars,
     text: &str,
 ) -> Result<Option<(usize, usize)>, AllocError>
-    ensures { IfOk result (λ place. (front : Front) (rest : List ℕ) → front_reading text.now ≡ Ok (front, rest) →
+    ensures { IfOk result (λ place. (front : Front) (rest : List ℕ) →
+        front_reading text.now ≡ Ok (front, rest) →
         IsMarkerPlace text.now (skip_leading_whitespace rest) place) }
 {
     match read_front(alloc, Cursor::new(text), vars) {
@@ -91,7 +92,8 @@ fn parts_text(
     text: &str,
     requirement: &Requirement<VerbatimUrl>,
 ) -> Result<String, AllocError>
-    ensures { IfOk result (λ parts. (front : Front) (rest : List ℕ) → front_reading text.now ≡ Ok (front, rest) →
+    ensures { IfOk result (λ parts. (front : Front) (rest : List ℕ) →
+        front_reading text.now ≡ Ok (front, rest) →
         HasParts text.now (skip_leading_whitespace rest) requirement.now (string_bytes parts)) }
 {
     let place = marker_place(alloc, vars, text)?;

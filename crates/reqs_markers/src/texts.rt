@@ -43,8 +43,8 @@ impl TextFault {
     }
 }
 
-/// How a call ends that gives the normal text of a tree, which is empty where that always holds, or says of the
-/// first argument why there is none.
+/// How a call ends that gives the normal text of a tree, which is empty where that always holds, or says of
+/// the first argument why there is none.
 ///
 /// Looks at each node of the tree once. The text may be exponentially longer than the tree, and is only made
 /// where it is given.
