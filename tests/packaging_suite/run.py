@@ -13,6 +13,7 @@ import collections
 import glob
 import json
 import os
+import pathlib
 import re
 import subprocess
 import sys
@@ -43,6 +44,10 @@ def fetch(folder):
     subprocess.run([*apt, "source", "--download-only", "--tar-only", SOURCE], check=True, cwd=debs)
     for it in glob.glob(os.path.join(debs, "*.deb")):
         subprocess.run(["dpkg-deb", "-x", it, os.path.join(folder, "pytest")], check=True)
+    # (`rt` takes no tree in which something is a link, and nothing of these is needed)
+    for it in pathlib.Path(folder).rglob("*"):
+        if it.is_symlink():
+            it.unlink()
     with tarfile.open(os.path.join(debs, ARCHIVE)) as archive:
         archive.extractall(os.path.join(folder, "source"))
 
