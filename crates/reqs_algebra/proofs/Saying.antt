@@ -5,9 +5,9 @@ use Rattle.pep508_tree.specs.Tree.{Tree}
 use Rattle.pep508_tree.specs.Meaning.{NodeRecord, holds}
 use Rattle.reqs_reply.specs.declared.place.Place.{Place}
 use Rattle.reqs_reply.specs.Endings.{Ending, Answered, Different, Refused, OutOfMemory, EndsIn}
+use Rattle.reqs_reply.specs.Endings.{NoRefusal, yes_or_no}
 use Rattle.reqs_markers.specs.Markers.{marker_holds, IsMarkerTree, RefusesMarker}
 use Rattle.reqs_algebra.specs.Relations.{Values, SaysOf, IsYesOrNo, SaysOfTwo, EndsOnTwo, RefusesEither}
-use Rattle.reqs_algebra.specs.Said.{NoRefusal, yes_or_no}
 
 -- ---- endings
 

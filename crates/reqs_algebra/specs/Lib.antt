@@ -1,5 +1,4 @@
 pub mod Relations
-pub mod Said
 pub mod Keys
 pub mod Made
 pub mod Arguments

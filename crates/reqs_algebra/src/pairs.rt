@@ -2,10 +2,10 @@
 
 ghost use Rattle.std.specs.Prelude.{◌≡◌, ◌↔◌, IsTrue, IfOk, IfErr, MatchResult};
 ghost use Rattle.pep508_tree.specs.Meaning.{IsTree, holds};
-ghost use Rattle.reqs_reply.specs.Endings.{EndsIn, NoAnswer, OutOfMemory, RepliesAs, ending_of};
+ghost use Rattle.reqs_reply.specs.Endings.{EndsIn, NoAnswer, NoRefusal, OutOfMemory, RepliesAs};
+ghost use Rattle.reqs_reply.specs.Endings.{ending_of, yes_or_no};
 ghost use Rattle.reqs_markers.specs.Markers.{IsMarkerTree};
 ghost use Rattle.reqs_algebra.specs.Relations.{DisjointEnds, Implies, ImpliesEnds, RefusesEither};
-ghost use Rattle.reqs_algebra.specs.Said.{NoRefusal, yes_or_no};
 
 use crate::truths::said;
 use pep508_disjointness::MarkerTreeDisjointness;

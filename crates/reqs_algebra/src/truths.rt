@@ -2,9 +2,8 @@
 
 ghost use Rattle.std.specs.Prelude.{◌≡◌};
 ghost use Rattle.pep508_tree.specs.Meaning.{IsTree, holds};
-ghost use Rattle.reqs_reply.specs.Endings.{EndsIn, RepliesAs, ending_of};
+ghost use Rattle.reqs_reply.specs.Endings.{EndsIn, NoRefusal, RepliesAs, ending_of};
 ghost use Rattle.reqs_algebra.specs.Relations.{IsTruthOf, TruthEnds};
-ghost use Rattle.reqs_algebra.specs.Said.{NoRefusal};
 
 use pep508_tree::{Interner, MarkerTree};
 use pep508_tree_laws::constants_are_named;

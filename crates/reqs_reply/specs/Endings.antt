@@ -1,5 +1,5 @@
 -- How a call from C ends: its reply, and what it writes.
-use Rattle.std.specs.Prelude.{◌≡◌, ℕ, false, List, [], ◌++◌, codes, length, take, drop}
+use Rattle.std.specs.Prelude.{◌≡◌, ℕ, Bool, false, if◌then◌else◌, List, [], ◌++◌, codes, length, take, drop}
 use Rattle.std.specs.Fmt.{decimal}
 use Rattle.std.specs.Str.{is_utf8}
 use Rattle.std.specs.Str.Lossy.{utf8_valid_len}
@@ -32,6 +32,14 @@ EndsIn Answers Refuses OutOfMemory = Unit {0}
 -- no answer
 abbrev pub NoAnswer : List ℕ → Type 0
 NoAnswer text = ⊥
+
+-- no refusal
+abbrev pub NoRefusal : Place → List ℕ → Type 0
+NoRefusal place message = ⊥
+
+-- the answer to a question
+abbrev pub yes_or_no : Bool → List ℕ
+yes_or_no answer = if answer then codes "1" else codes "0"
 
 -- ---- places
 

@@ -12,7 +12,8 @@ use Rattle.pep440_version.specs.OrderLaws.{version_cmp_total}
 use Rattle.pep440_range.specs.Ranges.{PointTest}
 use Rattle.reqs_reply.specs.declared.place.Place.{Place}
 use Rattle.reqs_reply.specs.Endings.{Ending, Answered, Different, Refused, OutOfMemory, EndsIn}
-use Rattle.reqs_versions.specs.Ranges.{Says, yes_or_no, NoRefusal, AreDisjoint, Meet, IsSubset, GoesBeyond}
+use Rattle.reqs_reply.specs.Endings.{NoRefusal, yes_or_no}
+use Rattle.reqs_versions.specs.Ranges.{Says, AreDisjoint, Meet, IsSubset, GoesBeyond}
 use Rattle.reqs_versions.specs.Ranges.{IsEmpty, HoldsSome}
 
 -- ---- marks

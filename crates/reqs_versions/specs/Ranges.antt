@@ -1,6 +1,6 @@
 -- What is answered on lists of specifiers as ranges (PEP 440, "Version specifiers"): on the points that they
 -- hold.
-use Rattle.std.specs.Prelude.{◌≡◌, ◌⊎◌, ℕ, Bool, true, false, if◌then◌else◌, List, codes, map, IsTrue}
+use Rattle.std.specs.Prelude.{◌≡◌, ◌⊎◌, ℕ, true, false, List, codes, map, IsTrue}
 use Rattle.std.specs.Option.{is_some}
 use Rattle.std.specs.List.{list_all}
 use Rattle.version_ranges.specs.Point.{Point}
@@ -69,14 +69,6 @@ abbrev pub HoldsSome : PointTest → Type 0
 HoldsSome range = (p : Point VersionRecord) × IsTrue (range p)
 
 -- ---- what is answered
-
--- `1` or `0`
-abbrev pub yes_or_no : Bool → List ℕ
-yes_or_no answer = if answer then codes "1" else codes "0"
-
--- no refusal
-abbrev pub NoRefusal : Place → List ℕ → Type 0
-NoRefusal place message = ⊥
 
 -- `1` where the first holds, `0` where the second does
 abbrev pub Says : Type 0 → Type 0 → List ℕ → Type 0

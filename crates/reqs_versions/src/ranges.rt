@@ -4,10 +4,9 @@ ghost use Rattle.std.specs.Prelude.{◌≡◌, IfOk, IfErr, MatchBool};
 ghost use Rattle.std.specs.Result.{IsOkAnd};
 ghost use Rattle.version_ranges.specs.Held.{holds_at};
 ghost use Rattle.pep440_version.specs.Order.{version_cmp};
-ghost use Rattle.reqs_reply.specs.Endings.{EndsIn, NoAnswer, RepliesAs, ending_of};
+ghost use Rattle.reqs_reply.specs.Endings.{EndsIn, NoAnswer, NoRefusal, RepliesAs, ending_of, yes_or_no};
 ghost use Rattle.reqs_versions.specs.Ranges.{IsRangeIn, RefusesRange, RefusesRanges};
 ghost use Rattle.reqs_versions.specs.Ranges.{AreDisjoint, Meet, IsSubset, GoesBeyond, IsEmpty, HoldsSome};
-ghost use Rattle.reqs_versions.specs.Ranges.{yes_or_no, NoRefusal};
 ghost use Rattle.reqs_versions.specs.Ranges.{RangesDisjointEnds, SubsetEnds, EmptyEnds};
 
 use crate::lists::read_list;
@@ -48,8 +47,8 @@ fn read_ranges(
     Ok((left, right))
 }
 
-/// Answers whether no point lies in the ranges of both lists, `1` or `0`. A text that is no list is refused, and
-/// so is a list that has no range.
+/// Answers whether no point lies in the ranges of both lists, `1` or `0`. A text that is no list is refused,
+/// and so is a list that has no range.
 ///
 /// Linear in the texts; n specifiers take O(n log n) comparisons of versions.
 pub fn specifiers_disjoint(alloc: Global, left: &[u8], right: &[u8], out: &mut [u8]) -> Reply
@@ -118,8 +117,8 @@ fn is_subset(
     Ok(is_empty(&both))
 }
 
-/// Answers whether no point lies in the range of a list, `1` or `0`. A text that is no list is refused, and so
-/// is a list that has no range.
+/// Answers whether no point lies in the range of a list, `1` or `0`. A text that is no list is refused, and
+/// so is a list that has no range.
 ///
 /// Linear in the text; n specifiers take O(n log n) comparisons of versions.
 pub fn specifiers_empty(alloc: Global, bytes: &[u8], out: &mut [u8]) -> Reply
