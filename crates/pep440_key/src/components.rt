@@ -105,8 +105,8 @@ pub(crate) fn push_absent_last(key: &mut Vec<u8>, number: Option<u64>) -> Result
     }
 }
 
-/// Adds the bytes of a text at the end, one for each byte below 252 and three for others, and a 0, which ends them: they
-/// stand in the order of texts, and no other text's begin with them.
+/// Adds the bytes of a text at the end, one for each byte below 252 and three for others, and a 0, which ends
+/// them: they stand in the order of texts, and no other text's begin with them.
 pub fn push_text(key: &mut Vec<u8>, bytes: &[u8]) -> Result<(), AllocError>
     ensures { OnOk result (key.new.items ≡ key.old.items ++ component_bytes bytes.now) }
 {

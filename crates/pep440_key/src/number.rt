@@ -14,7 +14,8 @@ const FOUR_FOLLOW: u8 = 254;
 
 const EIGHT_FOLLOW: u8 = 255;
 
-/// Adds the bytes of a number at the end, 1 to 9 of them, which no other number's begin with. They rise with the number.
+/// Adds the bytes of a number at the end, 1 to 9 of them, which no other number's begin with. They rise with
+/// the number.
 #[tactic(auto, unfolding(crate::specs::Key::number_bytes))]
 pub fn push_number(key: &mut Vec<u8>, number: u64) -> Result<(), AllocError>
     ensures { OnOk result (key.new.items ≡ key.old.items ++ number_bytes number) }

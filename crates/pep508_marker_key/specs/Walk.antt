@@ -1,5 +1,5 @@
--- A diagram as bytes, with what stands in it several times written once. Diagrams are numbered as they have been
--- written, from 0 on; one that stands again is written as its number. Questions of one variable that follow
+-- A diagram as bytes, with what stands in it several times written once. Diagrams are numbered as they have
+-- been written, from 0 on; one that stands again is written as its number. Questions of one variable that follow
 -- one another are written as one thing, of which the whole alone is numbered.
 use Rattle.std.specs.Prelude.{ℕ, ◌+◌, ◌&&◌, Bool, true, false, cond, List, [], ◌∷◌, ◌++◌, Option, Some}
 use Rattle.std.specs.Prelude.{None}

@@ -26,9 +26,9 @@ impl<F: Read + Drop, I: Read + Drop> Read for Source<F, I> {
     }
 }
 
-/// Opens a file for reading, under none of the descriptors of the standard streams. A file gets the lowest descriptor
-/// that is free: where the program was started without a standard stream, that stream's own. It is moved then, so that
-/// the stream stays closed, and reading or writing it fails.
+/// Opens a file for reading, under none of the descriptors of the standard streams. A file gets the lowest
+/// descriptor that is free: where the program was started without a standard stream, that stream's own. It is
+/// moved then, so that the stream stays closed, and reading or writing it fails.
 pub fn open_file<R: Files>(rt: &R, path: &str) -> io::Result<R::File>
 where
     R::File: AsRawFd,
