@@ -15,6 +15,7 @@ Parts that run programs are run side by side.
 
 import os
 import re
+import resource
 import shutil
 import subprocess
 import sys
@@ -23,8 +24,9 @@ from concurrent.futures import ThreadPoolExecutor
 
 import accept
 import keys
+import verdicts
 from crates import TOP, Crates, toolchain_sum
-from faults import FAULTS
+from faults import OF_PROOFS, OF_TEXTS, groups_of
 from store import Store
 
 CLOSING = re.compile(r"^(?:[a-z]+: )?(\d+) passed, (\d+) failed$", re.M)
@@ -51,13 +53,15 @@ class Part:
         if not self.rests_on:
             return None
         programs = [keys.of_proof(crates, it) for it in self.programs]
-        return f"{keys.summed((self.name, toolchain_sum(), programs, keys.of_part(self.words, self.rests_on)))}.part"
+        return f"{keys.summed((self.name, toolchain_sum(), programs, verdicts.of_part(self.words, self.rests_on)))}.part"
 
 
 def parts(more):
     """The parts that are run one after another, and those that are then run side by side."""
     python = [sys.executable]
     of_reqs = ("examples", "reqs", "build", "install", "share", "try", *(f"tests/{it}" for it in OF_REQS))
+    # (that its answers are right the command line says)
+    of_try = ("build", "crates.txt", "crates/reqs_cli/src", "examples/spelling", "tests/help.txt", "tests/try.sh", "try")
     of_c = ("build", "docs/C.md", "gate/prove.py", "include", "tools")
     licences = ("LICENSE-APACHE", "LICENSE-BSD")
     of_pack = (*licences, "build", "examples", "gate/prove.py", "include", "pack", "tools")
@@ -78,7 +82,7 @@ def parts(more):
         Part("command line", ["bash", "tests/cli.sh"], ["reqs_cli"], [*of_reqs, "README.md", "docs"]),
         Part("answers compared", [*python, "tests/alike.py", "1000"], ["reqs_cli"], of_reqs),
         Part("lists compared", [*python, "tests/pairs.py", "500"], ["reqs_cli"], of_reqs),
-        Part("a first answer", ["bash", "tests/try.sh"], ["reqs_cli"], of_reqs),
+        Part("a first answer", ["bash", "tests/try.sh"], [], of_try),
         Part("installing", ["bash", "tests/install.sh"], ["reqs_cli"], of_reqs),
         Part("refused memory", ["bash", "tests/refused.sh"], ["reqs_cli", *QUESTIONS], [*of_reqs, *asked]),
         Part("library for C", ["bash", "tests/c.sh"], ["reqs_c"], [*of_c, "examples", *(f"tests/{it}" for it in OF_C)]),
@@ -86,8 +90,14 @@ def parts(more):
         Part("lists in pieces", [*python, "tests/index.py"], ["reqs_c", "reqs_cli"], of_index),
         Part("Debian package", ["bash", "tests/deb.sh"], ["reqs_c", "reqs_cli"], of_deb),
         Part("Rust crate", ["bash", "tests/rust.sh"], ["reqs_c"], [*of_c, *licences, "rust", "tests/rust.sh", "tests/rust"]),
-        Part("faults", [*python, "gate/faults.py"], ["underline"], ["gate", *sorted({it.path for it in FAULTS})]),
+        Part("faults in texts", [*python, "gate/faults.py", OF_TEXTS], ["reqs_cli"], of_faults(OF_TEXTS)),
+        Part("faults in proofs", [*python, "gate/faults.py", OF_PROOFS], ["underline"], of_faults(OF_PROOFS)),
     ]
+
+
+def of_faults(kind):
+    """What the verdict rests on that the gate fails at each fault of a kind."""
+    return ["gate", *sorted({it.path for group in groups_of(kind) for it in group})]
 
 
 def run(part, show):
@@ -142,12 +152,12 @@ def are_built(programs):
 
 
 def gate(more, demands_all):
-    store, crates = Store(reads=not more), Crates()
+    began, store, crates = time.monotonic(), Store(reads=not more), Crates()
     alone, together = parts(more)
     verdicts = [judged(it, crates, store, lambda text: print(text, end="", flush=True)) for it in alone]
     if are_built(["reqs_cli", "reqs_c", *QUESTIONS]):
         # (found once, before all ask for it)
-        keys.versions()
+        verdicts.versions()
         with ThreadPoolExecutor() as pool:
             verdicts += pool.map(lambda part: judged_apart(part, crates, store), together)
     else:
@@ -158,6 +168,8 @@ def gate(more, demands_all):
     if left:
         print("test: left out, though a release needs all of it (./test --release):", *left, sep="\n    ")
     failed += len(left) if demands_all else 0
+    used = resource.getrusage(resource.RUSAGE_CHILDREN)
+    print(f"test: {time.monotonic() - began:.0f} s, {used.ru_utime + used.ru_stime:.0f} processor seconds")
     print(f"{passed} passed, {failed} failed")
     return 1 if failed else 0
 

@@ -1,0 +1,138 @@
+"""The everyday way to prove crates: what a check of the same crate found before is taken where it still holds.
+
+The store keeps of each crate that is proved so the folder of `rattle --incremental`, its kept work: its modules as they
+were checked. The next time something below the crate changes, and the crate's own texts don't, the prover reads the kept
+work, judges of each module whether it still holds over the crates below as they are now, and checks the others anew. A crate
+whose own texts changed has no kept work, and is proved whole.
+
+Libraries that are made so hold their proofs, not statements alone, and name no sums of those below; so each goes under the
+sum of all texts that it rests on, none is made before those below are there, and what lay in out/ is removed first. A crate
+is taken as proved from nothing only where all below it are. The prover looks at kept work only in parts, so a sum of its
+file stands beside it, and what has another is dropped.
+"""
+
+import os
+import re
+import shutil
+import tempfile
+
+import keys
+import toolchain
+from crates import kit_folder, sum_of_file
+from prover import CPU, LIBRARY, PROGRAM, SECONDS, STATIC, TESTS, Prover, archive_of
+from store import Store, remove
+
+WORK = "work"
+# The word of a verdict that rests on kept work. All other words are held to `rt`'s rules as they are.
+TRUSTED = re.compile(r" incremental=trusted\n\Z")
+CHECKED = re.compile(r"^crate (\w+): modules loaded=\d+ checked=(\d+)$", re.M)
+# What a line takes by one job where kept work is there.
+SECONDS_A_LINE = 0.03
+
+
+class Verdict:
+    """What `rt` holds the last line of a check to, with one word more allowed."""
+
+    def __init__(self, pattern):
+        self.pattern = pattern
+
+    def search(self, said):
+        return self.pattern.search(TRUSTED.sub("\n", said))
+
+
+def prover_of(is_from_nothing):
+    """The way to prove of a run from nothing, which takes nothing from the store, or of an everyday run."""
+    rt = toolchain.load()
+    return Prover(rt, Store(reads=False)) if is_from_nothing else KeptProver(rt, Store())
+
+
+class KeptProver(Prover):
+    """Proves crates through kept work where the store has none of them."""
+
+    def __init__(self, rt, store):
+        super().__init__(rt, store)
+        rt.rtlib.VERDICT = Verdict(rt.rtlib.VERDICT)
+        self.wholes, self.loaded = {}, []
+
+    def was_proved_from_nothing(self, name, tests=False):
+        """Whether the store has a crate, or its tests, and all below it from runs from nothing."""
+        key = name, tests
+        if key not in self.wholes:
+            below = all(self.was_proved_from_nothing(it) for it in self.crates[name].uses)
+            self.wholes[key] = below and self.store.has(super().entry(name, tests), self.parts(name, tests))
+        return self.wholes[key]
+
+    def entry(self, name, tests=False):
+        if self.was_proved_from_nothing(name, tests):
+            return super().entry(name, tests)
+        return f"{keys.of_everyday_proof(self.crates, name)}.{self.kind(name, tests)}"
+
+    def work_entry(self, name, tests):
+        return f"{keys.of_kept_work(self.crates, name)}.{self.kind(name, tests)}.{WORK}"
+
+    def seconds(self, name, tests, lines):
+        if self.store.has(self.work_entry(name, tests), ()):
+            return SECONDS + SECONDS_A_LINE * lines
+        return super().seconds(name, tests, lines)
+
+    def prove(self, crate, flags, tests):
+        entry = self.work_entry(crate.name, tests)
+        with tempfile.TemporaryDirectory(prefix="reqs-kept-") as room:
+            work = os.path.join(room, WORK)
+            is_there = self.take_work(entry, room)
+            os.makedirs(work, exist_ok=True)
+            status, said = self.prove_over(crate, flags, tests, work)
+            checked = [int(count) for name, count in CHECKED.findall(said) if name == crate.name]
+            if is_there and checked:
+                self.loaded.append(crate.name)
+            if status == 0 and (not is_there or any(checked)):
+                self.keep_work(entry, room)
+        return status
+
+    def take_work(self, entry, room):
+        """Unpacks kept work, and says whether it was there, whole."""
+        path = self.store.path("packed", f"{entry}.tar.gz")
+        if not os.path.isfile(path):
+            return False
+        if self.store.verdict(f"{entry}.sum") != sum_of_file(path):
+            remove(path)
+            return False
+        return self.store.take(entry, room, [WORK])
+
+    def keep_work(self, entry, room):
+        self.store.keep(entry, room, [WORK])
+        path = self.store.path("packed", f"{entry}.tar.gz")
+        if os.path.isfile(path):
+            self.store.keep_verdict(f"{entry}.sum", sum_of_file(path))
+
+    def prove_over(self, crate, flags, tests, work):
+        """Proves over kept work, and gives a status and what was said."""
+        out = crate.out
+        with tempfile.TemporaryFile("w+", errors="replace") as crate.out:
+            try:
+                status = self.build(crate, flags, tests, work)
+            finally:
+                said, crate.out = crate.out, out
+            said.seek(0)
+            text = said.read()
+        print(text, end="", file=out, flush=True)
+        return status, text
+
+    def build(self, crate, flags, tests, work):
+        kind, to = self.kind(crate.name, tests), f"out/{crate.name}"
+        words = [*crate.words(flags, tests=tests, keeps=False), "--incremental", work]
+        if kind == LIBRARY:
+            shutil.rmtree(os.path.dirname(crate.rlib), ignore_errors=True)
+            os.makedirs(os.path.dirname(crate.rlib))
+            return crate.prove(["build", *words, "-o", crate.rlib])
+        words += ["--toolchain", os.path.join(kit_folder(), "toolchain")]
+        if kind == STATIC:
+            return crate.prove(["build", *words, "--cpu", CPU, "--backend", "llvm", "-o", f"out/{archive_of(crate.name)}"])
+        to = f"{to}_tests" if kind == TESTS else to
+        status = crate.prove(["build", *words, "--backend", "llvm", "-o", f"{to}.o"])
+        if not status and os.path.getsize(os.path.join(crate.folder, f"{to}.o")):
+            status = crate.link(f"{to}.o", to)
+        return status or (crate.compile_by("rattle", words, to) if kind == PROGRAM else 0)
+
+    def told(self):
+        return f"{super().told()}, {len(self.loaded)} of those proved through kept work"
