@@ -71,6 +71,7 @@ def parts(more):
         Part("calls and least counts", [*python, "gate/asked.py"]),
         Part("constants in definitions", [*python, "gate/constants.py"]),
         Part("statements held", [*python, "gate/held.py"]),
+        Part("figures", [*python, "bench/figures.py", "--check"]),
         Part("tests by name", [*python, "gate/names.py"]),
         Part("lent calls", [*python, "gate/lent.py"]),
         Part("proofs and wrong edits", [*python, "gate/together.py", *more], closings=2),
