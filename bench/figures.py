@@ -43,7 +43,7 @@ PARAGRAPH = re.compile(r"^(?=- |\||#|[ \t]*$)", re.M)
 MEASURED = re.compile(r"""
     (?<![a-z]) (?: ns | [µμ]s | ms | [kmgt]i?b | [mg]hz | (?:milli|micro|nano)?seconds | (?<!the\ )second | minutes? | hours?
                | times (?!\ it) | \w*fold | percent (?!\ encod) | twice | thrice | instructions ) (?![a-z])
-    | \d[\d.,]* \s* (?: s | sec | us | h | days? | [x×%] | (?:\w+\s)?bytes? ) (?!\w)
+    | \d (?:[\d.,]*\d)? \s* (?: s | sec | us | h | days? | [x×%] | (?:\w+\s)?bytes? ) (?!\w)
     | \b (?: half | third | quarter | fifth | tenth | hundredth ) \s (?: of\ the | the | as ) \b""", re.I | re.X)
 SPEED = re.compile(r"\b(?:fast|slow|quick)(?:er|est)?\b", re.I)
 NUMBER = re.compile(r"\d[\d,_]*")
