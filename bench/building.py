@@ -23,7 +23,7 @@ sys.dont_write_bytecode = True
 import figures
 
 FIRST = ["./try", "check", *(f"examples/first/{it}" for it in ("requirements.txt", "environment.json", "candidates.txt"))]
-ANSWER = "foo-bar 1.19\n"
+ANSWER, BUILT = "foo-bar 1.19\n", ["./reqs", "--version"]
 VERSION = re.compile(r'const VERSION: &str = "([\d.]+)"')
 FOLDER = os.path.join(figures.TOP, "crates", "reqs_c", "out")
 LIBRARY = {"building.shared": "libreqs.so", "building.archive": "libreqs.a"}
@@ -65,7 +65,7 @@ def main():
     if words.what == "answer":
         found = {"building.answer": (seconds(FIRST, ANSWER), "s", version())}
     elif words.what == "program":
-        found = {f"building.program.{words.cores_are}": (seconds(["./build"]) / 60, "minutes", version())}
+        found = {f"building.program.{words.cores_are}": (seconds(BUILT, version()) / 60, "minutes", version())}
     else:
         found = dict(sizes())
     for name, (value, unit, of) in found.items():

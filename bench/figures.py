@@ -107,7 +107,7 @@ def put(measured):
         value = float(f"{value:.3g}")
         kept["figures"][name] = dict(zip(FIELDS, [int(value) if value.is_integer() else value, unit, of, *how]))
     save({**kept, "figures": dict(sorted(kept["figures"].items()))})
-    print(f"bench/figures.json has {len(measured)} figures of this run; `bench/figures.py --fill` writes them into the documents")
+    print(f"figures of this run in bench/figures.json: {len(measured)}; `bench/figures.py --fill` writes them into the documents")
 
 
 def fault_of_figure(name, it):
