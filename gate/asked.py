@@ -13,9 +13,10 @@ which specifiers are turned into. None is
 - what operators and `format!` call: equality, order, hashes and prints.
 
 A call is asked where its name stands as a call, `.name(`, `Owner::name` or `name(`, in a program of questions,
-in a crate of tests, in a `#[test]` function, or in one of the crates of RUN, which the stored runs run. A call `.name(` counts for a type that its file names, and for the only type with such a
-function where the file imports something of that type's crate. The functions of a trait that such a text has an
-impl of are asked, since the library calls that. Comments, texts, items for proofs and clauses don't count.
+in a crate of tests, in a `#[test]` function, or in one of the crates of RUN, which the stored runs run. A call
+`.name(` counts for a type that its file names, and for the only type with such a function where the file imports
+something of that type's crate. The functions of a trait that such a text has an impl of are asked, since the library
+calls that. Comments, texts, items for proofs and clauses don't count.
 
 A call that nothing asks fails, by its crate, file and line. UNASKED has those that need no question, each with
 the reason; one of them that is asked or is no call fails too. floors.py has the least counts. The last line is

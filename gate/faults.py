@@ -49,10 +49,10 @@ class Fault:
 OF_TEXTS, OF_PROOFS = "texts", "proofs"
 PROVE, WRONG, HELD, NAMES = ["gate/prove.py"], ["gate/wrong.py"], ["gate/held.py"], ["gate/names.py"]
 LENT, CONSTANTS, FITS = ["gate/lent.py"], ["gate/constants.py"], [*WRONG, "--texts"]
-PACK = [*PROVE, "--program", "reqs_c"]
+PACK, FIGURES = [*PROVE, "--program", "reqs_c"], ["bench/figures.py", "--check"]
 DOCUMENTED = ["tests/documented.py", os.path.join(TOP, "crates", "reqs_cli", "out", "reqs_cli")]
 # The parts that prove nothing, and leave nothing in the tree.
-TEXTS = (HELD, NAMES, LENT, CONSTANTS, FITS, DOCUMENTED)
+TEXTS = (HELD, NAMES, LENT, CONSTANTS, FITS, FIGURES, DOCUMENTED)
 PYTHON_TESTS = "python/tests/test_specifiers.py"
 SPECIFIERS = "crates/reqs_versions/specs/Specifiers.antt"
 LOW = "crates/underline"
@@ -99,6 +99,14 @@ FAULTS = [
           "        ensures grown { result ≡ Err errors.Memory → version_reading text.now ≢ Err NoLeadingNumber }\n", ""),
     Fault("a claim of README.md that says more", None, HELD, "README.md",
           "Every function is proved safe (", "Every function and the toolchain are proved safe ("),
+    Fault("another figure in README.md", None, FIGURES, "README.md", "cores (2.5 GHz) `check` takes ", "cores (2.5 GHz) `check` takes 1"),
+    Fault("a figure in README.md that nobody measured", None, FIGURES,
+          "README.md", "`./try` is the toolchain's unproved run", "`./try`, 30 times as fast as `./reqs`, is the toolchain's unproved run"),
+    Fault("a figure that README.md doesn't state", None, FIGURES, "bench/figures.json",
+          '  "sentences": [\n', '  "sentences": [\n    {"page": "README.md", "said": "it takes {building.answer} here"},\n'),
+    Fault("a figure of a command that is none", None, FIGURES, "bench/figures.json", "bench/building.py answer", "bench/answer.py"),
+    Fault("a limit in README.md that the code doesn't have", None, FIGURES, "bench/figures.json",
+          "An input has 16,777,216 bytes", "An input has 16,777,217 bytes"),
     Fault("another first answer in README.md", None, DOCUMENTED, "README.md", "    numpy none\n", "    numpy 2.0\n"),
     Fault("another answer in a document", None, DOCUMENTED, "docs/LISTS.md", "    numpy 2,7\n", "    numpy 2\n"),
     Fault("a test that is none", None, NAMES, "crates/pep508_url_tests/src/urls.rt",

@@ -35,9 +35,8 @@ LEFT_OUT = re.compile(r"^(?:[a-z]+\.sh: left out|not tried): (.*)", re.M)
 NOTHING, RELEASE = "--from-nothing", "--release"
 QUESTIONS = ("pep440_vectors", "pep508_vectors", "pep508_marker_vectors")
 # What of tests/ the parts read that run programs.
-OF_REQS = ("alike.py", "cli.sh", "documented.py", "drawn.py", "help.txt", "install.sh", "lists", "objects.py", "pages", "pairs.py", "refuse.c", "refused.py",
-           "refused.sh", "runs.json", "runs.py", "sizes.py", "try.sh")
-
+OF_REQS = ("alike.py", "cli.sh", "documented.py", "drawn.py", "help.txt", "install.sh", "lists", "objects.py", "pages", "pairs.py",
+           "refuse.c", "refused.py", "refused.sh", "runs.json", "runs.py", "sizes.py", "try.sh")
 OF_C = ("c", "c.py", "c.sh", "refuse.c", "runs.json")
 
 
@@ -75,6 +74,7 @@ def parts(more):
         Part("calls and least counts", [*python, "gate/asked.py"]),
         Part("constants in definitions", [*python, "gate/constants.py"]),
         Part("statements held", [*python, "gate/held.py"]),
+        Part("figures", [*python, "bench/figures.py", "--check"]),
         Part("tests by name", [*python, "gate/names.py"]),
         Part("lent calls", [*python, "gate/lent.py"]),
         Part("proofs and wrong edits", [*python, "gate/together.py", *more], closings=2),
