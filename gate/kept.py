@@ -3,7 +3,7 @@
 The store keeps of each crate that is proved so the folder of `rattle --incremental`, its kept work: its modules as they
 were checked. The next time something below the crate changes, and the crate's own texts don't, the prover reads the kept
 work, judges of each module whether it still holds over the crates below as they are now, and checks the others anew. A crate
-whose own texts changed has no kept work, and is proved whole.
+whose own texts are new has no kept work, and is proved as by a run from nothing; so is each where the store is empty.
 
 Libraries that are made so hold their proofs, not statements alone, and name no sums of those below; so each goes under the
 sum of all texts that it rests on, none is made before those below are there, and what lay in out/ is removed first. A crate
@@ -23,6 +23,9 @@ from prover import CPU, LIBRARY, PROGRAM, SECONDS, STATIC, TESTS, Prover, archiv
 from store import Store, remove
 
 WORK = "work"
+# The forms of what is proved, and which those of the libraries below may have.
+NOTHING, STATEMENTS, WHOLE = "nothing", "statements", "whole"
+FITS = {NOTHING: {NOTHING}, STATEMENTS: {NOTHING, STATEMENTS}, WHOLE: {NOTHING, STATEMENTS, WHOLE}}
 # The word of a verdict that rests on kept work. All other words are held to `rt`'s rules as they are.
 TRUSTED = re.compile(r" incremental=trusted\n\Z")
 CHECKED = re.compile(r"^crate (\w+): modules loaded=\d+ checked=(\d+)$", re.M)
@@ -52,20 +55,32 @@ class KeptProver(Prover):
     def __init__(self, rt, store):
         super().__init__(rt, store)
         rt.rtlib.VERDICT = Verdict(rt.rtlib.VERDICT)
-        self.wholes, self.loaded = {}, []
+        self.forms, self.through = {}, []
 
-    def was_proved_from_nothing(self, name, tests=False):
-        """Whether the store has a crate, or its tests, and all below it from runs from nothing."""
+    def form(self, name, tests=False):
+        """In which form a crate or its tests are taken, or else proved: as by a run from nothing (and perhaps by one), or whole,
+        with all of its proofs. Statements fit those libraries alone over which they were made, and so go with statements."""
         key = name, tests
-        if key not in self.wholes:
-            below = all(self.was_proved_from_nothing(it) for it in self.crates[name].uses)
-            self.wholes[key] = below and self.store.has(super().entry(name, tests), self.parts(name, tests))
-        return self.wholes[key]
+        if key not in self.forms:
+            below = {self.form(it) for it in self.crates[name].uses}
+            can = [it for it in (NOTHING, STATEMENTS, WHOLE) if below <= FITS[it]]
+            there = [it for it in can if self.store.has(self.entry_in(it, name, tests), self.parts(name, tests))]
+            made = STATEMENTS if STATEMENTS in can and not self.keeps_work(name, tests) else WHOLE
+            self.forms[key] = there[0] if there else made
+        return self.forms[key]
+
+    def keeps_work(self, name, tests):
+        """Whether a proof goes through kept work: there is some, or the crate's own texts were proved before, over others, and
+        so may be again."""
+        return self.store.has(self.work_entry(name, tests), ()) or self.was_proved_before(name, tests)
+
+    def entry_in(self, form, name, tests):
+        if form == NOTHING:
+            return super().entry(name, tests)
+        return f"{keys.of_everyday_proof(self.crates, name)}.{self.kind(name, tests)}{'.whole' if form == WHOLE else ''}"
 
     def entry(self, name, tests=False):
-        if self.was_proved_from_nothing(name, tests):
-            return super().entry(name, tests)
-        return f"{keys.of_everyday_proof(self.crates, name)}.{self.kind(name, tests)}"
+        return self.entry_in(self.form(name, tests), name, tests)
 
     def work_entry(self, name, tests):
         return f"{keys.of_kept_work(self.crates, name)}.{self.kind(name, tests)}.{WORK}"
@@ -76,16 +91,18 @@ class KeptProver(Prover):
         return super().seconds(name, tests, lines)
 
     def prove(self, crate, flags, tests):
+        if self.form(crate.name, tests) != WHOLE:
+            return super().prove(crate, flags, tests)
         entry = self.work_entry(crate.name, tests)
         with tempfile.TemporaryDirectory(prefix="reqs-kept-") as room:
             work = os.path.join(room, WORK)
             is_there = self.take_work(entry, room)
             os.makedirs(work, exist_ok=True)
             status, said = self.prove_over(crate, flags, tests, work)
-            checked = [int(count) for name, count in CHECKED.findall(said) if name == crate.name]
-            if is_there and checked:
-                self.loaded.append(crate.name)
-            if status == 0 and (not is_there or any(checked)):
+            anew = sum(int(count) for name, count in CHECKED.findall(said) if name == crate.name)
+            if is_there:
+                self.through.append(f"{crate.name} ({anew} modules anew)")
+            if status == 0 and (anew or not is_there):
                 self.keep_work(entry, room)
         return status
 
@@ -135,4 +152,5 @@ class KeptProver(Prover):
         return status or (crate.compile_by("rattle", words, to) if kind == PROGRAM else 0)
 
     def told(self):
-        return f"{super().told()}, {len(self.loaded)} of those proved through kept work"
+        through = f": {', '.join(self.through)}" if self.through else ""
+        return f"{super().told()}, {len(self.through)} proved through kept work{through}"

@@ -35,6 +35,11 @@ def of_everyday_proof(crates, name):
     return summed((crates.sum(name), scripts_sum(OF_KEPT), "everyday"))
 
 
-def of_kept_work(crates, name):
-    """The sum of what makes kept work a crate's: its own texts. What else it rests on the prover looks at."""
+def of_own_texts(crates, name):
+    """The sum of a crate's own texts, and of the scripts that prove it."""
     return summed((toolchain_sum(), crates[name].own_sum(), scripts_sum(OF_KEPT)))
+
+
+def of_kept_work(crates, name):
+    """The sum under which kept work is a crate's. What else that rests on the prover looks at."""
+    return summed((of_own_texts(crates, name), "work"))

@@ -44,6 +44,13 @@ class Prover:
         """The name in the store of what was proved of a crate or of its tests."""
         return f"{keys.of_proof(self.crates, name)}.{self.kind(name, tests)}"
 
+    def own_entry(self, name, tests):
+        """The name of the verdict that a crate's own texts were proved, over whatever crates below."""
+        return f"{keys.of_own_texts(self.crates, name)}.{self.kind(name, tests)}"
+
+    def was_proved_before(self, name, tests):
+        return self.store.verdict(self.own_entry(name, tests)) == "proved"
+
     def parts(self, name, tests=False):
         """What lies in out/ once a crate or its tests are proved. An entry that lacks any of it is none."""
         programs = [name, f"{name}.by-rattle"]
@@ -92,6 +99,7 @@ class Prover:
             write(os.path.join(out, "rlib", "stamp"), crate.stamp())
             write(os.path.join(out, "rlib", MARK), entry)
         self.store.keep(entry, out, ["rlib"] if is_library else self.parts(crate.name, tests))
+        self.store.keep_verdict(self.own_entry(crate.name, tests), "proved")
 
     def lay_out(self, name):
         """Has a library that was proved or kept in its crate's out/, and says whether it is there."""

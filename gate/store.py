@@ -14,7 +14,7 @@ import tempfile
 import time
 import zlib
 
-MOST_BYTES = 6_000_000_000
+MOST_BYTES = 10_000_000_000
 # A file that was being written for longer than this was left by a run that was killed.
 LEFT_OVER = 6 * 3600
 FULL = (errno.ENOSPC, errno.EDQUOT)

@@ -138,8 +138,10 @@ def through_kept_work():
     """What isn't as it has to be of proofs through kept work."""
     with tempfile.TemporaryDirectory() as folder, tempfile.TemporaryDirectory(prefix="reqs-faults-") as room:
         tree = TwoCrates(room, folder)
+        # (the second proof of `high` is the first that keeps its work)
         tree.proved(LOW)
-        status, said = tree.proved(LOW.replace(BODY, "    2 * x\n"))
+        tree.proved(LOW.replace(BODY, "    2 * x\n"))
+        status, said = tree.proved(LOW.replace(BODY, "    (x + x)\n"))
         is_well = status == 0 and BY_KEPT_WORK.search(said)
         yield Tried("a private body below, over kept work", None if is_well else f"status {status}: {said[-300:]}")
         status, said = tree.proved(LOW.replace(CLAUSE, WEAKER))
