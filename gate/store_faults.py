@@ -25,6 +25,13 @@ sys.path.insert(0, "gate")
 import kept
 print(kept.prover_of(False).entry("underline", True))
 """
+# Prints the sum of what a check of `high` sees.
+SEEN = """import sys
+sys.path.insert(0, "gate")
+import seen
+from crates import Crates
+print(seen.by(Crates(), "high"))
+"""
 # Two small crates, one over the other.
 HEAD = "//! A crate.\n#![tactic(auto)]\n\nghost use Rattle.std.specs.Prelude.{◌≡◌, ◌≤◌, ◌*◌};\n"
 LOW = f"""{HEAD}
@@ -122,6 +129,13 @@ class TwoCrates:
         with open(os.path.join(self.room, "crates/high/out/prove.log"), encoding="utf-8") as file:
             return status, file.read()
 
+    def seen(self):
+        """The sum of what a check of `high` sees."""
+        status, said = ran(["-c", SEEN], self.room, self.folder)
+        if status:
+            raise ValueError(said)
+        return said
+
     def damage(self):
         """Turns a byte of each piece of kept work."""
         packed = os.path.join(self.folder, "packed")
@@ -153,8 +167,37 @@ def through_kept_work():
         yield Tried("kept work that is damaged", None if is_well else f"it wasn't dropped: status {status}: {said[-300:]}")
 
 
+def what_a_check_sees():
+    """Why the sum of what a check of `high` sees is the same after a change of `low` that it sees, or another after one that it
+    doesn't, or None."""
+    changed = {
+        "a body": (LOW.replace(BODY, "    2 * x\n"), True),
+        "a contract": (LOW.replace(CLAUSE, WEAKER), False),
+        "a private contract": (LOW.replace("requires { x ≤ 1000 }\n    ensures { result ≡ 2 * x }\n{\n    x", "{\n    x"), False),
+        "a signature": (LOW.replace("double(x: u32) -> u32", "double(x: u64) -> u64"), False),
+        "a constant": (LOW + "\npub const MOST: u32 = 1000;\n", False),
+        "a function that a constant may call": (LOW + "\npub const fn most() -> u32 {\n    1000\n}\n", False),
+    }
+    files = {"proofs/double/Answers.antt": True, "proofs/Lemmas.antt": False, "specs/Limits.antt": False}
+    with tempfile.TemporaryDirectory() as folder, tempfile.TemporaryDirectory(prefix="reqs-faults-") as room:
+        tree = TwoCrates(room, folder)
+        before = tree.seen()
+        for name, (text, is_same) in changed.items():
+            tree.write("crates/low/src/lib.rt", text)
+            if text == LOW or (tree.seen() == before) != is_same:
+                return f"{name}: {'another' if is_same else 'the same'} sum"
+        tree.write("crates/low/src/lib.rt", LOW)
+        for path, is_same in files.items():
+            tree.write(f"crates/low/{path}", "-- changed\n")
+            if (tree.seen() == before) != is_same:
+                return f"{path}: {'another' if is_same else 'the same'} sum"
+            os.remove(os.path.join(room, "crates", "low", path))
+    return None
+
+
 def told():
     """The name of each thing that is tried, and why it isn't as it has to be, or None."""
     yield Tried("an entry that is cut short", cut_short())
     yield Tried("a failing test that the store knows otherwise", taken_over())
+    yield Tried("what a check sees of the crates below", what_a_check_sees())
     yield from through_kept_work()

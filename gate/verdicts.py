@@ -16,7 +16,7 @@ import seen
 from crates import TOP, sum_of_files
 from keys import OF_KEPT, scripts_sum, summed
 
-OF_EDITS = (*OF_KEPT, "gate/clauses.py", "gate/edits.py", "gate/seen.py", "gate/statements.py", "gate/verdicts.py", "gate/wrong.py")
+OF_EDITS = (*OF_KEPT, *(f"gate/{it}.py" for it in ("clauses", "edits", "seen", "wrong")))
 OF_PARTS = ("gate/crates.py", "gate/gate.py", "gate/keys.py", "gate/store.py", "gate/verdicts.py")
 # What the parts that run programs call.
 TOOLS = ("ar", "bash", "cargo", "cc", "dpkg", "dpkg-deb", "ld", "mypy", "nm", "objcopy", "rustc", "strip")
