@@ -7,8 +7,7 @@ whose own texts are new has no kept work, and is proved as by a run from nothing
 
 Libraries that are made so hold their proofs, not statements alone, and name no sums of those below; so each goes under the
 sum of all texts that it rests on, none is made before those below are there, and what lay in out/ is removed first. A crate
-is taken as proved from nothing only where all below it are. The prover looks at kept work only in parts, so a sum of its
-file stands beside it, and what has another is dropped.
+is taken as proved from nothing only where all below it are.
 """
 
 import os
@@ -18,9 +17,9 @@ import tempfile
 
 import keys
 import toolchain
-from crates import kit_folder, sum_of_file
+from crates import kit_folder
 from prover import CPU, LIBRARY, PROGRAM, SECONDS, STATIC, TESTS, Prover, archive_of
-from store import Store, remove
+from store import Store
 
 WORK = "work"
 # The forms of what is proved, and which those of the libraries below may have.
@@ -96,31 +95,15 @@ class KeptProver(Prover):
         entry = self.work_entry(crate.name, tests)
         with tempfile.TemporaryDirectory(prefix="reqs-kept-") as room:
             work = os.path.join(room, WORK)
-            is_there = self.take_work(entry, room)
+            is_there = self.store.take(entry, room, [WORK])
             os.makedirs(work, exist_ok=True)
             status, said = self.prove_over(crate, flags, tests, work)
             anew = sum(int(count) for name, count in CHECKED.findall(said) if name == crate.name)
             if is_there:
                 self.through.append(f"{crate.name} ({anew} modules anew)")
             if status == 0 and (anew or not is_there):
-                self.keep_work(entry, room)
+                self.store.keep(entry, room, [WORK])
         return status
-
-    def take_work(self, entry, room):
-        """Unpacks kept work, and says whether it was there, whole."""
-        path = self.store.path("packed", f"{entry}.tar.gz")
-        if not os.path.isfile(path):
-            return False
-        if self.store.verdict(f"{entry}.sum") != sum_of_file(path):
-            remove(path)
-            return False
-        return self.store.take(entry, room, [WORK])
-
-    def keep_work(self, entry, room):
-        self.store.keep(entry, room, [WORK])
-        path = self.store.path("packed", f"{entry}.tar.gz")
-        if os.path.isfile(path):
-            self.store.keep_verdict(f"{entry}.sum", sum_of_file(path))
 
     def prove_over(self, crate, flags, tests, work):
         """Proves over kept work, and gives a status and what was said."""

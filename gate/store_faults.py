@@ -100,6 +100,7 @@ def cut_short():
         with open(Store().path("packed", f"{entry}.tar.gz"), "rb") as whole:
             with open(store.path("packed", f"{entry}.tar.gz"), "wb") as part:
                 part.write(whole.read()[:-1000])
+        store.keep_verdict(f"{entry}.sum", Store().verdict(f"{entry}.sum"))
         if store.take(entry, room, parts):
             return "it was taken"
         _, said = ran(PROVE, room, folder)
@@ -137,7 +138,7 @@ class TwoCrates:
         return said
 
     def damage(self):
-        """Turns a byte of each piece of kept work."""
+        """Turns a bit of each piece of kept work."""
         packed = os.path.join(self.folder, "packed")
         for name in os.listdir(packed):
             if f".{kept.WORK}." in name:
