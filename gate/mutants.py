@@ -1,0 +1,312 @@
+#!/usr/bin/env python3
+"""Tries mutants of definitions: the prover, or a wrong edit, has to notice each.
+
+    mutants.py [NAME..]             those of crates, modules (CRATE.MODULE) and definitions (CRATE.MODULE.NAME), or of each
+                                    definition that wasn't tried as it stands; writes what came of it into both lists
+    mutants.py --above NAME..       the same, and what its crate leaves unnoticed is tried in the crates above
+    mutants.py --again [CRATE..]    those of all definitions of these crates, or of all; writes nothing, and fails where one
+                                    isn't noticed that tests/unnoticed.txt doesn't have
+    mutants.py --listed             proves nothing: sees that both lists are those of the definitions as they stand
+
+A proof is worth what its definitions say. weakenings.py makes mutants of a definition, and mutant_lists.py has the lists.
+A mutant is noticed where its crate isn't proved with it; else where one of the crate's wrong edits, each of which is
+refused, is proved with it. The crate is checked over what an earlier check of it proved, which lies in its folder
+out/mutants: of that only is taken what the mutant leaves as it was. Nothing of this goes to the store. A mutant that the
+prover can't read, or whose types don't fit, is none. Where the prover tells only of proofs that name what the mutant took
+away, it is noticed by name. The last line is `N passed, M failed`.
+"""
+
+import os
+import re
+import shutil
+import subprocess
+import sys
+import tempfile
+import threading
+import time
+
+import toolchain
+from clauses import apart
+from crates import Crates
+from edits import HEADER, Misfit, edits_of
+from faults import copy_of
+from lanes import Task
+from mutant_lists import NO_REASON, Lists, items_of, judged
+from prove import SECONDS, Chain, Prover, read, write
+from statements import NAMES, specs_of
+from store import Store, default_folder
+from wrong import LOST, TOLD, batches, end_on_signals, is_told_proved, last_line
+
+ERROR = re.compile(r"^(?:\./)?((?:specs|src)/\S+?):(\d+):\d+: error: (.*)", re.M)
+OF_PROOF = re.compile(r"^(?:\./)?proofs/\S+: error: (.*(?:\n  .*)*)", re.M)
+UNFIT, PROVED, BY_VALUE, BY_NAME = "no mutant", "not noticed", "noticed", "noticed by name"
+# What a check of a mutant takes over what was proved before, about.
+SECONDS_A_MUTANT = 40
+
+
+def linked(folder, to):
+    """A copy of kept work: what was checked is never written in place, so a second name of each such file does."""
+    for at, _, names in os.walk(folder):
+        into = os.path.join(to, os.path.relpath(at, folder))
+        os.makedirs(into, exist_ok=True)
+        for it in names:
+            old, new = os.path.join(at, it), os.path.join(into, it)
+            try:
+                os.link(old, new) if it.endswith(".oantt") else shutil.copy2(old, new)
+            except OSError:
+                shutil.copy2(old, new)
+
+
+def resting_on(item):
+    """The names of a crate's definitions that rest on one of them, itself among them."""
+    found, before = {item.definition.declared.name.rpartition(".")[2]}, set()
+    declared = [it.declared for it in items_of([item.crate]).values()] if found else []
+    declared = [it.definition.declared for it in items_of([item.crate]).values()]
+    while found != before:
+        before = {*found}
+        found |= {it.name.rpartition(".")[2] for it in declared if named_in(it.text(), found)}
+    return found
+
+
+def named_in(text, names):
+    words = set(NAMES.findall(text))
+    return any(it in words or "◌" in it and all(part in text for part in it.split("◌") if part) for it in names)
+
+
+def contract_of(text, function):
+    """The clauses of the functions of this name in a file, or None where one of them has none of its own."""
+    said, bare = [], apart(text)[1]
+    for it in HEADER.finditer(bare):
+        if it[2] == function:
+            body = re.compile(rf"^{it[1]}\{{[ \t]*$|\{{[ \t]*$|;[ \t]*$", re.M).search(bare, it.start())
+            if not body or bare.find("{", it.start()) == body.start():
+                return None
+            end = re.compile(rf"^{it[1]}\{{[ \t]*$", re.M).search(bare, it.start())
+            said.append(text[it.start() : end.start() if end else len(text)])
+    return "\n".join(said)
+
+
+class Trial:
+    """Tries mutants, each by what notices it first."""
+
+    def __init__(self, prover, looks_above):
+        self.prover, self.looks_above = prover, looks_above
+        self.turns = {it: threading.Lock() for it in prover.crates}
+        self.bases, self.began = {}, time.monotonic()
+
+    def begin(self, names):
+        """Has the libraries below these crates laid out, and says whether they are."""
+        below = {low.name for it in names for low in self.prover.crates.below(it)}
+        self.rt_crates = {it.name: it for it in Chain(self.prover, sorted(names)).crates}
+        lacking = sorted(it for it in below if not self.prover.lay_out(it))
+        return not lacking or Chain(self.prover, lacking).run() and all(self.prover.lay_out(it) for it in lacking)
+
+    def check(self, crate, texts, kept, flags=()):
+        return self.prover.rt.checked(self.rt_crates[crate.name], texts, ["--jobs", "1", *flags], kept)
+
+    def base(self, crate):
+        """The folder of what a check of the crate as it stands proved, or None where it isn't proved."""
+        with self.turns[crate.name]:
+            if crate.name not in self.bases:
+                folder = os.path.join(crate.folder, "out", "mutants")
+                kept, mark, total = os.path.join(folder, "kept"), os.path.join(folder, "sum"), self.prover.crates.sum(crate.name)
+                if read(mark) != total:
+                    shutil.rmtree(folder, ignore_errors=True)
+                    os.makedirs(kept)
+                    if self.check(crate, {}, kept).returncode == 0:
+                        write(mark, total)
+                self.bases[crate.name] = kept if read(mark) == total else None
+            return self.bases[crate.name]
+
+    def judge(self, item, ran):
+        """How a check of a mutant ended, and what it said of that."""
+        last = last_line(ran.stdout)
+        if ran.returncode == 0 and last.startswith("logic=proved"):
+            return PROVED, ""
+        if ran.returncode != 1 or not last.startswith("logic=not-proved"):
+            return UNFIT, f"it did not reach the prover: {last}"
+        files = {os.path.relpath(path, item.crate.folder): module for module, path, _ in specs_of(item.crate)}
+        own = {it.place: it.definition for it in items_of([item.crate]).values()}
+        proofs = ""
+        for file, line, said in ERROR.findall(ran.stdout):
+            at = [it for place, it in own.items() if place.endswith(f"/{file}:{it.declared.line()}") and it.stands_at(int(line))]
+            if file not in files or not at or at[0].defines:
+                return UNFIT, f"{file}:{line}: {said}"
+            proofs = f"{file}:{line}: {said}"
+        told = [it for it in OF_PROOF.findall(ran.stdout) if not LOST.search(it)]
+        told += [f"{name}: {said}" for name, said in TOLD.findall(ran.stdout) if "did not prove" in said]
+        if proofs or told:
+            return BY_VALUE, " ".join((proofs or told[0]).split())
+        return BY_NAME, " ".join((OF_PROOF.findall(ran.stdout) or [last])[0].split())
+
+    def try_mutant(self, item, mutant, base):
+        """How a mutant is noticed, and what was said of that."""
+        texts, room = {item.file: mutant.over(item.text)}, tempfile.mkdtemp()
+        try:
+            linked(base, room)
+            how, words = self.judge(item, self.check(item.crate, texts, room))
+            if how == PROVED:
+                words = self.edit_proved(item, texts, room)
+                how = BY_VALUE if words else PROVED
+            if how == PROVED and self.looks_above:
+                words = self.not_proved_above(item, texts)
+                how = BY_VALUE if words else PROVED
+            return how, words
+        finally:
+            shutil.rmtree(room, ignore_errors=True)
+
+    def edits_resting_on(self, item):
+        """The crate's wrong edits of functions whose contracts rest on a definition."""
+        names = resting_on(item)
+        for edit in edits_of(item.crate)[0].values():
+            if edit.why or None in edit.wrong.functions or item.file in edit.wrong.over({}):
+                continue
+            for file in edit.wrong.over({}):
+                text = read(os.path.join(item.crate.folder, file)) or ""
+                said = [contract_of(text, it.rpartition("::")[2]) for it in edit.wrong.named]
+                if any(named_in(text if it is None else it, names) for it in said):
+                    yield edit
+                    break
+
+    def edit_proved(self, item, texts, kept):
+        """A wrong edit that is proved with a mutant's texts, in words, or nothing."""
+        for batch, edited in batches([*self.edits_resting_on(item)], lambda it: it.wrong):
+            flags = [f"--only={it}" for it in sorted({at for it in batch for at in it.wrong.named})]
+            told = dict(TOLD.findall(self.check(item.crate, {**edited, **texts}, kept, flags).stdout))
+            for it in batch:
+                if all(is_told_proved(at, told, item.crate.name) for at in it.wrong.named):
+                    return f"the wrong edit {it.label} is proved with it"
+        return ""
+
+    def not_proved_above(self, item, texts):
+        """A crate above that isn't proved with a mutant's texts, in words, or nothing."""
+        with tempfile.TemporaryDirectory() as room, tempfile.TemporaryDirectory() as folder:
+            copy_of(None, room)
+            linked_store(folder)
+            for file, text in texts.items():
+                write(os.path.join(room, "crates", item.crate.name, file), text)
+            for name in self.naming(item):
+                words = [sys.executable, "gate/prove.py", "--libraries", name]
+                how = {"stdin": subprocess.DEVNULL, "stdout": subprocess.DEVNULL, "stderr": subprocess.DEVNULL}
+                if subprocess.run(words, cwd=room, env={**os.environ, "FOWLYORE_CACHE": folder}, **how).returncode:
+                    return f"the crate {name} isn't proved with it"
+        return ""
+
+    def naming(self, item):
+        """The crates above that name a definition's module, or a module of definitions that does; nearest first."""
+        modules = {f"Rattle.{item.name.rpartition(item.definition.declared.name)[0].rstrip('.').replace('.', '.specs.', 1)}."}
+        for crate in self.prover.crates.values():
+            if item.crate in self.prover.crates.below(crate.name):
+                texts = [(path, read(path) or "") for path in crate.text_files()]
+                if any(it in text for _, text in texts for it in modules):
+                    modules |= {f"Rattle.{module.replace('.', '.specs.', 1)}." for module, _, text in specs_of(crate)
+                                if any(it in text for it in modules)}
+                    yield crate.name
+
+    def try_item(self, item):
+        """Tries a definition's mutants. Returns how many were made, how many fit and were noticed by name, and the names of
+        those that nothing notices; or None where the crate isn't proved as it stands."""
+        made = [*item.definition.mutants()]
+        base = self.base(item.crate) if made else None
+        if made and not base:
+            print(f"FAILED: {item.name}: {item.crate.name} isn't proved as it stands, so no mutant was tried", flush=True)
+            return None
+        ways = {UNFIT: [], PROVED: [], BY_VALUE: [], BY_NAME: []}
+        for it in made:
+            before = time.monotonic()
+            how, words = self.try_mutant(item, it, base)
+            ways[how].append(it.name)
+            said = words[:200] if words else f"[{it.told(item.text)}]"
+            print(f"mutants: {item.name}: {it.name}: {how}: {said} ({time.monotonic() - before:.0f} s)", flush=True)
+        return len(made), len(made) - len(ways[UNFIT]), len(ways[BY_NAME]), ways[PROVED]
+
+
+def linked_store(folder):
+    """A store that has what the store has."""
+    here = Store(folder)
+    for it in os.listdir(os.path.join(default_folder(), "packed")):
+        os.link(os.path.join(default_folder(), "packed", it), here.path("packed", it))
+
+
+class Run:
+    """Tries the mutants of definitions, and writes what came of each as it ends."""
+
+    def __init__(self, items, chosen, looks_above, is_again):
+        self.items, self.chosen, self.is_again = items, chosen, is_again
+        self.trial = Trial(Prover(toolchain.load(), Store()), looks_above)
+        self.lists, self.turn, self.passed, self.failed = Lists(), threading.Lock(), 0, 0
+
+    def run(self):
+        if self.lists.is_new():
+            self.lists.begin(self.items)
+        crates = {it.crate.name for it in self.chosen if [*it.definition.mutants()]}
+        if crates and not self.trial.begin(crates):
+            print("FAILED: the libraries below aren't proved, so no mutant was tried\n0 passed, 1 failed")
+            return 1
+        tasks = {}
+        for it in self.chosen:
+            seconds = SECONDS + SECONDS_A_MUTANT * len([*it.definition.mutants()])
+            tasks[it.name] = Task([], seconds, it.crate.memory(), lambda _given, _jobs, it=it: self.try_item(it), most_jobs=1)
+        self.trial.prover.run(tasks)
+        print(f"{self.passed} passed, {self.failed} failed")
+        return 1 if self.failed else 0
+
+    def try_item(self, item):
+        found = self.trial.try_item(item)
+        with self.turn:
+            if found is None:
+                self.failed += 1
+                return
+            made, fit, by_name, unnoticed = found
+            if not self.is_again:
+                self.lists.take(item, fit, made, by_name, unnoticed)
+                self.lists.drop(self.items)
+                self.lists.write()
+            for it in unnoticed:
+                reason = self.lists.unnoticed.get(f"{item.name}: {it}", NO_REASON)
+                if reason == NO_REASON:
+                    print(f"FAILED: {item.name}: {it}: nothing notices it, and tests/unnoticed.txt has no reason", flush=True)
+                self.failed += reason == NO_REASON
+                self.passed += reason != NO_REASON
+            self.passed += fit - len(unnoticed)
+
+
+def chosen_of(items, crates, names, is_again):
+    """The definitions that words name, or those that weren't tried as they stand; or a sentence."""
+    if not names:
+        lists = Lists()
+        return [it for it in items.values() if is_again or not lists.is_tried(it)]
+    chosen = {}
+    for name in names:
+        found = {it.name: it for it in items.values() if it.name == name or it.name.startswith(f"{name}.")}
+        if not found and name not in crates:
+            return f"there is no definition, module or crate {name}"
+        chosen.update(found)
+    return [*chosen.values()]
+
+
+def main(words):
+    mode = words[0] if words[:1] in (["--above"], ["--again"], ["--listed"]) else ""
+    names, crates = words[bool(mode) :], Crates()
+    if any(it.startswith("-") for it in names) or mode == "--listed" and names or mode == "--above" and not names:
+        print(__doc__, file=sys.stderr)
+        return 2
+    items = items_of(crates.values())
+    if mode == "--listed":
+        return judged(items)
+    chosen = chosen_of(items, crates, names, mode == "--again")
+    if isinstance(chosen, str):
+        print(f"mutants: {chosen}", file=sys.stderr)
+        return 2
+    room = end_on_signals()
+    try:
+        return Run(items, chosen, mode == "--above", mode == "--again").run()
+    except (toolchain.Unknown, Misfit) as error:
+        print(f"FAILED: {error}, so no mutant was tried\n0 passed, 1 failed")
+        return 1
+    finally:
+        shutil.rmtree(room, ignore_errors=True)
+
+
+if __name__ == "__main__":
+    sys.exit(main(sys.argv[1:]))
