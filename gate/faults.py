@@ -47,10 +47,11 @@ class Fault:
 
 PROVE, WRONG, HELD, NAMES = ["gate/prove.py"], ["gate/wrong.py"], ["gate/held.py"], ["gate/names.py"]
 LENT, CONSTANTS, FITS = ["gate/lent.py"], ["gate/constants.py"], [*WRONG, "--texts"]
+MUTANTS = ["gate/mutants.py", "--listed"]
 PACK = [*PROVE, "--program", "reqs_c"]
 DOCUMENTED = ["tests/documented.py", os.path.join(TOP, "crates", "reqs_cli", "out", "reqs_cli")]
 # The parts that prove nothing, and leave nothing in the tree.
-TEXTS = (HELD, NAMES, LENT, CONSTANTS, FITS, DOCUMENTED)
+TEXTS = (HELD, MUTANTS, NAMES, LENT, CONSTANTS, FITS, DOCUMENTED)
 PYTHON_TESTS = "python/tests/test_specifiers.py"
 SPECIFIERS = "crates/reqs_versions/specs/Specifiers.antt"
 LOW = "crates/underline"

@@ -111,7 +111,7 @@ class Lists:
     def write(self):
         counts = self.counts()
         # (what is allowed only falls here; it is raised by hand)
-        self.most = {name: min(self.most.get(name, counts[of]), counts[of]) if self.most or of else 0 for of, name in MOST.items()}
+        self.most = {name: min(self.most.get(name, counts[of]), counts[of]) for of, name in MOST.items()}
         for path, lines in ((MUTANTS, self.tried), (UNNOTICED, self.unnoticed)):
             groups = {}
             for name in lines:

@@ -10,10 +10,11 @@
 
 A proof is worth what its definitions say. weakenings.py makes mutants of a definition, and mutant_lists.py has the lists.
 A mutant is noticed where its crate isn't proved with it; else where one of the crate's wrong edits, each of which is
-refused, is proved with it. The crate is checked over what an earlier check of it proved, which lies in its folder
-out/mutants: of that only is taken what the mutant leaves as it was. Nothing of this goes to the store. A mutant that the
-prover can't read, or whose types don't fit, is none. Where the prover tells only of proofs that name what the mutant took
-away, it is noticed by name. The last line is `N passed, M failed`.
+refused, is proved with it. Proofs that give a field which the mutant dropped are mended first. The crate is checked over
+what an earlier check of it proved, which lies in its folder out/mutants: of that only is taken what the mutant leaves as
+it was. Nothing of this goes to the store. A mutant that the prover can't read, or whose types don't fit, is none. Where
+the prover tells only of proofs that name what the mutant took away, it is noticed by name. The last line is
+`N passed, M failed`.
 """
 
 import os
@@ -35,13 +36,17 @@ from mutant_lists import NO_REASON, Lists, items_of, judged
 from prove import SECONDS, Chain, Prover, read, write
 from statements import NAMES, specs_of
 from store import Store, default_folder
+from weakenings import WORD
 from wrong import LOST, TOLD, batches, end_on_signals, is_told_proved, last_line
 
 ERROR = re.compile(r"^(?:\./)?((?:specs|src)/\S+?):(\d+):\d+: error: (.*)", re.M)
 OF_PROOF = re.compile(r"^(?:\./)?proofs/\S+: error: (.*(?:\n  .*)*)", re.M)
+NOT_A_FIELD = re.compile(r"^(?:\./)?(proofs/\S+?):(\d+):(\d+): error: (?:`[^`]*`: )?`(\S+)` is not a field of record", re.M)
 UNFIT, PROVED, BY_VALUE, BY_NAME = "no mutant", "not noticed", "noticed", "noticed by name"
 # What a check of a mutant takes over what was proved before, about.
 SECONDS_A_MUTANT = 40
+# A check tells of no proof that rests on one which has to be mended first.
+MOST_MENDED = 5
 
 
 def linked(folder, to):
@@ -58,14 +63,13 @@ def linked(folder, to):
 
 
 def resting_on(item):
-    """The names of a crate's definitions that rest on one of them, itself among them."""
-    found, before = {item.definition.declared.name.rpartition(".")[2]}, set()
-    declared = [it.declared for it in items_of([item.crate]).values()] if found else []
-    declared = [it.definition.declared for it in items_of([item.crate]).values()]
-    while found != before:
-        before = {*found}
-        found |= {it.name.rpartition(".")[2] for it in declared if named_in(it.text(), found)}
-    return found
+    """The names of a definition, of those of its crate that name it, of those that name one of these, and so on."""
+    left = {it.definition.declared.name.rpartition(".")[2]: it.definition.declared.text() for it in items_of([item.crate]).values()}
+    found = {item.definition.declared.name.rpartition(".")[2]}
+    while found:
+        yield found
+        left = {name: text for name, text in left.items() if name not in found}
+        found = {name for name, text in left.items() if named_in(text, found)}
 
 
 def named_in(text, names):
@@ -84,6 +88,27 @@ def contract_of(text, function):
             end = re.compile(rf"^{it[1]}\{{[ \t]*$", re.M).search(bare, it.start())
             said.append(text[it.start() : end.start() if end else len(text)])
     return "\n".join(said)
+
+
+def without_field(text, line, column):
+    """A proof's text without what a `record` there gives for a field."""
+    begin = sum(len(it) + 1 for it in text.split("\n")[: line - 1]) + column - 1
+    depth = 0
+    for it in WORD.finditer(text, begin):
+        depth += {"(": 1, "{": 1, ")": -1, "}": -1}.get(it[0], 0)
+        if depth < 0 or depth == 0 and it[0] == ";":
+            return text[:begin] + text[it.start() if depth < 0 else it.end() :]
+    return text
+
+
+def mended(item, mutant, texts, said):
+    """The texts of proofs that give the field which a mutant dropped, without that."""
+    found = {}
+    for file, line, column, field in sorted(NOT_A_FIELD.findall(said), key=lambda it: (-int(it[1]), -int(it[2]))):
+        if mutant.name == f"drop field {field}":
+            text = found.get(file) or texts.get(file) or read(os.path.join(item.crate.folder, file))
+            found[file] = without_field(text, int(line), int(column))
+    return found
 
 
 class Trial:
@@ -144,7 +169,13 @@ class Trial:
         texts, room = {item.file: mutant.over(item.text)}, tempfile.mkdtemp()
         try:
             linked(base, room)
-            how, words = self.judge(item, self.check(item.crate, texts, room))
+            for _ in range(MOST_MENDED):
+                ran = self.check(item.crate, texts, room)
+                proofs = mended(item, mutant, texts, ran.stdout)
+                if not proofs:
+                    break
+                texts.update(proofs)
+            how, words = self.judge(item, ran)
             if how == PROVED:
                 words = self.edit_proved(item, texts, room)
                 how = BY_VALUE if words else PROVED
@@ -156,21 +187,26 @@ class Trial:
             shutil.rmtree(room, ignore_errors=True)
 
     def edits_resting_on(self, item):
-        """The crate's wrong edits of functions whose contracts rest on a definition."""
-        names = resting_on(item)
-        for edit in edits_of(item.crate)[0].values():
-            if edit.why or None in edit.wrong.functions or item.file in edit.wrong.over({}):
-                continue
-            for file in edit.wrong.over({}):
-                text = read(os.path.join(item.crate.folder, file)) or ""
-                said = [contract_of(text, it.rpartition("::")[2]) for it in edit.wrong.named]
-                if any(named_in(text if it is None else it, names) for it in said):
-                    yield edit
-                    break
+        """The crate's wrong edits of those functions whose contracts name a definition, or else one that names it, and so on."""
+        edits = [it for it in edits_of(item.crate)[0].values() if not it.why and None not in it.wrong.functions]
+        said = {it.name: [*self.contracts_of(it)] for it in edits if item.file not in it.wrong.over({})}
+        for names in resting_on(item):
+            found = [it for it in edits if any(named_in(text, names) for text in said.get(it.name, ()))]
+            if found:
+                return found
+        return []
+
+    def contracts_of(self, edit):
+        """What stands in the contracts of the functions that an edit changes, or in their file where that isn't found."""
+        for file in edit.wrong.over({}):
+            text = read(os.path.join(edit.crate.folder, file)) or ""
+            for it in edit.wrong.named:
+                said = contract_of(text, it.rpartition("::")[2])
+                yield text if said is None else said
 
     def edit_proved(self, item, texts, kept):
         """A wrong edit that is proved with a mutant's texts, in words, or nothing."""
-        for batch, edited in batches([*self.edits_resting_on(item)], lambda it: it.wrong):
+        for batch, edited in batches(self.edits_resting_on(item), lambda it: it.wrong):
             flags = [f"--only={it}" for it in sorted({at for it in batch for at in it.wrong.named})]
             told = dict(TOLD.findall(self.check(item.crate, {**edited, **texts}, kept, flags).stdout))
             for it in batch:
@@ -234,11 +270,13 @@ class Run:
     def __init__(self, items, chosen, looks_above, is_again):
         self.items, self.chosen, self.is_again = items, chosen, is_again
         self.trial = Trial(Prover(toolchain.load(), Store()), looks_above)
-        self.lists, self.turn, self.passed, self.failed = Lists(), threading.Lock(), 0, 0
+        self.turn, self.passed, self.failed = threading.Lock(), 0, 0
 
     def run(self):
-        if self.lists.is_new():
-            self.lists.begin(self.items)
+        lists = Lists()
+        if lists.is_new():
+            lists.begin(self.items)
+            lists.write()
         crates = {it.crate.name for it in self.chosen if [*it.definition.mutants()]}
         if crates and not self.trial.begin(crates):
             print("FAILED: the libraries below aren't proved, so no mutant was tried\n0 passed, 1 failed")
@@ -258,12 +296,14 @@ class Run:
                 self.failed += 1
                 return
             made, fit, by_name, unnoticed = found
+            # (read anew, since a person may have given reasons meanwhile)
+            lists = Lists()
             if not self.is_again:
-                self.lists.take(item, fit, made, by_name, unnoticed)
-                self.lists.drop(self.items)
-                self.lists.write()
+                lists.take(item, fit, made, by_name, unnoticed)
+                lists.drop(self.items)
+                lists.write()
             for it in unnoticed:
-                reason = self.lists.unnoticed.get(f"{item.name}: {it}", NO_REASON)
+                reason = lists.unnoticed.get(f"{item.name}: {it}", NO_REASON)
                 if reason == NO_REASON:
                     print(f"FAILED: {item.name}: {it}: nothing notices it, and tests/unnoticed.txt has no reason", flush=True)
                 self.failed += reason == NO_REASON
