@@ -60,7 +60,7 @@ def lines_of(path):
     if os.path.isfile(os.path.join(TOP, path)):
         with open(os.path.join(TOP, path), encoding="utf-8") as file:
             for line in file:
-                name, _, said = line.rstrip("\n").partition(" = ")
+                name, _, said = line.rstrip("\n").partition(" =")
                 allowed, colon, number = line.partition(": ")
                 if colon and allowed in MOST.values():
                     most[allowed] = int(number)

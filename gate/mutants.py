@@ -27,14 +27,14 @@ import threading
 import time
 
 import toolchain
-from clauses import apart
 from crates import Crates
-from edits import HEADER, Misfit, edits_of
+from edits import Misfit
 from faults import copy_of
 from lanes import Task
 from mutant_lists import NO_REASON, Lists, items_of, judged
 from prove import SECONDS, Chain, Prover, read, write
-from statements import NAMES, specs_of
+from resting import crates_naming, edits_resting_on
+from statements import specs_of
 from store import Store, default_folder
 from weakenings import WORD
 from wrong import LOST, TOLD, batches, end_on_signals, is_told_proved, last_line
@@ -60,34 +60,6 @@ def linked(folder, to):
                 os.link(old, new) if it.endswith(".oantt") else shutil.copy2(old, new)
             except OSError:
                 shutil.copy2(old, new)
-
-
-def resting_on(item):
-    """The names of a definition, of those of its crate that name it, of those that name one of these, and so on."""
-    left = {it.definition.declared.name.rpartition(".")[2]: it.definition.declared.text() for it in items_of([item.crate]).values()}
-    found = {item.definition.declared.name.rpartition(".")[2]}
-    while found:
-        yield found
-        left = {name: text for name, text in left.items() if name not in found}
-        found = {name for name, text in left.items() if named_in(text, found)}
-
-
-def named_in(text, names):
-    words = set(NAMES.findall(text))
-    return any(it in words or "◌" in it and all(part in text for part in it.split("◌") if part) for it in names)
-
-
-def contract_of(text, function):
-    """The clauses of the functions of this name in a file, or None where one of them has none of its own."""
-    said, bare = [], apart(text)[1]
-    for it in HEADER.finditer(bare):
-        if it[2] == function:
-            body = re.compile(rf"^{it[1]}\{{[ \t]*$|\{{[ \t]*$|;[ \t]*$", re.M).search(bare, it.start())
-            if not body or bare.find("{", it.start()) == body.start():
-                return None
-            end = re.compile(rf"^{it[1]}\{{[ \t]*$", re.M).search(bare, it.start())
-            said.append(text[it.start() : end.start() if end else len(text)])
-    return "\n".join(said)
 
 
 def without_field(text, line, column):
@@ -186,27 +158,9 @@ class Trial:
         finally:
             shutil.rmtree(room, ignore_errors=True)
 
-    def edits_resting_on(self, item):
-        """The crate's wrong edits of those functions whose contracts name a definition, or else one that names it, and so on."""
-        edits = [it for it in edits_of(item.crate)[0].values() if not it.why and None not in it.wrong.functions]
-        said = {it.name: [*self.contracts_of(it)] for it in edits if item.file not in it.wrong.over({})}
-        for names in resting_on(item):
-            found = [it for it in edits if any(named_in(text, names) for text in said.get(it.name, ()))]
-            if found:
-                return found
-        return []
-
-    def contracts_of(self, edit):
-        """What stands in the contracts of the functions that an edit changes, or in their file where that isn't found."""
-        for file in edit.wrong.over({}):
-            text = read(os.path.join(edit.crate.folder, file)) or ""
-            for it in edit.wrong.named:
-                said = contract_of(text, it.rpartition("::")[2])
-                yield text if said is None else said
-
     def edit_proved(self, item, texts, kept):
         """A wrong edit that is proved with a mutant's texts, in words, or nothing."""
-        for batch, edited in batches(self.edits_resting_on(item), lambda it: it.wrong):
+        for batch, edited in batches(edits_resting_on(item), lambda it: it.wrong):
             flags = [f"--only={it}" for it in sorted({at for it in batch for at in it.wrong.named})]
             told = dict(TOLD.findall(self.check(item.crate, {**edited, **texts}, kept, flags).stdout))
             for it in batch:
@@ -221,23 +175,12 @@ class Trial:
             linked_store(folder)
             for file, text in texts.items():
                 write(os.path.join(room, "crates", item.crate.name, file), text)
-            for name in self.naming(item):
+            for name in crates_naming(item, self.prover.crates):
                 words = [sys.executable, "gate/prove.py", "--libraries", name]
                 how = {"stdin": subprocess.DEVNULL, "stdout": subprocess.DEVNULL, "stderr": subprocess.DEVNULL}
                 if subprocess.run(words, cwd=room, env={**os.environ, "FOWLYORE_CACHE": folder}, **how).returncode:
                     return f"the crate {name} isn't proved with it"
         return ""
-
-    def naming(self, item):
-        """The crates above that name a definition's module, or a module of definitions that does; nearest first."""
-        modules = {f"Rattle.{item.name.rpartition(item.definition.declared.name)[0].rstrip('.').replace('.', '.specs.', 1)}."}
-        for crate in self.prover.crates.values():
-            if item.crate in self.prover.crates.below(crate.name):
-                texts = [(path, read(path) or "") for path in crate.text_files()]
-                if any(it in text for _, text in texts for it in modules):
-                    modules |= {f"Rattle.{module.replace('.', '.specs.', 1)}." for module, _, text in specs_of(crate)
-                                if any(it in text for it in modules)}
-                    yield crate.name
 
     def try_item(self, item):
         """Tries a definition's mutants. Returns how many were made, how many fit and were noticed by name, and the names of
