@@ -42,7 +42,7 @@ from wrong import LOST, TOLD, batches, end_on_signals, is_told_proved, last_line
 ERROR = re.compile(r"^(?:\./)?((?:specs|src)/\S+?):(\d+):\d+: error: (.*)", re.M)
 OF_PROOF = re.compile(r"^(?:\./)?proofs/\S+: error: (.*(?:\n  .*)*)", re.M)
 NOT_A_FIELD = re.compile(r"^(?:\./)?(proofs/\S+?):(\d+):(\d+): error: (?:`[^`]*`: )?`(\S+)` is not a field of record", re.M)
-UNFIT, PROVED, BY_VALUE, BY_NAME = "no mutant", "not noticed", "noticed", "noticed by name"
+UNFIT, PROVED, BY_VALUE, BY_NAME, UNTOLD = "no mutant", "not noticed", "noticed", "noticed by name", "could not be told"
 # What a check of a mutant takes over what was proved before, about.
 SECONDS_A_MUTANT = 40
 # A check tells of no proof that rests on one which has to be mended first.
@@ -120,7 +120,9 @@ class Trial:
         last = last_line(ran.stdout)
         if ran.returncode == 0 and last.startswith("logic=proved"):
             return PROVED, ""
-        if ran.returncode != 1 or not last.startswith("logic=not-proved"):
+        if ran.returncode != 1:
+            return UNTOLD, f"status {ran.returncode}: {last}"
+        if not last.startswith("logic=not-proved"):
             return UNFIT, f"it did not reach the prover: {last}"
         files = {os.path.relpath(path, item.crate.folder): module for module, path, _ in specs_of(item.crate)}
         own = {it.place: it.definition for it in items_of([item.crate]).values()}
@@ -184,19 +186,22 @@ class Trial:
 
     def try_item(self, item):
         """Tries a definition's mutants. Returns how many were made, how many fit and were noticed by name, and the names of
-        those that nothing notices; or None where the crate isn't proved as it stands."""
+        those that nothing notices; or None where the crate isn't proved as it stands, or a check ended without a verdict."""
         made = [*item.definition.mutants()]
         base = self.base(item.crate) if made else None
         if made and not base:
             print(f"FAILED: {item.name}: {item.crate.name} isn't proved as it stands, so no mutant was tried", flush=True)
             return None
-        ways = {UNFIT: [], PROVED: [], BY_VALUE: [], BY_NAME: []}
+        ways = {it: [] for it in (UNFIT, PROVED, BY_VALUE, BY_NAME, UNTOLD)}
         for it in made:
             before = time.monotonic()
             how, words = self.try_mutant(item, it, base)
             ways[how].append(it.name)
             said = words[:200] if words else f"[{it.told(item.text)}]"
             print(f"mutants: {item.name}: {it.name}: {how}: {said} ({time.monotonic() - before:.0f} s)", flush=True)
+        if ways[UNTOLD]:
+            print(f"FAILED: {item.name}: of {len(ways[UNTOLD])} of its mutants nothing could be told", flush=True)
+            return None
         return len(made), len(made) - len(ways[UNFIT]), len(ways[BY_NAME]), ways[PROVED]
 
 
