@@ -49,12 +49,14 @@ class Fault:
 OF_TEXTS, OF_PROOFS = "texts", "proofs"
 PROVE, WRONG, HELD, NAMES = ["gate/prove.py"], ["gate/wrong.py"], ["gate/held.py"], ["gate/names.py"]
 LENT, CONSTANTS, FITS = ["gate/lent.py"], ["gate/constants.py"], [*WRONG, "--texts"]
-PACK, FIGURES = [*PROVE, "--program", "reqs_c"], ["bench/figures.py", "--check"]
+MUTANTS, FIGURES = ["gate/mutants.py", "--listed"], ["bench/figures.py", "--check"]
+PACK = [*PROVE, "--program", "reqs_c"]
 DOCUMENTED = ["tests/documented.py", os.path.join(TOP, "crates", "reqs_cli", "out", "reqs_cli")]
 # The parts that prove nothing, and leave nothing in the tree.
-TEXTS = (HELD, NAMES, LENT, CONSTANTS, FITS, FIGURES, DOCUMENTED)
+TEXTS = (HELD, MUTANTS, NAMES, LENT, CONSTANTS, FITS, FIGURES, DOCUMENTED)
 PYTHON_TESTS = "python/tests/test_specifiers.py"
 SPECIFIERS = "crates/reqs_versions/specs/Specifiers.antt"
+UNNOTICED = "reqs_versions.Versions.IsNoVersion: drop field is_utf8_text"
 LOW = "crates/underline"
 LAST_USE = "use unicode_width::UnicodeWidthChar;\n"
 FAILING = "a_letter_takes_two_columns"
@@ -95,6 +97,9 @@ FAULTS = [
           "  pub is_list : IsListIn bytes members\n  pub is_text : text ≡ map", "  pub is_text : text ≡ map"),
     Fault("a definition with another's name", None, HELD, SPECIFIERS,
           "Rattle.reqs_versions.specs.Versions.{version_in}", "Rattle.pep508_environment.specs.EnvironmentValues.{version_in}"),
+    Fault("a definition whose mutants weren't tried as it stands", None, MUTANTS, SPECIFIERS,
+          "  pub is_list : IsListIn bytes members\n  pub is_text : text ≡ map", "  pub is_text : text ≡ map"),
+    Fault("a mutant that nothing notices, for no reason", None, MUTANTS, "tests/unnoticed.txt", f"{UNNOTICED} = ", f"{UNNOTICED} =\n# "),
     Fault("a contract without one of its clauses", None, HELD, "crates/pep440_version/src/version.rt",
           "        ensures grown { result ≡ Err errors.Memory → version_reading text.now ≢ Err NoLeadingNumber }\n", ""),
     Fault("a claim of README.md that says more", None, HELD, "README.md",

@@ -4,7 +4,8 @@
     gate.py                    proves what the store doesn't hold, and takes the rest from there
     gate.py --from-nothing     takes nothing from the store, and fills it
     gate.py --release          the same, and what is left out fails
-    gate.py --wrong [CRATE..]  each wrong edit of these crates, or of all
+    gate.py --wrong [CRATE..]  each wrong edit and each mutant of a definition of these crates, or of all
+    gate.py --mutants [NAME..] the mutants of definitions by crate, module or name, or of those that weren't tried as they stand
     gate.py --faults           plants faults, and sees that the gate fails at each
     gate.py --accept NAME..    takes statements and tests that are new, others or gone into the lists of them
 
@@ -33,6 +34,8 @@ CLOSING = re.compile(r"^(?:[a-z]+: )?(\d+) passed, (\d+) failed$", re.M)
 # How a part says that it left something out, for want of what the machine may have another time.
 LEFT_OUT = re.compile(r"^(?:[a-z]+\.sh: left out|not tried): (.*)", re.M)
 NOTHING, RELEASE = "--from-nothing", "--release"
+# What is run where one part is asked for.
+SCRIPTS = {"--wrong": (["wrong.py"], ["mutants.py", "--again"]), "--mutants": (["mutants.py"],), "--faults": (["faults.py"],)}
 QUESTIONS = ("pep440_vectors", "pep508_vectors", "pep508_marker_vectors")
 # What of tests/ the parts read that run programs.
 OF_REQS = ("alike.py", "cli.sh", "documented.py", "drawn.py", "help.txt", "install.sh", "lists", "objects.py", "pages", "pairs.py",
@@ -74,6 +77,7 @@ def parts(more):
         Part("calls and least counts", [*python, "gate/asked.py"]),
         Part("constants in definitions", [*python, "gate/constants.py"]),
         Part("statements held", [*python, "gate/held.py"]),
+        Part("mutants tried", [*python, "gate/mutants.py", "--listed"]),
         Part("figures", [*python, "bench/figures.py", "--check"]),
         Part("tests by name", [*python, "gate/names.py"]),
         Part("lent calls", [*python, "gate/lent.py"]),
@@ -176,7 +180,8 @@ def gate(more, demands_all):
 
 def main(words):
     mode, named = words[0] if words else "", words[1:]
-    if mode not in ("", NOTHING, RELEASE, "--wrong", "--faults", "--accept") or named and mode not in ("--wrong", "--accept"):
+    takes_names = ("--wrong", "--mutants", "--accept")
+    if mode not in ("", NOTHING, RELEASE, "--faults", *takes_names) or named and mode not in takes_names:
         print(__doc__, file=sys.stderr)
         return 2
     if mode == "--accept":
@@ -185,9 +190,9 @@ def main(words):
         print("test: the command rt of the Rattle toolchain, which proves crates, is not on the PATH", file=sys.stderr)
         print("0 passed, 1 failed")
         return 1
-    if mode in ("--wrong", "--faults"):
-        script = {"--wrong": "wrong.py", "--faults": "faults.py"}[mode]
-        return subprocess.run([sys.executable, os.path.join(TOP, "gate", script), *named], cwd=TOP).returncode
+    if mode in SCRIPTS:
+        ran = [subprocess.run([sys.executable, os.path.join("gate", *script), *named], cwd=TOP) for script in SCRIPTS[mode]]
+        return max(it.returncode for it in ran)
     return gate([NOTHING] if mode else [], mode == RELEASE)
 
 

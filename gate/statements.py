@@ -64,25 +64,43 @@ def imports_of(text, known):
             yield f"{name} = {path}"
 
 
+class Declared(NamedTuple):
+    """What a file of specs/ declares: the name in its module, the heads of the blocks around it, what stands before it
+    and its chunks, each of numbered lines."""
+
+    name: str
+    around: list
+    before: list
+    chunks: list
+
+    def line(self):
+        return self.chunks[0][0][0]
+
+    def text(self):
+        return "\n".join([*self.around, *self.before, *(words_of(it) for it in self.chunks)])
+
+
+def words_of(lines):
+    """Numbered lines in one line, with one blank between words."""
+    return in_one_line("\n".join(it for _, it in lines))
+
+
 def chunks(lines, indent, around):
-    """The chunks of numbered lines, each with its first number and the heads of the blocks `module` around it. A chunk
-    is a line at the indent and what stands further right below it; of a block those in it."""
+    """The chunks of numbered lines, and with each the heads of the blocks `module` around it. A chunk is a line at the
+    indent and what stands further right below it; of a block those in it."""
     at = 0
     while at < len(lines):
-        number, line = lines[at]
-        end = at + 1
+        end, line = at + 1, lines[at][1]
         while end < len(lines) and (indent_of(lines[end][1]) > indent or lines[end][1].strip()[0] in "})"):
             end += 1
-        text = "\n".join(it for _, it in lines[at:end])
         if BLOCK.match(line.strip()):
             body = at + 1
             while not re.search(r"\bwhere$", lines[body - 1][1].rstrip()):
                 body += 1
-            head = in_one_line("\n".join(it for _, it in lines[at:body]))
-            inner = lines[body:end]
+            head, inner = words_of(lines[at:body]), lines[body:end]
             yield from chunks(inner, indent_of(inner[0][1]), [*around, head]) if inner else ()
         else:
-            yield number, text, around
+            yield lines[at:end], around
         at = end
 
 
@@ -96,42 +114,51 @@ def declared(text):
     return found[1] if found else None
 
 
-def definitions(crate):
-    """The definitions of a crate's specs/, and what these files pass on."""
+def specs_of(crate):
+    """The files of a crate's specs/: the whole name of the module that each is, its path and its text."""
     for path in crate.text_files():
         module, ending = os.path.splitext(os.path.relpath(path, os.path.join(crate.folder, "specs")))
         if ending == ".antt" and not module.startswith(os.pardir):
             with open(path, encoding="utf-8") as file:
-                yield from definitions_in(f"{crate.name}.{module.replace(os.sep, '.')}", path, file.read())
+                yield f"{crate.name}.{module.replace(os.sep, '.')}", path, file.read()
+
+
+def definitions(crate):
+    """The definitions of a crate's specs/, and what these files pass on."""
+    for module, path, text in specs_of(crate):
+        known, shown, made = declared_in(path, text)
+        for it in [*made, *shown]:
+            said = it.text()
+            yield stated(f"{module}.{it.name}", path, it.line(), said, imports_of(said, known))
 
 
 def passed_on(path):
     return "use." + path.removeprefix("Rattle.").replace(".specs.", ".", 1)
 
 
-def definitions_in(module, path, text):
+def declared_in(path, text):
+    """What a file's text imports, by name, what it passes on and what it declares."""
     lines = [it for it in enumerate(without_comments(text).split("\n"), 1) if it[1].strip()]
-    known, made, before = [], [], []
-    for number, chunk, around in chunks(lines, 0, []):
-        words = in_one_line(chunk)
+    known, shown, made, before = [], [], [], []
+    for chunk, around in chunks(lines, 0, []):
+        words, head = words_of(chunk), "\n".join(it for _, it in chunk)
         use = USE.match(words)
         if use:
             names = [*imported(use["path"], use["names"], use["alias"])]
             known += names
-            made += [(passed_on(of), number, [f"pub use {of}"]) for _, of in names if use["shown"]]
+            number = chunk[0][0]
+            shown += [Declared(passed_on(of), [], [], [[(number, f"pub use {of}")]]) for _, of in names if use["shown"]]
         elif words.startswith("pub mod "):
             continue
-        elif declared(chunk):
+        elif declared(head):
             heads = [re.match(r"module (\S+)", it)[1] for it in around]
-            name = ".".join([*(it for it in heads if it != "_"), declared(chunk)])
-            made.append((name, number, [*around, *before, words]))
+            name = ".".join([*(it for it in heads if it != "_"), declared(head)])
+            made.append(Declared(name, around, before, [chunk]))
             before = []
         elif re.match(r"infix[lr]? ", words):
             before.append(words)
         elif not made:
-            raise ValueError(f"{path}:{number}: no definition is begun, and here one goes on: {words[:60]}")
+            raise ValueError(f"{path}:{chunk[0][0]}: no definition is begun, and here one goes on: {words[:60]}")
         else:
-            made[-1][2].append(words)
-    for name, number, texts in made:
-        said = "\n".join(texts)
-        yield stated(f"{module}.{name}", path, number, said, imports_of(said, known))
+            made[-1].chunks.append(chunk)
+    return known, shown, made
