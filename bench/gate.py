@@ -26,7 +26,8 @@ KINDS = ["proofs", "proofs of tests", "wrong edits one by one", "wrong edits tog
 # A script whose processes are all of one kind.
 SCRIPTS = {"cli.sh": ("command line", ""), "alike.py": ("answers compared", ""), "try.sh": ("a first answer", ""),
            "c.sh": ("library for C", ""), "python.sh": ("Python package", ""), "deb.sh": ("Debian package", ""),
-           "rust.sh": ("Rust crate", ""), "install.sh": ("installing", ""), "refused.sh": ("refused memory", ""), "faults.py": ("faults", "")}
+           "rust.sh": ("Rust crate", ""), "install.sh": ("installing", ""), "refused.sh": ("refused memory", ""),
+           "faults.py": ("faults", "")}
 
 
 class Unit:

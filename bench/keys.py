@@ -1,12 +1,13 @@
 #!/usr/bin/env python3
 """Times `reqs check` on lines each of which asks for a value of its own, beside a native program where one is named.
 
-    keys.py [PROGRAM] [--native PATH] [--lines N] [--runs N]
+    keys.py [PROGRAM] [--native PATH] [--lines N] [--runs N] [--write [--native-is TEXT]]
 
 PROGRAM is crates/reqs_cli/out/reqs_cli where none is named (`./build` makes it). A native program is called as
 `PATH bench REQUIREMENTS ENVIRONMENT CANDIDATES` and prints the rows. Each of N lines, 5,000 where it isn't said, compares a
 version's key, asks for an extra, or does both, joined by `and`. Times are the least processor seconds of several runs of
-the whole process. The exit status is 1 where both print other rows.
+the whole process. The exit status is 1 where both print other rows. With `--write` they go to bench/figures.json, if it is
+0; TEXT tells what the native program is.
 """
 
 import argparse
@@ -18,11 +19,12 @@ import tempfile
 HERE = os.path.dirname(os.path.abspath(__file__))
 sys.dont_write_bytecode = True
 sys.path.insert(0, HERE)
+import figures
 from run import timed
 from workload import ENVIRONMENT
 
 VERSION, EXTRA = "python_full_version != '{1}.{0}'", "extra == 'x{0}'"
-KINDS = {"a version": VERSION, "an extra": EXTRA, "both": f"{VERSION} and {EXTRA}"}
+KINDS = {"version": VERSION, "extra": EXTRA, "both": f"{VERSION} and {EXTRA}"}
 
 
 def write_inputs(folder, marker, number):
@@ -41,27 +43,34 @@ def least(command, out, runs):
         return seconds, file.read()
 
 
-def main():
+def read_words():
     words = argparse.ArgumentParser(description=__doc__, formatter_class=argparse.RawDescriptionHelpFormatter)
     words.add_argument("program", nargs="?", default=os.path.join(HERE, "..", "crates", "reqs_cli", "out", "reqs_cli"))
     words.add_argument("--native", metavar="PATH")
     words.add_argument("--lines", metavar="N", type=int, default=5000)
     words.add_argument("--runs", metavar="N", type=int, default=7)
-    words = words.parse_args()
-    differ = False
+    return figures.read_words(words)
+
+
+def main():
+    words = read_words()
+    made, differ = {}, False
     print("| each line asks for | seconds |" + (" native | times |" if words.native else ""))
     for kind, marker in KINDS.items():
         with tempfile.TemporaryDirectory() as folder:
             inputs, out = write_inputs(folder, marker, words.lines), os.path.join(folder, "rows")
             ours, rows = least([words.program, "check", *inputs], out, words.runs)
-            row = [kind, f"{ours:.3f}"]
+            row, name = [kind, f"{ours:.3f}"], f"keys.{kind}.{words.lines}"
+            made[f"{name}.reqs.cpu"] = ours, "s", figures.version_of(words.program)
             if words.native:
                 native, others = least([words.native, "bench", *inputs], out, words.runs)
                 row += [f"{native:.3f}", f"{ours / native:.2f}"]
-                if others != rows:
-                    differ = True
-                    row[0] += ", and the rows differ"
+                made[f"{name}.native.cpu"] = native, "s", words.native_is
+                differ |= others != rows
+                row[0] += ", and the rows differ" if others != rows else ""
         print("| " + " | ".join(row) + " |", flush=True)
+    if words.write and not differ:
+        figures.put(made)
     return 1 if differ else 0
 
 

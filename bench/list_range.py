@@ -1,19 +1,20 @@
 #!/usr/bin/env python3
 """Times the range of long lists of specifiers, `!=0.0, !=1.0, ..` with N members.
 
-    list_range.py [PROGRAM] [--sizes N,..] [--runs N] [--most SECONDS]
+    list_range.py [PROGRAM] [--sizes N,..] [--runs N] [--most SECONDS] [--write]
 
 PROGRAM is crates/pep440_vectors/out/pep440_vectors where none is named (`./build pep440_vectors`
 makes it). It is asked of how many intervals the list's range is, which has to be one more than its
 members. Times are the least processor seconds of several runs of the whole process, reading the list's text
 included. The exit status is 1 where an answer is wrong, or where a list of at most 40,000 members took longer
-than SECONDS, 1 by default.
+than SECONDS, 1 by default. With `--write` the times go to bench/figures.json, if it is 0.
 """
 
 import json
 import os
 import random
 
+import figures
 from sized import measure, words_of
 
 
@@ -26,4 +27,5 @@ def prepare(folder, size):
     return [], f"{question} {size + 1}\n"
 
 
-measure(words_of(__doc__, "pep440_vectors", [10000, 20000, 40000, 80000]).parse_args(), prepare, 40000)
+words = figures.read_words(words_of(__doc__, "pep440_vectors", [10000, 20000, 40000, 80000]))
+measure(words, prepare, 40000, "list_range")

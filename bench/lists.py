@@ -1,7 +1,7 @@
 #!/usr/bin/env python3
 """Measures `reqs same`, `reqs conflicts` and `reqs normal` beside the reading of a list.
 
-    lists.py [PROGRAM] [--full] [--sizes N,..] [--runs N] [--seed N] [--folder FOLDER]
+    lists.py [PROGRAM] [--full] [--sizes N,..] [--runs N] [--seed N] [--folder FOLDER] [--write]
 
 PROGRAM is crates/reqs_cli/out/reqs_cli where none is named. A workload of workload.py, without the lines that have a URL
 or are refused, is asked for: `same` of the list and itself in another order, and of the list and one that differs in its
@@ -11,7 +11,8 @@ pair of cases differs.
 
 Times are processor seconds of whole processes, the least of several runs; memory is the greatest of one. The exit status is
 1 where an answer is another than it has to be, or where `same` of 10,000 lines takes more than three times as long as
-reading them twice, or a package of 4,096 cases more than a second.
+reading them twice, or a package of 4,096 cases more than a second. With `--write` what was measured goes to
+bench/figures.json, if that is 0.
 """
 
 import argparse
@@ -27,6 +28,7 @@ import tempfile
 HERE = os.path.dirname(os.path.abspath(__file__))
 sys.dont_write_bytecode = True
 sys.path.insert(0, HERE)
+import figures
 from run import numbers, peak
 from workload import ENVIRONMENT, make_workload
 
@@ -34,6 +36,8 @@ FLAGS = "abcdefghijkl"
 # What `same` refuses in the lines of a workload: URLs, and a post-release behind `<` or `>`.
 REFUSED = re.compile(r" @ |(?<![=!~<>])[<>](?!=)[^,;]*post")
 EVERYWHERE = "all environments"
+COMMANDS = {"reading": "reading, as `check`", "alike": "`same`, alike", "differing": "`same`, differing", "conflicts": "`conflicts`",
+            "normal": "`normal`"}
 
 
 def compared_lines(lines, seed, full):
@@ -101,6 +105,7 @@ def many_packages(words, folder, size):
              it.seconds(f"no\nzzz-last\n{EVERYWHERE}\n", "same", "LIST", "OTHER"), it.seconds(None, "conflicts", "LIST"),
              it.seconds(None, "normal", "LIST")]
     print(f"| {size:,} | " + " | ".join(f"{seconds:.3f} | {mib:.0f}" for seconds, mib in times) + " |", flush=True)
+    words.found[size] = dict(zip(COMMANDS, times))
     if size == 10000:
         print_aims(*(seconds for seconds, _ in times[:4]))
     slow = size == 10000 and times[1][0] > 6 * times[0][0]
@@ -118,6 +123,7 @@ def one_package(words, folder):
     it = Measured(words, folder)
     where = " and ".join(f"'{letter}' not in platform_version" for letter in FLAGS)
     alike, differing = it.seconds("yes\n", "same", "LIST", "TURNED"), it.seconds(f"no\nfoo\n{where}\n", "same", "LIST", "OTHER")
+    words.found["cases"] = {"alike": alike, "differing": differing}
     print(f"4,096 cases: alike {alike[0]:.3f} s, {alike[1]:.0f} MiB; in the last pair {differing[0]:.3f} s, {differing[1]:.0f} MiB")
     slow = max(alike[0], differing[0]) > 1
     if slow:
@@ -125,7 +131,17 @@ def one_package(words, folder):
     return it.failed or slow
 
 
-def main():
+def put(words):
+    """Puts what was measured into the file of figures, by the kind of lines, the size and the command."""
+    of, made = figures.version_of(words.program), {}
+    for size, commands in words.found.items():
+        for command, (seconds, mib) in commands.items():
+            name = f"lists.{'full' if words.full else 'plain'}.{size}.{command}"
+            made[f"{name}.cpu"], made[f"{name}.peak"] = (seconds, "s", of), (mib, "MiB", of)
+    figures.put(made)
+
+
+def read_words():
     words = argparse.ArgumentParser(description=__doc__, formatter_class=argparse.RawDescriptionHelpFormatter)
     place = os.path.join(HERE, "..", "crates", "reqs_cli", "out", "reqs_cli")
     words.add_argument("program", nargs="?", default=os.path.normpath(place))
@@ -134,14 +150,17 @@ def main():
     words.add_argument("--runs", metavar="N", type=int, default=5)
     words.add_argument("--seed", metavar="N", type=int, default=7)
     words.add_argument("--folder", metavar="FOLDER")
-    given = words.parse_args()
-    given.program = os.path.abspath(given.program)
+    given = figures.read_words(words)
+    given.program, given.found = os.path.abspath(given.program), {}
     if not os.access(given.program, os.X_OK):
         sys.exit(f"lists.py: no program at {given.program}; ./reqs --help at the top builds it")
-    commands = ("reading, as `check`", "`same`, alike", "`same`, differing", "`conflicts`", "`normal`")
-    print("| lines | " + " | ".join(f"{it} s | MiB" for it in commands) + " |")
-    print("|" + "---|" * (1 + 2 * len(commands)))
-    failed = False
+    return given
+
+
+def main():
+    given, failed = read_words(), False
+    print("| lines | " + " | ".join(f"{it} s | MiB" for it in COMMANDS.values()) + " |")
+    print("|" + "---|" * (1 + 2 * len(COMMANDS)))
     with tempfile.TemporaryDirectory(prefix="lists-bench-") as room:
         for size in given.sizes:
             folder = os.path.join(given.folder or room, str(size))
@@ -150,6 +169,8 @@ def main():
         folder = os.path.join(given.folder or room, "cases")
         os.makedirs(folder, exist_ok=True)
         failed |= one_package(given, folder)
+    if given.write and not failed:
+        put(given)
     sys.exit(1 if failed else 0)
 
 

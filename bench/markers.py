@@ -1,7 +1,7 @@
 #!/usr/bin/env python3
 """Times the reading and the printing of markers: long chains of comparisons, many short ones, many clauses.
 
-    markers.py [PROGRAM] [--native PATH] [--runs N] [--lines N]
+    markers.py [PROGRAM] [--native PATH] [--runs N] [--lines N] [--write [--native-is TEXT]]
 
 PROGRAM is crates/pep508_marker_vectors/out/pep508_marker_vectors where none is named
 (`./build pep508_marker_vectors` makes it). A native program is called as `PATH marker --json`, with a marker
@@ -12,7 +12,8 @@ in the last or in all, 1,024 clauses of the same eleven extras, an `or` of some 
 reading these alone is timed beside. There the native program is called by `dnf` and `tree`. Processor seconds and peak
 memory are those of the whole process, the least of several runs. The exit status is 1 where an answer is wrong, where
 chains of 100,000 take more than 7 times as long as those of 20,000 (of extras 9 times: n of them make n nodes, each of
-which is looked for in an ordered table), or where a chain of 300,000 texts or versions takes more than 3 seconds.
+which is looked for in an ordered table), or where a chain of 300,000 texts or versions takes more than 3 seconds. With
+`--write` what was measured goes to bench/figures.json, if it is 0; TEXT tells what the native program is.
 """
 
 import argparse
@@ -20,6 +21,7 @@ import itertools
 import json
 import os
 import random
+import re
 import subprocess
 import sys
 import tempfile
@@ -27,6 +29,7 @@ import tempfile
 HERE = os.path.dirname(os.path.abspath(__file__))
 sys.dont_write_bytecode = True
 sys.path.insert(0, HERE)
+import figures  # noqa: E402
 from run import peak  # noqa: E402
 
 CRATE = os.path.join(HERE, "..", "crates", "pep508_marker_vectors")
@@ -48,7 +51,7 @@ def read_words():
     words.add_argument("--native", metavar="PATH")
     words.add_argument("--runs", metavar="N", type=int, default=5)
     words.add_argument("--lines", metavar="N", type=int, default=20000)
-    return words.parse_args()
+    return figures.read_words(words)
 
 
 def chain(key, word, size):
@@ -151,9 +154,19 @@ def workloads(lines):
     yield f"real markers {lines}: text", "text", "dnf", real_markers(lines)
 
 
+def put(words, took, of_native):
+    """Puts what was measured into the file of figures, by the workload and the program."""
+    made = {}
+    for program, found, of in (("ours", took, os.path.basename(words.program)), ("native", of_native, words.native_is)):
+        for workload, (seconds, memory) in found.items():
+            name = f"markers.{re.sub(r'[^0-9a-z]+', '_', workload)}.{program}"
+            made[f"{name}.cpu"], made[f"{name}.peak"] = (seconds, "s", of), (memory / 1024, "MiB", of)
+    figures.put(made)
+
+
 def main():
     words = read_words()
-    took = {}
+    took, of_native = {}, {}
     with tempfile.TemporaryDirectory() as folder:
         print("| workload | CPU s | peak KiB |" + (" native CPU s | native peak KiB |" if words.native else ""))
         for name, question, command, markers in workloads(words.lines):
@@ -162,6 +175,7 @@ def main():
             if words.native and command:
                 other = native(os.path.abspath(words.native), folder, command, markers)
                 row += [f"{other[0]:.3f}", str(other[1])]
+                of_native[name] = other
             print("| " + " | ".join(row) + " |")
     slow = [it for it in took if it.endswith(f" {MOST}") and is_slow(it, took)]
     for it in slow:
@@ -169,6 +183,8 @@ def main():
     long = [it for it in took if it.endswith(f" {LONG}") and took[it][0] > LONGEST_SECONDS]
     for it in long:
         print(f"markers: {it} takes more than {LONGEST_SECONDS} s", file=sys.stderr)
+    if words.write and not slow and not long:
+        put(words, took, of_native)
     return 1 if slow or long else 0
 
 

@@ -1,7 +1,7 @@
 #!/usr/bin/env python3
 """Measures `reqs matrix` beside `reqs check` for each environment, and beside Python's packaging.
 
-    matrix.py [PROGRAM] [--full] [--only NAME,..] [--sizes N,..] [--runs N] [--seed N] [--folder FOLDER]
+    matrix.py [PROGRAM] [--full] [--only NAME,..] [--sizes N,..] [--runs N] [--seed N] [--folder FOLDER] [--write]
 
 PROGRAM is crates/reqs_cli/out/reqs_cli where none is named. The workload of workload.py, of 1,000 lines and
 10,000 candidates, is asked for in N environments; of reqs and packaging only what --only names is measured. Then come
@@ -10,7 +10,7 @@ which no two hold together, which are 21; and one of 10,000 candidates, of which
 
 Times are processor seconds of whole processes, the least of several runs. `check` is run in at most 20 of the
 environments, and packaging in 1 and in 20; for more they are reckoned from these. All have to print the same. The exit status is
-1 where they don't, or where a target is missed.
+1 where they don't, or where a target is missed. With `--write` what was measured goes to bench/figures.json, if that is 0.
 """
 
 import argparse
@@ -25,13 +25,13 @@ import tempfile
 HERE = os.path.dirname(os.path.abspath(__file__))
 sys.dont_write_bytecode = True
 sys.path.insert(0, HERE)
-from run import numbers, peak, timed
+import figures
+from run import PACKAGING, numbers, peak, timed
 from workload import ENVIRONMENT, make_environments, make_workload
 
 LINES, CANDIDATES = 1000, 10000
 # In so many environments at most are `check` and packaging run.
 SAMPLE = 20
-PACKAGING = [sys.executable, os.path.join(HERE, "packaging_check.py")]
 FLAGS = "abcdefghijkl"
 
 
@@ -203,7 +203,7 @@ def read_words():
     words.add_argument("--runs", metavar="N", type=int, default=5)
     words.add_argument("--seed", metavar="N", type=int, default=7)
     words.add_argument("--folder", metavar="FOLDER", help="where the workloads and the rows are kept")
-    words = words.parse_args()
+    words = figures.read_words(words)
     words.only = words.only.split(",")
     if not set(words.only) <= {"reqs", "packaging"}:
         sys.exit("matrix.py: --only takes names of reqs, packaging")
@@ -212,10 +212,25 @@ def read_words():
     return words
 
 
+def write(words, found, which):
+    """Puts what was measured into the file of figures, by the kind of lines, the workload, the environments and the program."""
+    kind, made = "full" if words.full else "plain", {}
+    for it in found:
+        name = f"matrix.{kind}.{it.workload.name.replace(' ', '_').replace(',', '')}.{it.count}"
+        took = {"matrix": (it.matrix, it.peak), "check": (it.check, it.check_peak)} if it.matrix is not None else {}
+        for command, (seconds, memory) in took.items():
+            of = figures.version_of(words.program)
+            made[f"{name}.{command}.cpu"], made[f"{name}.{command}.peak"] = (seconds, "s", of), (memory / 1024, "MiB", of)
+        if it.packaging is not None:
+            made[f"{name}.packaging.cpu"] = it.packaging, "s", which
+    figures.put(made)
+
+
 def main():
-    words = read_words()
+    words, which = read_words(), None
     if "packaging" in words.only:
-        print(subprocess.run([*PACKAGING, "--which"], stdout=subprocess.PIPE, text=True, check=True).stdout)
+        which = subprocess.run([*PACKAGING, "--which"], stdout=subprocess.PIPE, text=True, check=True).stdout.strip()
+        print(f"{which}\n")
     print("| workload | environments | `matrix` s | peak MiB | `check` in each, s | peak MiB of one | check / matrix "
           "| `packaging` s | same |")
     print("|---|---|---|---|---|---|---|---|---|")
@@ -230,6 +245,8 @@ def main():
         is_met = value < most if "under" in name else value <= most
         print(f"{name}: {value:.3f}{'' if is_met else ', MISSED'}")
         failed += [] if is_met else [name]
+    if words.write and not failed:
+        write(words, found, which)
     return 1 if failed else 0
 
 

@@ -2,7 +2,7 @@
 """Times `reqs check` on N lines and N candidates of one package.
 
     one_package.py [PROGRAM] [--one-line] [--also SPECIFIER].. [--version FORM] [--sizes N,..] [--runs N]
-                   [--most SECONDS]
+                   [--most SECONDS] [--write]
 
 PROGRAM is crates/reqs_cli/out/reqs_cli where none is named (`./build` makes it). The lines are `pip!=K.5` in no
 order, and the candidates `pip K.0` rise, so that each of them lies above the best before it and each line takes
@@ -10,13 +10,15 @@ it: asked one by one that would be N times N questions. With --one-line one line
 is a line more, with {} for the number of the last candidate, which it has to take: `==={}.0`, `<{}.0.post1`. FORM is a
 candidate's version with {} for its number, `{}.0` where none is named: `{}.0+cpu` and `{}.0.post1` give each a local
 part and a post-release. Times are the least processor seconds of several runs of the whole process. The exit status is
-1 where an answer is wrong, or where 20,000 or fewer took longer than SECONDS, 1 by default.
+1 where an answer is wrong, or where 20,000 or fewer took longer than SECONDS, 1 by default. With `--write` the times
+go to bench/figures.json, if it is 0; not with --also or --version, by which they are of something else.
 """
 
 import json
 import os
 import random
 
+import figures
 from sized import measure, words_of
 from workload import ENVIRONMENT
 
@@ -46,8 +48,11 @@ def main():
     parser.add_argument("--one-line", action="store_true")
     parser.add_argument("--also", metavar="SPECIFIER", action="append", default=[])
     parser.add_argument("--version", metavar="FORM", default="{}.0")
-    words = parser.parse_args()
-    measure(words, lambda folder, size: prepare(folder, size, words), 20000)
+    words = figures.read_words(parser)
+    if words.write and (words.also or words.version != "{}.0"):
+        parser.error("--write goes with neither --also nor --version")
+    name = "one_package.one_line" if words.one_line else "one_package.lines"
+    measure(words, lambda folder, size: prepare(folder, size, words), 20000, name)
 
 
 main()

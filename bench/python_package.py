@@ -1,21 +1,29 @@
 #!/usr/bin/env python3
 """Times the Python package fowlyore beside packaging: the installed one, or else the copy inside pip.
 
-    python_package.py [LIBRARY]
+    python_package.py [LIBRARY] [--write]
 
 LIBRARY is libreqs.so, which `./build reqs_c` makes. Each time is the least of several runs, in microseconds of the processor for one
-operation, and the last column tells how many times as long packaging takes.
+operation, and the last column tells how many times as long packaging takes. Then come markers of pairs of extras, which are read
+into trees that are exponentially larger: the seconds for one reading. With `--write` it all goes to bench/figures.json.
 """
 
+import argparse
 import os
 import random
+import re
 import sys
 import time
 import timeit
 
-TOP = os.path.dirname(os.path.dirname(os.path.abspath(__file__)))
-os.environ["FOWLYORE_LIBRARY"] = (sys.argv[1:] or [os.path.join(TOP, "crates", "reqs_c", "out", "libreqs.so")])[0]
-sys.path.insert(0, os.path.join(TOP, "python"))
+sys.dont_write_bytecode = True
+import figures
+
+PARSER = argparse.ArgumentParser(description=__doc__, formatter_class=argparse.RawDescriptionHelpFormatter)
+PARSER.add_argument("library", nargs="?", default=os.path.join(figures.TOP, "crates", "reqs_c", "out", "libreqs.so"))
+WORDS = figures.read_words(PARSER)
+os.environ["FOWLYORE_LIBRARY"] = WORDS.library
+sys.path.insert(0, os.path.join(figures.TOP, "python"))
 
 import fowlyore  # noqa: E402
 
@@ -34,6 +42,10 @@ TEXTS = ["1.0", "2.31.0", "2024.1.0.dev3", "1.0a1", "1!2.3.post4+ubuntu.1"]
 LINE = "requests[socks]>=2.8.1,<3 ; python_version < '3.13' and extra == 'test'"
 MANY = 100_000
 RUNS = 7
+PAIRS = (12, 20)
+OURS, THEIRS = f"fowlyore {fowlyore.__version__}", f"packaging {packaging.__version__}, Python {sys.version.split()[0]}"
+# What was measured, by name.
+FOUND = {}
 
 
 def random_texts(count):
@@ -52,6 +64,9 @@ def least(call, times, of_each=1):
 
 def row(name, ours, theirs):
     print(f"{name:44} {ours:10.3f} {theirs:10.3f} {theirs / ours:7.1f}")
+    of = "python_package." + re.sub(r"\W+", "_", name).strip("_")
+    FOUND.update({f"{of}.fowlyore": (ours, "µs", OURS), f"{of}.packaging": (theirs, "µs", THEIRS),
+                  f"{of}.times": (theirs / ours, "times", f"{THEIRS} beside {OURS}")})
 
 
 def small():
@@ -81,7 +96,21 @@ def large():
     row(f"sorted, {MANY} versions, for one", *(least(lambda: sorted(those), 1, MANY) for those in versions))
 
 
+def pairs(number):
+    """The processor seconds for one reading of a marker of so many pairs of extras."""
+    text = " or ".join(f"extra == 'a{it}' and extra == 'b{it}'" for it in range(number))
+    began = time.process_time()
+    fowlyore.Marker(text)
+    took = time.process_time() - began
+    print(f"a marker of {number} pairs of extras: {took:.3f} s")
+    FOUND[f"python_package.pairs.{number}"] = took, "s", OURS
+
+
 if __name__ == "__main__":
-    print(f"{'':44} {'fowlyore':>10} {'packaging':>10} {'times':>7}   packaging {packaging.__version__}, Python {sys.version.split()[0]}")
+    print(f"{'':44} {'fowlyore':>10} {'packaging':>10} {'times':>7}   {THEIRS}")
     small()
     large()
+    for number in PAIRS:
+        pairs(number)
+    if WORDS.write:
+        figures.put(FOUND)

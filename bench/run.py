@@ -2,11 +2,12 @@
 """Measures `reqs check` beside Python's packaging, and beside a native program where one is named.
 
     run.py [PROGRAM] [--full] [--native PATH] [--only NAME,..] [--sizes N,..] [--runs N] [--seed N]
-           [--folder FOLDER]
+           [--folder FOLDER] [--write [--native-is TEXT]]
 
 PROGRAM is crates/reqs_cli/out/reqs_cli where none is named. A native program is called as
 `PATH bench REQUIREMENTS ENVIRONMENT CANDIDATES` and prints the rows. All have to print the same
-rows. Times are the least of several runs of the whole process.
+rows. Times are the least of several runs of the whole process. With `--write` wall times and peaks go
+to bench/figures.json where the rows are right; TEXT tells what the native program is.
 """
 
 import argparse
@@ -20,9 +21,11 @@ import time
 HERE = os.path.dirname(os.path.abspath(__file__))
 sys.dont_write_bytecode = True
 sys.path.insert(0, HERE)
+import figures
 from workload import write_workload
 
 SET_CHILD_SUBREAPER = 36
+PACKAGING = [sys.executable, os.path.join(HERE, "packaging_check.py")]
 
 
 def timed(command, out):
@@ -82,13 +85,12 @@ def read_words():
                        help="of packaging, which takes seconds, a third as many")
     words.add_argument("--seed", metavar="N", type=int, default=7)
     words.add_argument("--folder", metavar="FOLDER", help="where the workloads are kept")
-    return words.parse_args()
+    return figures.read_words(words)
 
 
-def main():
-    words = read_words()
-    packaging = [sys.executable, os.path.join(HERE, "packaging_check.py")]
-    heads = {"reqs": [words.program, "check"], "packaging": packaging}
+def heads_of(words):
+    """How each program is called that is measured."""
+    heads = {"reqs": [words.program, "check"], "packaging": PACKAGING}
     if words.native:
         heads["native"] = [words.native, "bench"]
     if words.only:
@@ -100,43 +102,72 @@ def main():
         if name in heads and not os.access(heads[name][0], os.X_OK):
             sys.exit(f"run.py: no program at {heads[name][0]}" + (
                 "; ./reqs --help at the top builds it" if name == "reqs" else ""))
+    return heads
 
+
+def measured(heads, words, size, folder):
+    """What each program takes, and what it prints: wall and processor time in ms, and its peak in KiB."""
+    inputs = write_workload(max(1, size // 10), size, words.seed, folder, words.full)
+    found, rows = {}, {}
+    for name, head in heads.items():
+        runs = words.runs if name != "packaging" else max(1, words.runs // 3)
+        command, out = head + inputs, os.path.join(folder, f"{name}.rows")
+        times = [timed(command, out) for _ in range(runs)]
+        with open(out, "rb") as file:
+            rows[name] = file.read()
+        found[name] = (min(it[0] for it in times), min(it[1] for it in times),
+                       max(peak(command) for _ in range(3)))
+    return found, rows
+
+
+def print_rows(size, found, rows):
+    """Prints a size's rows of the table. Returns the programs that print other rows than the first."""
+    first = next(iter(rows))
+    native, slow = found.get("native"), found.get("packaging")
+    others = [name for name in rows if rows[name] != rows[first]]
+    for name, (wall, cpu, memory) in found.items():
+        count = rows[name].count(b"\n")
+        print(f"| {size:,} | {max(1, size // 10):,} | {name} | {wall:.2f} | {cpu:.2f} | {memory:,} | "
+              + (f"{wall / native[0]:.2f} | {memory / native[2]:.2f} | " if native
+                 else "- | - | ")
+              + (f"{slow[0] / wall:.1f} | " if slow else "- | ")
+              + (f"{count:,}, NOT those of {first} |" if name in others else f"{count:,} |"),
+              flush=True)
+    return others
+
+
+def write(words, found, which):
+    """Puts the wall times and the peaks into the file of figures, by the kind of lines, the size and the program."""
+    of = {"reqs": lambda: figures.version_of(words.program), "packaging": lambda: which, "native": lambda: words.native_is}
+    kind, made = "full" if words.full else "plain", {}
+    for size, programs in found.items():
+        for name, (wall, _, memory) in programs.items():
+            took = (wall / 1e3, "s") if name == "packaging" else (wall, "ms")
+            made[f"run.{kind}.{size}.{name}.wall"] = (*took, of[name]())
+            made[f"run.{kind}.{size}.{name}.peak"] = (memory / 1024, "MiB", of[name]())
+    figures.put(made)
+
+
+def main():
+    words = read_words()
+    heads, which = heads_of(words), None
     if "packaging" in heads:
-        print(subprocess.run([*packaging, "--which"], stdout=subprocess.PIPE, text=True,
-                             check=True).stdout)
+        which = subprocess.run([*PACKAGING, "--which"], stdout=subprocess.PIPE, text=True, check=True).stdout.strip()
+        print(f"{which}\n")
     print("| candidates | lines | program | wall ms | CPU ms | peak KiB "
           "| wall / native | peak / native | packaging / wall | rows |")
     print("|---|---|---|---|---|---|---|---|---|---|")
-    differ = False
+    found, others = {}, set()
     with tempfile.TemporaryDirectory(prefix="reqs-bench-") as room:
         for size in words.sizes:
-            lines = max(1, size // 10)
-            folder = os.path.join(words.folder or room, str(size))
-            inputs = write_workload(lines, size, words.seed, folder, words.full)
-            found, rows = {}, {}
-            for name, head in heads.items():
-                runs = words.runs if name != "packaging" else max(1, words.runs // 3)
-                command, out = head + inputs, os.path.join(folder, f"{name}.rows")
-                times = [timed(command, out) for _ in range(runs)]
-                with open(out, "rb") as file:
-                    rows[name] = file.read()
-                found[name] = (min(it[0] for it in times), min(it[1] for it in times),
-                               max(peak(command) for _ in range(3)))
-            first = next(iter(rows))
-            native, slow = found.get("native"), found.get("packaging")
-            for name, (wall, cpu, memory) in found.items():
-                same = rows[name] == rows[first]
-                differ = differ or not same
-                count = rows[name].count(b"\n")
-                print(f"| {size:,} | {lines:,} | {name} | {wall:.2f} | {cpu:.2f} | {memory:,} | "
-                      + (f"{wall / native[0]:.2f} | {memory / native[2]:.2f} | " if native
-                         else "- | - | ")
-                      + (f"{slow[0] / wall:.1f} | " if slow else "- | ")
-                      + (f"{count:,} |" if same else f"{count:,}, NOT those of {first} |"),
-                      flush=True)
-    if differ:
+            found[size], rows = measured(heads, words, size, os.path.join(words.folder or room, str(size)))
+            others.update(print_rows(size, found[size], rows))
+    if others:
         print("\nThe programs do not print the same rows.")
-    return 1 if differ else 0
+    # (of lines of every kind a native program over upstream's own code takes other candidates: bench/README.md)
+    if words.write and others <= ({"native"} if words.full else set()):
+        write(words, found, which)
+    return 1 if others else 0
 
 
 if __name__ == "__main__":

@@ -7,6 +7,9 @@ import subprocess
 import sys
 import tempfile
 
+sys.dont_write_bytecode = True
+import figures
+
 CRATES = os.path.join(os.path.dirname(os.path.abspath(__file__)), "..", "crates")
 
 
@@ -35,13 +38,13 @@ def timed(command, folder):
     return ended.stdout.decode(), after.ru_utime + after.ru_stime - began.ru_utime - began.ru_stime
 
 
-def measure(words, prepare, limited):
+def measure(words, prepare, limited, name):
     """Prints a table of the least times by size, and ends the script: with 1 where an answer is wrong, or where a size
-    of at most `limited` took longer than it may.
+    of at most `limited` took longer than it may. Else the times are written where that is asked, under the name and the size.
 
     `prepare(folder, size)` writes the inputs, and returns the program's arguments and what it has to say.
     """
-    program = os.path.abspath(words.program)
+    program, made = os.path.abspath(words.program), {}
     failed = False
     print("   size  processor seconds")
     for size in words.sizes:
@@ -50,10 +53,13 @@ def measure(words, prepare, limited):
             runs = [timed([program, *arguments], folder) for _ in range(words.runs)]
         least = min(seconds for _, seconds in runs)
         print(f"{size:7}  {least:17.3f}", flush=True)
+        made[f"{name}.{size}.cpu"] = least, "s", os.path.basename(program)
         wrong = [said for said, _ in runs if said != answer]
         if wrong:
             print(f"  wrong: {wrong[0][-80:]}")
             failed = True
         if size <= limited and least > words.most:
             failed = True
+    if words.write and not failed:
+        figures.put(made)
     sys.exit(1 if failed else 0)

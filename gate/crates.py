@@ -77,12 +77,15 @@ class Crates(dict):
             self.below_of[name] = list(found.values())
         return self.below_of[name]
 
+    def around(self):
+        """What each proof rests on beside texts of crates: the toolchain and the handles that the repository allows."""
+        return toolchain_sum(), handles()
+
     def sum(self, name):
-        """The sum of all that a proof of the crate rests on: its own texts, those of the crates below, the toolchain
-        and the handles that the repository allows."""
+        """The sum of all that a proof of the crate rests on: its own texts, those of the crates below, and what is around."""
         if name not in self.sum_of:
             rests_on = [self.sum(it) for it in self[name].uses]
-            said = repr((toolchain_sum(), handles(), self[name].own_sum(), rests_on))
+            said = repr((*self.around(), self[name].own_sum(), rests_on))
             self.sum_of[name] = hashlib.sha256(said.encode()).hexdigest()
         return self.sum_of[name]
 

@@ -8,6 +8,7 @@ these texts in place of theirs, and no other.
 
 import collections
 import difflib
+import hashlib
 import os
 import re
 
@@ -15,6 +16,12 @@ from crates import PARTS, TOP
 
 FOLDER = os.path.join(TOP, "tests", "wrong")
 GATE = os.path.join(FOLDER, "gate.txt")
+JUDGED = os.path.join(FOLDER, "judged.txt")
+JUDGED_HEAD = """\
+# By crate the sum of its texts and its edits as they were when all of its edits were last tried (docs/GATE.md). The gate
+# tries all edits of a crate that differs, and `./test --wrong CRATE` writes its line anew. With `before` they were tried
+# before there was this list.
+"""
 NAME = re.compile(r"[A-Za-z0-9_-][A-Za-z0-9_.-]*\.edit")
 HEADER = re.compile(r"^( *)(?:pub(?:\([a-z]+\))? )?(?:unsafe |const |extern \"C\" )*fn (\w+)", re.M)
 BLOCK = re.compile(r"^(impl|(?:pub(?:\([a-z]+\))? )?trait)\b(.*?)\{", re.M | re.S)
@@ -58,6 +65,8 @@ class Edit:
         self.name = os.path.basename(path)[: -len(".edit")]
         self.label = f"{crate.name}/{self.name}"
         self.wrong = self.control = None
+        # (an edit that the gate always tries has to be refused beside others, which costs least)
+        self.may_be_alone = True
         try:
             with open(path, "rb") as file:
                 self.content = file.read()
@@ -191,7 +200,35 @@ def read_gate():
     return chosen, floors
 
 
+def judged_sum(crate, edits):
+    """The sum of a crate's texts and of its edits, which are given by name."""
+    total = hashlib.sha256(crate.own_sum().encode())
+    for name in sorted(edits):
+        total.update(repr((name, edits[name].content)).encode())
+    return total.hexdigest()[:16]
+
+
+def read_judged():
+    """What tests/wrong/judged.txt says: by crate a sum, and a word behind it or none."""
+    found = {}
+    with open(JUDGED, encoding="utf-8") as file:
+        for line in file:
+            name, equals, said = line.partition("#")[0].partition(" = ")
+            if equals:
+                found[name] = said.split()
+    return found
+
+
+def write_judged(sums, crates):
+    """Puts the sums of crates whose edits were all tried into tests/wrong/judged.txt."""
+    found = {**read_judged(), **{name: [it] for name, it in sums.items()}}
+    lines = [f"{it} = {' '.join(found[it])}\n" for it in crates if it in found]
+    with open(f"{JUDGED}.new", "w", encoding="utf-8") as file:
+        file.writelines([JUDGED_HEAD, *lines])
+    os.replace(f"{JUDGED}.new", JUDGED)
+
+
 def strays(crates):
     """Folders of tests/wrong/ that no crate has."""
     names = sorted(os.listdir(FOLDER))
-    return [it for it in names if it not in crates and it != "gate.txt" and not it.endswith(".md")]
+    return [it for it in names if it not in crates and it not in ("gate.txt", "judged.txt") and not it.endswith(".md")]

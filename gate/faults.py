@@ -2,14 +2,16 @@
 """Plants faults one by one in copies of the tree, and sees that the gate fails at each, with a store that holds
 all that is proved.
 
-    faults.py
+    faults.py [texts | proofs]      those that a part finds by reading texts, or those by proofs; or all
 
 A gate that takes from a store is worth as much as its sums: a crate whose text changed must never be taken. So a
 body, a contract, a definition, a proof, a line of crates.txt, a test and an answer are made wrong here, and so are the
-edits and an entry of the store. A copy has the crates of the fault and those below, so their sums are those of the
+edits; store_faults.py has those of the store. A copy has the crates of the fault and those below, so their sums are those of the
 tree. The last line is `N passed, M failed`, a fault each, and each copy without its fault.
 """
 
+import importlib
+import itertools
 import os
 import re
 import shutil
@@ -17,9 +19,8 @@ import subprocess
 import sys
 import tempfile
 
-import keys
 from crates import TOP, Crates
-from store import Store, default_folder
+from store import default_folder
 
 CLOSING = re.compile(r"^(?:[a-z]+: )?\d+ passed, (\d+) failed$", re.M)
 
@@ -45,13 +46,14 @@ class Fault:
             file.write(text.replace(self.old, self.new) if self.old else self.new)
 
 
+OF_TEXTS, OF_PROOFS = "texts", "proofs"
 PROVE, WRONG, HELD, NAMES = ["gate/prove.py"], ["gate/wrong.py"], ["gate/held.py"], ["gate/names.py"]
 LENT, CONSTANTS, FITS = ["gate/lent.py"], ["gate/constants.py"], [*WRONG, "--texts"]
 MUTANTS = ["gate/mutants.py", "--listed"]
-PACK = [*PROVE, "--program", "reqs_c"]
+PACK, FIGURES = [*PROVE, "--program", "reqs_c"], ["bench/figures.py", "--check"]
 DOCUMENTED = ["tests/documented.py", os.path.join(TOP, "crates", "reqs_cli", "out", "reqs_cli")]
 # The parts that prove nothing, and leave nothing in the tree.
-TEXTS = (HELD, MUTANTS, NAMES, LENT, CONSTANTS, FITS, DOCUMENTED)
+TEXTS = (HELD, MUTANTS, NAMES, LENT, CONSTANTS, FITS, FIGURES, DOCUMENTED)
 PYTHON_TESTS = "python/tests/test_specifiers.py"
 SPECIFIERS = "crates/reqs_versions/specs/Specifiers.antt"
 UNNOTICED = "reqs_versions.Versions.IsNoVersion: drop field is_utf8_text"
@@ -86,6 +88,9 @@ FAULTS = [
     Fault("an edit that is right", None, [*WRONG, "--gate", "underline"],
           "tests/wrong/underline/marks_are_the_blanks.edit", "",
           "file: src/lib.rt\nold: c.width().unwrap_or(0)\nnew: match c.width() { Some(it) => it, None => 0 }\n"),
+    Fault("an edit that is right, of a crate that changed", None, [*WRONG, "--gate", "underline"],
+          "tests/wrong/underline/dashes_for_blanks.edit", "",
+          "file: src/lib.rt\nold: c.width().unwrap_or(0)\nnew: match c.width() { Some(it) => it, None => 0 }\n"),
     Fault("a definition by the code's own table", None, CONSTANTS,
           "crates/reqs_ends/specs/Inputs.antt", "abbrev pub IsWithin :", "abbrev pub IsShort :"),
     Fault("a definition without one of its fields", None, HELD, SPECIFIERS,
@@ -99,6 +104,14 @@ FAULTS = [
           "        ensures grown { result ≡ Err errors.Memory → version_reading text.now ≢ Err NoLeadingNumber }\n", ""),
     Fault("a claim of README.md that says more", None, HELD, "README.md",
           "Every function is proved safe (", "Every function and the toolchain are proved safe ("),
+    Fault("another figure in README.md", None, FIGURES, "README.md", "cores (2.5 GHz) `check` takes ", "cores (2.5 GHz) `check` takes 1"),
+    Fault("a figure in README.md that nobody measured", None, FIGURES,
+          "README.md", "`./try` is the toolchain's unproved run", "`./try`, 30 times as fast as `./reqs`, is the toolchain's unproved run"),
+    Fault("a figure that README.md doesn't state", None, FIGURES, "bench/figures.json",
+          '  "sentences": [\n', '  "sentences": [\n    {"page": "README.md", "said": "it takes {building.answer} here"},\n'),
+    Fault("a figure of a command that is none", None, FIGURES, "bench/figures.json", "bench/building.py answer", "bench/answer.py"),
+    Fault("a limit in README.md that the code doesn't have", None, FIGURES, "bench/figures.json",
+          "An input has 16,777,216 bytes", "An input has 16,777,217 bytes"),
     Fault("another first answer in README.md", None, DOCUMENTED, "README.md", "    numpy none\n", "    numpy 2.0\n"),
     Fault("another answer in a document", None, DOCUMENTED, "docs/LISTS.md", "    numpy 2,7\n", "    numpy 2\n"),
     Fault("a test that is none", None, NAMES, "crates/pep508_url_tests/src/urls.rt",
@@ -109,27 +122,13 @@ FAULTS = [
     Fault("a lent call that is passed on", None, LENT,
           "crates/pep508_rs/src/lib.rt", "{Interner, MarkerTree}", "{Interner, MarkerTree, uncounted_conjunction}"),
     Fault("a matrix that keeps a copy of its requirements", None, LENT,
-          "crates/reqs/src/matrices.rt", "let mut table = table_of(alloc, requirements, interner, limit)?;",
+          "crates/reqs_answers/src/matrices.rt", "let mut table = table_of(alloc, requirements, interner, limit)?;",
           "let copy = copied_packages(alloc, &requirements, &[])?; let mut table = table_of(alloc, copy, interner, limit)?;"),
     Fault("a table that keeps its lines twice", None, LENT, "crates/reqtable_table/src/table.rt",
           "pub(crate) lines: Vec<TableLine>,", "pub(crate) lines: Vec<TableLine>, pub(crate) given: Vec<Given>,"),
     Fault("a library for C that isn't packed", "reqs_c", PACK, "tools/pack.sh", "set -eu\n", "exit 1\n"),
     Fault("no edits", None, FITS, "tests/wrong/gate.txt", "", ""),
 ]
-# Scripts that take a crate's tests for proved, and keep that.
-SLIP = Fault("tests that are taken for proved", "underline", PROVE, "gate/prove.py", "        # (a library is unpacked once", """\
-        if tests:
-            write(os.path.join(out, parts[0]), "")
-            self.keep(crate, entry, tests)
-            remove(os.path.join(out, parts[0]))
-            return 0
-        # (a library is unpacked once""")
-# Prints the name of the entry of a crate's tests.
-ENTRY = """import sys
-sys.path.insert(0, "gate")
-import prove, store, toolchain
-print(prove.Prover(toolchain.load(), store.Store()).entry("underline", True))
-"""
 
 
 def copy_of(crate, room):
@@ -187,54 +186,28 @@ def judged_by_proofs(faults):
             yield name, judged(faults[at], is_planted, room)
 
 
-def taken_over():
-    """Why the gate takes over a failing test what it may not, or None: what scripts kept that prove no tests, and an entry of
-    tests without their program."""
-    test = next(it for it in FAULTS if it.new == LAST_USE + FAILING_TEST)
-    with tempfile.TemporaryDirectory() as folder, tempfile.TemporaryDirectory(prefix="reqs-faults-") as room:
-        copy_of("underline", room)
-        test.plant(room)
-        SLIP.plant(room)
-        status, said = ran(PROVE, room, folder)
-        if status:
-            return f"the scripts that prove no tests failed: {said[-300:]}"
-        shutil.copy2(os.path.join(TOP, SLIP.path), os.path.join(room, SLIP.path))
-        status, said = ran(PROVE, room, folder)
-        if status == 0 or FAILING not in said:
-            return f"what such scripts kept was taken: status {status}: {said[-300:]}"
-        name = ran(["-c", ENTRY], room, folder)[1].strip()
-        Store(folder).keep(name, room, ["HANDLES"])
-        status, said = ran(PROVE, room, folder)
-        if status == 0 or FAILING not in said:
-            return f"an entry without its program was taken: status {status}: {said[-300:]}"
-    return None
+def told(groups):
+    """Each fault's name, and why the gate isn't as it has to be at it, or None; so of each copy without its fault."""
+    for faults in groups:
+        yield from judged_by_texts(faults) if faults[0].words in TEXTS else judged_by_proofs(faults)
 
 
-def cut_short():
-    """Why an entry of the store that is cut short is taken, or None: the crate has to be proved in its place."""
-    with tempfile.TemporaryDirectory(prefix="reqs-faults-") as room, tempfile.TemporaryDirectory() as folder:
-        copy_of("read_outcome", room)
-        entry, parts = f"{keys.of_proof(Crates(), 'read_outcome')}.library", ["rlib/read_outcome.rlib"]
-        store = Store(folder)
-        with open(Store().path("packed", f"{entry}.tar.gz"), "rb") as whole:
-            with open(store.path("packed", f"{entry}.tar.gz"), "wb") as part:
-                part.write(whole.read()[:-1000])
-        if store.take(entry, room, parts):
-            return "it was taken"
-        _, said = ran(PROVE, room, folder)
-    return None if "gate: 1 proved, 0 taken" in said else "the crate was not proved anew"
-
-
-def main():
-    passed = failed = 0
-    told, groups = [], {}
+def groups_of(kind):
+    """The faults that are tried together: those that are found by reading texts, or by proofs, or all."""
+    groups = {}
     for it in FAULTS:
-        groups.setdefault((it.crate, *it.words), []).append(it)
-    for faults in groups.values():
-        told += judged_by_texts(faults) if faults[0].words in TEXTS else judged_by_proofs(faults)
-    told.append(("an entry that is cut short", cut_short()))
-    told.append(("a failing test that the store knows otherwise", taken_over()))
-    for name, why in told:
+        if kind in (None, OF_TEXTS if it.words in TEXTS else OF_PROOFS):
+            groups.setdefault((it.crate, *it.words), []).append(it)
+    return groups.values()
+
+
+def main(words):
+    if words not in ([], [OF_TEXTS], [OF_PROOFS]):
+        print(__doc__, file=sys.stderr)
+        return 2
+    kind, passed, failed = words[0] if words else None, 0, 0
+    of_the_store = () if kind == OF_TEXTS else importlib.import_module("store_faults").told()
+    for name, why in itertools.chain(told(groups_of(kind)), of_the_store):
         print(f"FAILED: {name}: {why}" if why else f"{name}: as it has to be", flush=True)
         passed, failed = passed + (why is None), failed + (why is not None)
     print(f"{passed} passed, {failed} failed")
@@ -242,4 +215,4 @@ def main():
 
 
 if __name__ == "__main__":
-    sys.exit(main())
+    sys.exit(main(sys.argv[1:]))

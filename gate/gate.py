@@ -16,6 +16,7 @@ Parts that run programs are run side by side.
 
 import os
 import re
+import resource
 import shutil
 import subprocess
 import sys
@@ -24,8 +25,9 @@ from concurrent.futures import ThreadPoolExecutor
 
 import accept
 import keys
+import verdicts
 from crates import TOP, Crates, toolchain_sum
-from faults import FAULTS
+from faults import OF_PROOFS, OF_TEXTS, groups_of
 from store import Store
 
 CLOSING = re.compile(r"^(?:[a-z]+: )?(\d+) passed, (\d+) failed$", re.M)
@@ -36,9 +38,8 @@ NOTHING, RELEASE = "--from-nothing", "--release"
 SCRIPTS = {"--wrong": (["wrong.py"], ["mutants.py", "--again"]), "--mutants": (["mutants.py"],), "--faults": (["faults.py"],)}
 QUESTIONS = ("pep440_vectors", "pep508_vectors", "pep508_marker_vectors")
 # What of tests/ the parts read that run programs.
-OF_REQS = ("alike.py", "cli.sh", "documented.py", "drawn.py", "help.txt", "install.sh", "lists", "objects.py", "pages", "pairs.py", "refuse.c", "refused.py",
-           "refused.sh", "runs.json", "runs.py", "sizes.py", "try.sh")
-
+OF_REQS = ("alike.py", "cli.sh", "documented.py", "drawn.py", "help.txt", "install.sh", "lists", "objects.py", "pages", "pairs.py",
+           "refuse.c", "refused.py", "refused.sh", "runs.json", "runs.py", "sizes.py", "try.sh")
 OF_C = ("c", "c.py", "c.sh", "refuse.c", "runs.json")
 
 
@@ -54,13 +55,15 @@ class Part:
         if not self.rests_on:
             return None
         programs = [keys.of_proof(crates, it) for it in self.programs]
-        return f"{keys.summed((self.name, toolchain_sum(), programs, keys.of_part(self.words, self.rests_on)))}.part"
+        return f"{keys.summed((self.name, toolchain_sum(), programs, verdicts.of_part(self.words, self.rests_on)))}.part"
 
 
 def parts(more):
     """The parts that are run one after another, and those that are then run side by side."""
     python = [sys.executable]
     of_reqs = ("examples", "reqs", "build", "install", "share", "try", *(f"tests/{it}" for it in OF_REQS))
+    # (that its answers are right the command line says)
+    of_try = ("build", "crates.txt", "crates/reqs_cli/src", "examples/spelling", "tests/help.txt", "tests/try.sh", "try")
     of_c = ("build", "docs/C.md", "gate/prove.py", "include", "tools")
     licences = ("LICENSE-APACHE", "LICENSE-BSD")
     of_pack = (*licences, "build", "examples", "gate/prove.py", "include", "pack", "tools")
@@ -74,7 +77,8 @@ def parts(more):
         Part("calls and least counts", [*python, "gate/asked.py"]),
         Part("constants in definitions", [*python, "gate/constants.py"]),
         Part("statements held", [*python, "gate/held.py"]),
-        Part("mutants tried", [*python, "gate/mutants.py", "--listed"]),
+        Part("definitions weakened", [*python, "gate/mutants.py", "--listed"]),
+        Part("figures", [*python, "bench/figures.py", "--check"]),
         Part("tests by name", [*python, "gate/names.py"]),
         Part("lent calls", [*python, "gate/lent.py"]),
         Part("proofs and wrong edits", [*python, "gate/together.py", *more], closings=2),
@@ -82,7 +86,7 @@ def parts(more):
         Part("command line", ["bash", "tests/cli.sh"], ["reqs_cli"], [*of_reqs, "README.md", "docs"]),
         Part("answers compared", [*python, "tests/alike.py", "1000"], ["reqs_cli"], of_reqs),
         Part("lists compared", [*python, "tests/pairs.py", "500"], ["reqs_cli"], of_reqs),
-        Part("a first answer", ["bash", "tests/try.sh"], ["reqs_cli"], of_reqs),
+        Part("a first answer", ["bash", "tests/try.sh"], [], of_try),
         Part("installing", ["bash", "tests/install.sh"], ["reqs_cli"], of_reqs),
         Part("refused memory", ["bash", "tests/refused.sh"], ["reqs_cli", *QUESTIONS], [*of_reqs, *asked]),
         Part("library for C", ["bash", "tests/c.sh"], ["reqs_c"], [*of_c, "examples", *(f"tests/{it}" for it in OF_C)]),
@@ -90,8 +94,14 @@ def parts(more):
         Part("lists in pieces", [*python, "tests/index.py"], ["reqs_c", "reqs_cli"], of_index),
         Part("Debian package", ["bash", "tests/deb.sh"], ["reqs_c", "reqs_cli"], of_deb),
         Part("Rust crate", ["bash", "tests/rust.sh"], ["reqs_c"], [*of_c, *licences, "rust", "tests/rust.sh", "tests/rust"]),
-        Part("faults", [*python, "gate/faults.py"], ["underline"], ["gate", *sorted({it.path for it in FAULTS})]),
+        Part("faults in texts", [*python, "gate/faults.py", OF_TEXTS], ["reqs_cli"], of_faults(OF_TEXTS)),
+        Part("faults in proofs", [*python, "gate/faults.py", OF_PROOFS], ["underline"], of_faults(OF_PROOFS)),
     ]
+
+
+def of_faults(kind):
+    """What the verdict rests on that the gate fails at each fault of a kind."""
+    return ["gate", *sorted({it.path for group in groups_of(kind) for it in group})]
 
 
 def run(part, show):
@@ -146,22 +156,24 @@ def are_built(programs):
 
 
 def gate(more, demands_all):
-    store, crates = Store(reads=not more), Crates()
+    began, store, crates = time.monotonic(), Store(reads=not more), Crates()
     alone, together = parts(more)
-    verdicts = [judged(it, crates, store, lambda text: print(text, end="", flush=True)) for it in alone]
+    counted = [judged(it, crates, store, lambda text: print(text, end="", flush=True)) for it in alone]
     if are_built(["reqs_cli", "reqs_c", *QUESTIONS]):
         # (found once, before all ask for it)
-        keys.versions()
+        verdicts.versions()
         with ThreadPoolExecutor() as pool:
-            verdicts += pool.map(lambda part: judged_apart(part, crates, store), together)
+            counted += pool.map(lambda part: judged_apart(part, crates, store), together)
     else:
         print("test: the programs and the library for C were not built, so nothing that runs them was tried")
-        verdicts.append((0, len(together), []))
-    left = [it for verdict in verdicts for it in verdict[2]]
-    passed, failed = (sum(it[at] for it in verdicts) for at in (0, 1))
+        counted.append((0, len(together), []))
+    left = [it for part in counted for it in part[2]]
+    passed, failed = (sum(it[at] for it in counted) for at in (0, 1))
     if left:
         print("test: left out, though a release needs all of it (./test --release):", *left, sep="\n    ")
     failed += len(left) if demands_all else 0
+    used = resource.getrusage(resource.RUSAGE_CHILDREN)
+    print(f"test: {time.monotonic() - began:.0f} s, {used.ru_utime + used.ru_stime:.0f} processor seconds")
     print(f"{passed} passed, {failed} failed")
     return 1 if failed else 0
 

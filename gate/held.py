@@ -5,8 +5,9 @@
 
 A proof says no more than its statement, so none may change unseen. The list has each definition of specs/ and each
 part of a public contract (statements.py and clauses.py say which) by name, with the sum of its text and of the imports
-of the names in it; so it has what README.md says is proved (claims.py). One that differs, is new or is gone fails; `./test --accept NAME..` takes it. A change of comments or
-of layout is none. The last line is `N passed, M failed`, a name each.
+of the names in it; so it has what README.md says is proved (claims.py). One that differs, is new or is gone fails;
+`./test --accept NAME..` takes it. A change of comments or of layout is none. The last line is `N passed, M failed`, a
+name each.
 """
 
 import re

@@ -1,32 +1,18 @@
-"""What a kept verdict rests on beside the texts that it judges: the scripts that make it, and what these call and look at.
+"""The names in the store of what was proved: a sum of all that a proof rests on, and of the scripts that judge it.
 
-A name in the store is a sum of both. So a slip in a script leaves nothing that the mended script takes.
+So a slip in a script leaves nothing that the mended script takes. verdicts.py has the names of all other verdicts.
 """
 
-import ast
 import functools
-import glob
 import hashlib
 import os
-import re
-import subprocess
 import sys
 
-from crates import TOP, sum_of_files
+from crates import TOP, sum_of_files, toolchain_sum
 
-# The scripts that say whether a crate is proved, and those that say whether an edit is refused.
-OF_PROOFS = tuple(f"gate/{it}.py" for it in ("crates", "keys", "lanes", "prove", "store", "together", "toolchain"))
-OF_EDITS = (*OF_PROOFS, "gate/edits.py", "gate/wrong.py")
-OF_PARTS = ("gate/crates.py", "gate/gate.py", "gate/keys.py", "gate/store.py")
-# What the parts that run programs call.
-TOOLS = ("ar", "bash", "cargo", "cc", "dpkg", "dpkg-deb", "ld", "mypy", "nm", "objcopy", "rustc", "strip")
-MODULES = "import sys; print(sys.version)", "import pip; print(pip.__version__)", "import distributed; print(distributed.__version__)"
-# Variables on which no verdict rests: where things lie, how many jobs there are, and what the shell sets by itself.
-IDLE = {"BASH_SOURCE", "COMPREPLY", "COMP_CWORD", "COMP_WORDS", "FOWLYORE_CACHE", "HOME", "PATH", "PIPESTATUS", "PWD", "RT_JOBS",
-        "TMPDIR", "XDG_CACHE_HOME"}
-LOOKS_AT = re.compile(r"\$\{?([A-Z][A-Z0-9_]+)|\benviron(?:\.get\(|\.pop\(|\[)\"(\w+)\"|\benv::var(?:_os)?\(\"(\w+)\"")
-# How a script of the shell names another; of crates.txt each program's sum has its part.
-CALLS = re.compile(r"\$\{?(?:top|here)\}?\"?/(?!crates)([\w./-]*\w)")
+# The scripts that say whether a crate is proved from nothing, and those that say so of an everyday run.
+OF_PROOFS = tuple(f"gate/{it}.py" for it in ("crates", "keys", "lanes", "prove", "prover", "store", "together", "toolchain"))
+OF_KEPT = (*OF_PROOFS, "gate/kept.py")
 
 
 def summed(said):
@@ -40,78 +26,20 @@ def scripts_sum(scripts):
 
 
 def of_proof(crates, name):
-    """The sum of all that the verdict on a crate's proof rests on."""
+    """The sum of all that the verdict on a crate's proof from nothing rests on."""
     return summed((crates.sum(name), scripts_sum(OF_PROOFS)))
 
 
-def of_edit(crates, name, content):
-    """The same of an edit of a crate, whose file has this content."""
-    return summed((crates.sum(name), hashlib.sha256(content).hexdigest(), scripts_sum(OF_EDITS)))
+def of_everyday_proof(crates, name):
+    """The same of a proof for which the store's kept work was looked at, whether there was any or not."""
+    return summed((crates.sum(name), scripts_sum(OF_KEPT), "everyday"))
 
 
-def of_part(words, rests_on):
-    """The same of a part of the gate that is run by these words and rests on these files and folders."""
-    scripts = reached(it for it in (*words, *rests_on) if not os.path.isabs(it) and os.path.isfile(os.path.join(TOP, it)))
-    inside = [it for of in rests_on for it in glob.glob(os.path.join(TOP, of, "**", "*.[pr][ys]"), recursive=True)]
-    looked_at = variables([*scripts, *(os.path.relpath(it, TOP) for it in inside)])
-    files = sum_of_files(os.path.join(TOP, it) for it in rests_on)
-    return summed((words, files, scripts_sum((*OF_PARTS, *scripts)), looked_at, versions()))
+def of_own_texts(crates, name):
+    """The sum of a crate's own texts, and of the scripts that prove it."""
+    return summed((toolchain_sum(), crates[name].own_sum(), scripts_sum(OF_KEPT)))
 
 
-def reached(scripts):
-    """Scripts with those that they import, and in the shell those that they call by their place below the top."""
-    found, left = set(), [*scripts]
-    while left:
-        script = left.pop()
-        if script not in found:
-            found.add(script)
-            left += imports(script) if script.endswith(".py") else calls(script)
-    return tuple(sorted(found))
-
-
-def text_of(script):
-    with open(os.path.join(TOP, script), encoding="utf-8", errors="replace") as file:
-        return file.read()
-
-
-def imports(script):
-    for it in ast.walk(ast.parse(text_of(script))):
-        names = [of.name for of in it.names] if isinstance(it, ast.Import) else [it.module] if isinstance(it, ast.ImportFrom) else []
-        for name in filter(None, names):
-            for folder in dict.fromkeys((os.path.dirname(script), "gate", "tests", "bench")):
-                path = os.path.join(folder, f"{name}.py")
-                if os.path.isfile(os.path.join(TOP, path)):
-                    yield path
-                    break
-
-
-def calls(script):
-    for it in CALLS.findall(text_of(script)):
-        if os.path.isfile(os.path.join(TOP, it)):
-            yield os.path.normpath(it)
-
-
-def variables(scripts):
-    """The variables that scripts look at, with their values."""
-    names = {name for it in scripts for found in LOOKS_AT.findall(text_of(it)) for name in found if name}
-    return [(it, os.environ.get(it)) for it in sorted(names - IDLE)]
-
-
-@functools.lru_cache(maxsize=None)
-def versions():
-    """What each tool and interpreter says of its version, or that it isn't there."""
-    asked = [[it, "--version"] for it in (*TOOLS, os.environ.get("CC") or "cc")]
-    pyenv = os.environ.get("PYENV_ROOT") or os.path.expanduser("~/.pyenv")
-    pythons = [sys.executable, "/usr/bin/python3", *(f"python3.{it}" for it in range(8, 21))]
-    pythons += sorted(glob.glob(os.path.join(pyenv, "versions", "3.*", "bin", "python3")))
-    asked += [[it, "-c", MODULES[0]] for it in pythons]
-    asked += [[it, "-c", said] for it in pythons[:2] for said in MODULES[1:]]
-    return tuple((words[0], said_by(words)) for words in asked)
-
-
-def said_by(words):
-    try:
-        ran = subprocess.run(words, stdin=subprocess.DEVNULL, stdout=subprocess.PIPE, stderr=subprocess.DEVNULL, errors="replace")
-    except OSError:
-        return None
-    return ran.stdout if ran.returncode == 0 else None
+def of_kept_work(crates, name):
+    """The sum under which kept work is a crate's. What else that rests on the prover looks at."""
+    return summed((of_own_texts(crates, name), "work"))

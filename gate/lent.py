@@ -23,8 +23,8 @@ BORROWERS = ("pep508_conjunctions", "pep508_requirement", "pep508_simplification
 LENT = {
     "uncounted_conjunction": ("pep508_tree", BORROWERS),
     "conjunction_of_all": ("pep508_conjunctions", ("pep508_marker_read",)),
-    "copied_packages": ("reqtable_requirements", ("reqtable_conflicts", "reqs_tests")),
-    "packages_table": ("reqtable_conflicts", ("reqtable_compare",)),
+    "copied_packages": ("reqtable_requirements", ("reqtable_packages", "reqs_tests")),
+    "packages_table": ("reqtable_packages", ("reqtable_conflicts", "reqtable_compare")),
 }
 PASSED_ON = re.compile(r"\bpub use ([^;]+);")
 KEPT = {

@@ -30,9 +30,10 @@ import toolchain
 from crates import Crates
 from edits import Misfit
 from faults import copy_of
+from kept import prover_of
 from lanes import Task
 from mutant_lists import NO_REASON, Lists, items_of, judged
-from prove import SECONDS, Chain, Prover, read, write
+from prover import SECONDS, Chain, read, write
 from resting import crates_naming, edits_resting_on
 from statements import specs_of
 from store import Store, default_folder
@@ -208,8 +209,9 @@ class Trial:
 def linked_store(folder):
     """A store that has what the store has."""
     here = Store(folder)
-    for it in os.listdir(os.path.join(default_folder(), "packed")):
-        os.link(os.path.join(default_folder(), "packed", it), here.path("packed", it))
+    for kind in ("packed", "told"):
+        for it in os.listdir(os.path.join(default_folder(), kind)):
+            os.symlink(os.path.join(default_folder(), kind, it), here.path(kind, it))
 
 
 class Run:
@@ -217,7 +219,7 @@ class Run:
 
     def __init__(self, items, chosen, looks_above, is_again):
         self.items, self.chosen, self.is_again = items, chosen, is_again
-        self.trial = Trial(Prover(toolchain.load(), Store()), looks_above)
+        self.trial = Trial(prover_of(False), looks_above)
         self.turn, self.passed, self.failed = threading.Lock(), 0, 0
 
     def run(self):

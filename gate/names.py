@@ -25,7 +25,7 @@ HEAD = "Each test by its name, and of examples how many there are: docs/GATE.md.
 TEST = re.compile(r"#\[test\]\s*(?:#\[[^\]]*\]\s*)*(?:pub )?fn (\w+)")
 # How a shell script makes a check, and what a call of Python that makes one is named.
 CHECK = re.compile(r"""^\s*(?:wants|holds|judge) (?:"((?:\\.|[^"\\])*)"|'([^']*)')""", re.M)
-CALLS = ("wants", "holds", "Part", "Fault")
+CALLS = ("wants", "holds", "Part", "Fault", "Tried")
 RUNS = ("runs", "worked", "matrix", "lists")
 
 
@@ -77,7 +77,7 @@ def checks():
     for path, text in texts("tests/*.sh"):
         for it in CHECK.finditer(text):
             yield f"{path}: {it[1] or it[2]}", f"{path}:{line_of(text, it.start())}"
-    for path, text in texts("tests/**/*.py", "gate/gate.py", "gate/faults.py"):
+    for path, text in texts("tests/**/*.py", "gate/gate.py", "gate/faults.py", "gate/store_faults.py"):
         for it in ast.walk(ast.parse(text)):
             name = it.func if isinstance(it, ast.Call) else None
             if getattr(name, "id", getattr(name, "attr", "")) in CALLS and it.args:

@@ -9,7 +9,7 @@ import re
 from clauses import apart
 from edits import HEADER, edits_of
 from mutant_lists import items_of
-from prove import read
+from prover import read
 from statements import NAMES, specs_of
 
 

@@ -1,8 +1,8 @@
 """The store of what was proved: a folder outside the tree, by sums of all that a proof rests on.
 
 It stands in $FOWLYORE_CACHE, else in $XDG_CACHE_HOME/fowlyore, else in ~/.cache/fowlyore. It holds folders (a proved
-library, a built program), packed, and verdicts, a line each. An entry is written beside and renamed, so that half of
-one is never taken; what was not taken for longest goes first once all is more than MOST_BYTES. Who can write the store
+library, a built program), packed, and verdicts, a line each. An entry is written beside and renamed, and its sum is a
+verdict, so that half of one, or a damaged one, is never taken; what was not taken for longest goes first once all is more than MOST_BYTES. Who can write the store
 decides what a gate that reads it takes for proved.
 """
 
@@ -14,7 +14,9 @@ import tempfile
 import time
 import zlib
 
-MOST_BYTES = 6_000_000_000
+from crates import sum_of_file
+
+MOST_BYTES = 10_000_000_000
 # A file that was being written for longer than this was left by a run that was killed.
 LEFT_OVER = 6 * 3600
 FULL = (errno.ENOSPC, errno.EDQUOT)
@@ -63,9 +65,12 @@ class Store:
             return False
 
     def take(self, name, folder, parts):
-        """Unpacks an entry below a folder. Says whether it was there, and whole, with these in it."""
+        """Unpacks an entry below a folder. Says whether it was there, and as it was written, with these in it."""
         path = self.path("packed", f"{name}.tar.gz")
         if not self.reads or not os.path.isfile(path):
+            return False
+        if self.verdict(f"{name}.sum") != sum_of_file(path):
+            remove(path)
             return False
         try:
             with tempfile.TemporaryDirectory(dir=folder, prefix=".taken-") as room:
@@ -93,6 +98,7 @@ class Store:
             with os.fdopen(made, "wb") as file, tarfile.open(fileobj=file, mode="w:gz", compresslevel=1) as packed:
                 for it in parts:
                     packed.add(os.path.join(folder, it), arcname=it)
+            self.keep_verdict(f"{name}.sum", sum_of_file(written))
             os.replace(written, self.path("packed", f"{name}.tar.gz"))
             self.drop_oldest()
         except (OSError, tarfile.TarError):

@@ -15,8 +15,8 @@ import sys
 
 import toolchain
 from crates import TOP
-from prove import Prover, all_crates
-from store import Store
+from kept import prover_of
+from prover import all_crates
 from wrong import Trial, end_on_signals, read_edits
 
 
@@ -25,8 +25,7 @@ def main(words):
         print(__doc__, file=sys.stderr)
         return 2
     try:
-        store = Store(reads=not words)
-        prover = Prover(toolchain.load(), store)
+        prover = prover_of(bool(words))
     except toolchain.Unknown as error:
         print(f"gate: gate/toolchain.py doesn't know this rt ({error}), so no store is used and no edit tried", file=sys.stderr)
         subprocess.run(["rt", "ci"], cwd=TOP)
@@ -36,7 +35,7 @@ def main(words):
     # (`rt` runs tests as another user, who has to come to what it writes there)
     os.chmod(room, 0o711)
     edits, amiss = read_edits(prover.crates, [], True)
-    trial = Trial(prover, store, False)
+    trial = Trial(prover, prover.store)
     left = trial.left_of(edits)
     prover.more_tasks = lambda: trial.tasks(left, lambda crate: [(it.name, "proof") for it in prover.crates.below(crate.name)])
     status = all_crates(prover)

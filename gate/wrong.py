@@ -13,9 +13,10 @@ stand together in one check, which tells of each function by itself: an edit is 
 function that it changes is told as not proved, and not only since a proof file names what the edit took
 away. Controls stand together in checks of their own.
 
-With --gate an edit that isn't told as refused so has failed. Otherwise it is tried once more alone, and an
-edit of a definition, which is no function's, by a check of the whole crate; and what the store lacks of the
-libraries is proved first.
+With --gate an edit of gate.txt that isn't told as refused so has failed; and all edits are tried of a crate
+whose texts or edits aren't those of tests/wrong/judged.txt. Other edits are then tried once more alone, and an
+edit of a definition, which is no function's, by a check of the whole crate. Without --gate what the store
+lacks of the libraries is proved first, and what passed of a whole crate is written into judged.txt.
 
 A verdict is kept in the store by the sum of all that it rests on, and what has one isn't tried again; with
 --from-nothing none is taken. An edit that is refused has passed, and so has a control that is proved. The
@@ -31,12 +32,13 @@ import tempfile
 import threading
 import time
 
-import keys
 import toolchain
+import verdicts
 from crates import Crates
-from edits import FLOORS, Misfit, edits_of, read_gate, strays
+from edits import FLOORS, Misfit, edits_of, judged_sum, read_gate, read_judged, strays, write_judged
+from kept import prover_of
 from lanes import Task
-from prove import SECONDS, Chain, Prover
+from prover import SECONDS, Chain
 from store import Store
 
 # Where one of the edits in a check doesn't compile, the check tells of none.
@@ -127,15 +129,16 @@ def batches(edits, change_of):
 class Trial:
     """Tries edits and counts what passes."""
 
-    def __init__(self, prover, verdicts, tries_alone):
-        self.prover, self.verdicts, self.tries_alone = prover, verdicts, tries_alone
+    def __init__(self, prover, verdicts):
+        self.prover, self.verdicts = prover, verdicts
+        self.failing = set()
         self.passed = self.failed = self.taken = self.tried = self.checks = self.ended = 0
         self.told, self.own_sums = {}, {}
         self.turn, self.began = threading.RLock(), time.monotonic()
 
     def key(self, edit):
         """The name of an edit's verdict: the sum of all that it rests on."""
-        return f"{keys.of_edit(self.prover.crates, edit.crate.name, edit.content)}.edit"
+        return f"{verdicts.of_edit(self.prover.crates, edit.crate.name, edit.content)}.edit"
 
     def verdict(self, edit):
         return "refused; control proved" if edit.control else "refused"
@@ -153,6 +156,7 @@ class Trial:
         """Counts what came of an edit or of its control, and keeps the verdict once both have passed."""
         with self.turn:
             self.passed, self.failed = self.passed + is_good, self.failed + (not is_good)
+            self.failing |= set() if is_good else {edit.crate.name}
             if words:
                 print(f"{'note' if is_good else 'FAILED'}: {edit.label}: {words}", flush=True)
             told = self.told.setdefault(edit.label, [])
@@ -172,7 +176,7 @@ class Trial:
         for it in edits:
             if AT_A_VALUE in [refusal(at, said, it.crate.name) for at in it.wrong.functions]:
                 self.record(it, True)
-            elif not self.tries_alone:
+            elif not it.may_be_alone:
                 self.record(it, False, not_refused(said))
             elif len(edits) == 1:
                 self.judge_alone(it, said)
@@ -253,10 +257,10 @@ class Trial:
         for batch, texts in batches([it for it in controlled if it.control.named], lambda it: it.control):
             yield self.try_controls, "controls", batch, texts
         for it in controlled:
-            if not it.control.named and self.tries_alone:
+            if not it.control.named and it.may_be_alone:
                 yield self.try_control_by_whole_check, "controls of definitions", [it], it.control.over({})
         for it in edits:
-            if it not in at_functions and self.tries_alone:
+            if it not in at_functions and it.may_be_alone:
                 yield self.try_by_whole_check, "edits of definitions", [it], {}
             elif it not in at_functions:
                 self.record(it, False, "it changes no function, so the gate can't try it")
@@ -289,13 +293,13 @@ class Trial:
 
 
 def try_edits(edits, is_gate, is_from_nothing):
-    """Tries edits, and returns how many of them and of their controls passed and failed."""
+    """Tries edits, and returns how many of them and of their controls passed and failed, and the crates of which some failed."""
     try:
-        prover = Prover(toolchain.load(), Store())
+        prover = prover_of(False)
     except toolchain.Unknown as error:
         print(f"FAILED: gate/toolchain.py doesn't know this toolchain's rt ({error}), so no edit was tried")
-        return 0, len(edits)
-    trial = Trial(prover, Store(reads=not is_from_nothing), not is_gate)
+        return 0, len(edits), {it.crate.name for it in edits}
+    trial = Trial(prover, Store(reads=not is_from_nothing))
     left = trial.left_of(edits)
     names = [it for it in prover.crates if it in {edit.crate.name for edit in left}]
     if names and not is_gate:
@@ -303,7 +307,7 @@ def try_edits(edits, is_gate, is_from_nothing):
     if left:
         prover.run(trial.tasks(left))
     print(f"wrong: {trial.summary()}")
-    return trial.passed, trial.failed
+    return trial.passed, trial.failed, trial.failing
 
 
 def see_texts(edits):
@@ -348,11 +352,31 @@ def read_edits(crates, names, is_gate):
         print(f"FAILED: {it}")
     tried = [it for edits in known.values() for it in edits.values() if not names or it.crate.name in names]
     if is_gate:
-        tried = [it for it in tried if it.name in chosen.get(it.crate.name, [])]
+        tried = edits_of_gate(tried, chosen, {name for name in known if is_changed(crates[name], known[name])})
     if not tried:
         told.append("no edit")
         print("FAILED: there is no edit to try")
     return tried, len(told)
+
+
+def is_changed(crate, edits):
+    """Whether a crate's texts or its edits are others than when all of its edits were last tried."""
+    return bool(edits) and read_judged().get(crate.name, [None])[0] != judged_sum(crate, edits)
+
+
+def edits_of_gate(edits, chosen, changed):
+    """The edits that the gate tries: those that gate.txt names, and all of crates that changed."""
+    for name in sorted(changed & {it.crate.name for it in edits}):
+        print(f"wrong: {name}: its texts or its edits changed, so all of its edits are tried", flush=True)
+    for it in edits:
+        it.may_be_alone = it.name not in chosen.get(it.crate.name, [])
+    return [it for it in edits if not it.may_be_alone or it.crate.name in changed]
+
+
+def keep_judged(crates, tried, failing):
+    """Writes down of which crates all edits have passed."""
+    names = {it.crate.name for it in tried} - failing
+    write_judged({it: judged_sum(crates[it], edits_of(crates[it])[0]) for it in names}, crates)
 
 
 def end_on_signals():
@@ -383,8 +407,10 @@ def main(words):
         good, bad = see_texts(tried)
     else:
         room = end_on_signals()
-        good, bad = try_edits(tried, mode == "--gate", is_from_nothing)
+        good, bad, failing = try_edits(tried, mode == "--gate", is_from_nothing)
         shutil.rmtree(room, ignore_errors=True)
+        if not mode and not amiss:
+            keep_judged(crates, tried, failing)
     bad += amiss
     print(f"{good} passed, {bad} failed")
     return 1 if bad else 0

@@ -8,8 +8,8 @@ A round is a list of up to 12 lines, candidates for them, extras and 1 to 6 envi
 `check` once for each environment: where all of these answer, the answer of `matrix` has to be theirs, byte by byte, each
 behind its line `env K`; where one is refused, `matrix` has to be refused by the same words but for the place of the
 environment. In the first environment `check` is asked once more, where for each package a line beside the others names a
-pre-release: each row has to be what it was, or to take a pre-release. The rounds of a seed are the same on each machine. The second form runs the one round of that number, shows
-what is said, and leaves its inputs in the folder.
+pre-release: each row has to be what it was, or to take a pre-release. The rounds of a seed are the same on each machine. The
+second form runs the one round of that number, shows what is said, and leaves its inputs in the folder.
 
 PROGRAM is ../crates/reqs_cli/out/reqs_cli where none is named. The last line is `alike: N passed, M failed`, a round each. It
 fails too where of all packages none was taken, none had nothing to take or none was direct, where no row took a pre-release or

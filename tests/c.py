@@ -4,11 +4,11 @@
     c.py SHARED STATIC DEEP FORKS REFUSE LIBRARIES
 
 SHARED and STATIC are tests/c/serve.c linked with libreqs.so and with libreqs.a, DEEP is tests/c/deep.c, FORKS is
-tests/c/forks.c, REFUSE is tests/refuse.c as a shared library, LIBRARIES is the folder of the two. What calls have to answer is of elsewhere: the
-examples and the stored runs of the command, whose answers are the calls', and rows of PEP 440 and PEP 508. Each call is
-made with ample room; one of each kind with room of each smaller size, and with each of its requests for memory refused
-in turn. The program of docs/C.md is compiled by the commands there, and has to print what stands there. The last line
-is `c: N passed, M failed`.
+tests/c/forks.c, REFUSE is tests/refuse.c as a shared library, LIBRARIES is the folder of the two. What calls have to
+answer is of elsewhere: the examples and the stored runs of the command, whose answers are the calls', and rows of PEP 440
+and PEP 508. Each call is made with ample room; one of each kind with room of each smaller size, and with each of its
+requests for memory refused in turn. The program of docs/C.md is compiled by the commands there, and has to print what
+stands there. The last line is `c: N passed, M failed`.
 """
 
 import json
@@ -181,14 +181,17 @@ MEANT = [
     ("truth", ["os_name == \"a'\" and os_name != \"a'\""], "0"), ("truth", ["python_implementation == 'x'"], "-"),
     ("disjoint", ["python_version < '3'", "python_full_version >= '3.0.1'"], "1"), ("disjoint", ["os_name == 'a'", "os_name >= 'a'"], "0"),
     ("disjoint", ["os_name == 'a'", "sys_platform == 'b'"], "0"), ("disjoint", ["extra == 'A_b'", "extra != 'a-b'"], "1"),
-    ("implies", ["python_version >= '3.9'", "python_version >= '3.8'"], "1"), ("implies", ["python_version >= '3.8'", "python_version >= '3.9'"], "0"),
-    ("implies", ["os_name == 'a' and extra == 'x'", "extra == 'x'"], "1"), ("implies", ["extra == 'x'", "os_name == 'a' and extra == 'x'"], "0"),
+    ("implies", ["python_version >= '3.9'", "python_version >= '3.8'"], "1"),
+    ("implies", ["python_version >= '3.8'", "python_version >= '3.9'"], "0"),
+    ("implies", ["os_name == 'a' and extra == 'x'", "extra == 'x'"], "1"),
+    ("implies", ["extra == 'x'", "os_name == 'a' and extra == 'x'"], "0"),
     ("implies", ["os_name == 'a' and os_name == 'b'", "extra == 'x'"], "1"),
     ("negated", ["os_name == 'a'"], "os_name != 'a'"), ("negated", ["os_name == 'a' or extra == 'x'"], "os_name != 'a' and extra != 'x'"),
     ("negated", ["python_version < '3.8'"], "python_full_version >= '3.8'"), ("negated", ["os_name == 'a' and os_name == 'b'"], ""),
     ("python", ["os_name == 'a' and python_version >= '3.8'", "3.8", ""], "os_name == 'a'"),
     ("python", ["python_version < '3.12' or os_name == 'a'", "", "3.12"], ""),
-    ("python", ["python_version < '3.12' and python_version > '3.7'", "", ""], "python_full_version >= '3.8' and python_full_version < '3.12'"),
+    ("python", ["python_version < '3.12' and python_version > '3.7'", "", ""],
+     "python_full_version >= '3.8' and python_full_version < '3.12'"),
     ("python", ["(python_version <= '3.11' and sys_platform == 'win32') or python_version > '3.11'", "3.12", ""], ""),
     ("python", ["python_version < '3.10'", "3.7", ""], "python_full_version < '3.10'"),
     ("python", ["python_version <= '3.12'", "3.12", ""], "python_full_version < '3.13'"),
@@ -205,7 +208,8 @@ ALIKE = [
     ["python_version >= '3.8'", "python_full_version >= '3.8.0'"], ["python_full_version > '3.8'"],
     ["python_full_version >= '3.8' and python_full_version < '3.9'", "python_version == '3.8'"],
     ["extra == 'a-b'", "extra == 'A_B'"], ["os_name == 'a' or os_name != 'a'", "extra == 'a' or extra != 'a'"],
-    ["os_name == 'a' and os_name == 'b'", "extra == 'a' and extra != 'a'"], ["os_name == 'ab' or os_name == 'c'"], ["os_name == 'a' or os_name == 'bc'"],
+    ["os_name == 'a' and os_name == 'b'", "extra == 'a' and extra != 'a'"],
+    ["os_name == 'ab' or os_name == 'c'"], ["os_name == 'a' or os_name == 'bc'"],
 ]
 # Lists of specifiers as ranges.
 RANGES = [
@@ -214,7 +218,8 @@ RANGES = [
     ("subset", [">=1.2,<2", "~=1.2"], "1"), ("subset", ["~=1.2", ">=1.2,<2"], "0"), ("subset", ["~=1.2", ">=1.2,==1.*"], "1"),
     ("subset", ["==1.5", ">=1,<2"], "1"), ("subset", [">=1,<2", "==1.5"], "0"), ("subset", [">=1", ""], "1"), ("subset", ["", ">=1"], "0"),
     ("subset", ["<1,>2", "==7"], "1"), ("subset", ["!=1.5.*", "!=1.5"], "1"),
-    ("empty", ["<1,>2"], "1"), ("empty", ["==1.5"], "0"), ("empty", [""], "0"), ("empty", ["==1.5,!=1.5.0"], "1"), ("empty", ["~=1.2,>=2.dev0"], "1"), ("empty", [">1.5,<1.6"], "0"),
+    ("empty", ["<1,>2"], "1"), ("empty", ["==1.5"], "0"), ("empty", [""], "0"), ("empty", ["==1.5,!=1.5.0"], "1"),
+    ("empty", ["~=1.2,>=2.dev0"], "1"), ("empty", [">1.5,<1.6"], "0"),
 ]
 AT_END = "~=18446744073709551615.0"
 # Refused texts, with the place that is told: its first byte and how many.
@@ -239,11 +244,13 @@ FAULTS = [
     ("python", ["os_name == 'a'", "x", "y"], (2, 0, 0, 1), None), ("python", ["os_name == 'a'", "3.8", "3.8.*"], (3, 0, 0, 5), None),
     ("extras", ["os_name == 'a'", "b\n-\n"], (2, 0, 0, 0), "extra - is no name"),
     ("ranges disjoint", [">=1,2", "2"], (1, 0, 4, 1), None), ("ranges disjoint", [">=1", "<1,2"], (2, 0, 3, 1), None),
-    ("subset", [AT_END, ">=1"], (1, 0, 0, 0), "a version number can't be raised"), ("subset", [">=1", ">1," + AT_END], (2, 0, 0, 0), "a version number can't be raised"),
+    ("subset", [AT_END, ">=1"], (1, 0, 0, 0), "a version number can't be raised"),
+    ("subset", [">=1", ">1," + AT_END], (2, 0, 0, 0), "a version number can't be raised"),
     ("empty", [AT_END], (1, 0, 0, 0), "a version number can't be raised"), ("empty", ["1"], (1, 0, 0, 1), None),
 ]
 # Calls whose texts are all of one kind, and a text that none of them reads, with how many they have.
-UNREAD = [("truth", 1), ("marker key", 1), ("negated", 1), ("disjoint", 2), ("implies", 2), ("python", 3), ("extras", 2), ("ranges disjoint", 2), ("subset", 2)]
+UNREAD = [("truth", 1), ("marker key", 1), ("negated", 1), ("disjoint", 2), ("implies", 2), ("python", 3), ("extras", 2),
+          ("ranges disjoint", 2), ("subset", 2)]
 # How versions stand to each other, from PEP 440's "Summary of permitted suffixes and relative ordering".
 RISING = ["1.dev0", "1.0.dev456", "1.0a1", "1.0a2.dev456", "1.0a12.dev456", "1.0a12", "1.0b1.dev456", "1.0b2", "1.0b2.post345.dev456",
           "1.0b2.post345", "1.0rc1.dev456", "1.0rc1", "1.0", "1.0+abc.5", "1.0+abc.7", "1.0+5", "1.0.post456.dev34", "1.0.post456",
@@ -327,7 +334,8 @@ def orders(program):
     keys = [it.room[: it.number] for it in made(program, [("key", [it], LIMIT, 256) for it in texts])]
     wants("the order of keys", keys == sorted(keys) and len({*keys}) == len(keys))
     for a, b in SAME:
-        reply, *keyed = made(program, [("order", [a.encode(), b.encode()], LIMIT, 0), *(("key", [it.encode()], LIMIT, 64) for it in (a, b))])
+        keys_of = (("key", [it.encode()], LIMIT, 64) for it in (a, b))
+        reply, *keyed = made(program, [("order", [a.encode(), b.encode()], LIMIT, 0), *keys_of])
         wants(f"{a} equals {b}", reply.number == 0 and keyed[0].room == keyed[1].room)
     refused = made(program, [("order", [b"1", b"x"], LIMIT, 0), ("order", [b"\xff", b"1"], LIMIT, 0), ("key", [b"x"], LIMIT, 8)])
     wants("the order and the key of no version", [it.number for it in refused] == [2, 2, -2] and refused[2].room == bytes([WAS] * 8))
@@ -347,9 +355,10 @@ def batches(program):
     for markers, extras in HELD:
         reply = made(program, [("hold", [markers.encode(), where, extras.encode()])])[0]
         wants(f"markers that hold: {markers!r}", (reply.status, reply.text()) == (ANSWERED, b"1010?1?"), reply)
-    refused = [(where, b"-\n", 3, b"extra - is no name"), (b"{}", b"", 2, b"environment: environment 1: member implementation_name is missing or no text"),
-               (b"[]", b"", 2, b"environment: not an object"), (b"\xff", b"", 2, b"environment: not UTF-8 at byte 0"), (b"{", b"", 2, b"environment: not JSON"),
-               (where, b"\xff", 3, b"not UTF-8 at byte 0")]
+    refused = [(where, b"-\n", 3, b"extra - is no name"),
+               (b"{}", b"", 2, b"environment: environment 1: member implementation_name is missing or no text"),
+               (b"[]", b"", 2, b"environment: not an object"), (b"\xff", b"", 2, b"environment: not UTF-8 at byte 0"),
+               (b"{", b"", 2, b"environment: not JSON"), (where, b"\xff", 3, b"not UTF-8 at byte 0")]
     for it, extras, number, message in refused:
         reply = made(program, [("hold", [b"os_name == 'a'", it, extras])])[0]
         wants(f"{message.decode()}", (reply.status, reply.input, reply.text()) == (REFUSED, number, message), reply)
@@ -375,17 +384,22 @@ def kinds():
     where, many = environment(), read("examples", "first", "environments.json")
     return [
         ("check", [*lists, b"test\n"]), ("check", [b"a\n--b\n", *lists[1:], b""]), ("matrix", [lists[0], many, lists[2], b""]),
-        ("same", [b"a\n", b"b>1; os_name == 'nt'\n"]), ("conflicts", [b"a<1\na>2\n"]), ("normal", [b"A >= 1.0 ; os_name=='nt'\n"]), ("normal", [b"a @ b"]),
-        ("version", [b"1.0RC1.post2.dev3+a.b"]), ("version", [b"1.0 x"]), ("key", [b"1!70000.2.3rc1+ubuntu.1"]), ("specifiers", [b">=1.0,<2,!=1.5.*"]),
-        ("specifiers", [b">=1.0,2"]), ("take", [b">=1.0,===1.5", b"1.5\n2\nx\n"]), ("requirement", [b"a[b,c] >= 1; os_name == 'nt' or extra == 'e'"]),
+        ("same", [b"a\n", b"b>1; os_name == 'nt'\n"]), ("conflicts", [b"a<1\na>2\n"]),
+        ("normal", [b"A >= 1.0 ; os_name=='nt'\n"]), ("normal", [b"a @ b"]),
+        ("version", [b"1.0RC1.post2.dev3+a.b"]), ("version", [b"1.0 x"]), ("key", [b"1!70000.2.3rc1+ubuntu.1"]),
+        ("specifiers", [b">=1.0,<2,!=1.5.*"]), ("specifiers", [b">=1.0,2"]), ("take", [b">=1.0,===1.5", b"1.5\n2\nx\n"]),
+        ("requirement", [b"a[b,c] >= 1; os_name == 'nt' or extra == 'e'"]),
         ("requirement", [b"a @ file:///b ; os_name =="]), ("marker", [b"os_name == 'nt' or python_version < '3.8'"]),
-        ("marker", [b"os_name =="]), ("marker", [b"os_name == 'a' and os_name == 'b'"]), ("marker key", [b"os_name == 'nt' or extra == 'e'"]),
+        ("marker", [b"os_name =="]), ("marker", [b"os_name == 'a' and os_name == 'b'"]),
+        ("marker key", [b"os_name == 'nt' or extra == 'e'"]),
         ("truth", [b"os_name == 'nt'"]), ("truth", [b"os_name"]), ("disjoint", [b"os_name == 'a' or extra == 'e'", b"os_name == 'b'"]),
         ("implies", [b"os_name == 'a'", b"os_name == 'a' or extra == 'e'"]), ("implies", [b"os_name == 'a'", b"os_name"]),
-        ("negated", [b"os_name == 'a' or python_version < '3.8'"]), ("python", [b"os_name == 'a' or python_version < '3.8'", b"3.7", b"3.9"]),
-        ("python", [b"os_name == 'a'", b"3.7", b"x"]), ("extras", [b"extra == 'a' and extra == 'b'", b"a\nc\n"]), ("extras", [b"os_name == 'a'", b"a\n-\n"]),
-        ("ranges disjoint", [b">=1,!=1.5.*", b"~=1.5.2"]), ("subset", [b"~=1.2", b">=1.2,<2"]), ("subset", [b"~=1.2", b">=1,2"]), ("empty", [b">=1,!=1.5.*,<2"]),
-        ("empty", [AT_END.encode()]), ("hold", [b"os_name == 'posix'\nx\n", where, b"a\n"]), ("order", [b"1.0.0.0.1", b"1.0.0.0.2+a"]),
+        ("negated", [b"os_name == 'a' or python_version < '3.8'"]),
+        ("python", [b"os_name == 'a' or python_version < '3.8'", b"3.7", b"3.9"]), ("python", [b"os_name == 'a'", b"3.7", b"x"]),
+        ("extras", [b"extra == 'a' and extra == 'b'", b"a\nc\n"]), ("extras", [b"os_name == 'a'", b"a\n-\n"]),
+        ("ranges disjoint", [b">=1,!=1.5.*", b"~=1.5.2"]), ("subset", [b"~=1.2", b">=1.2,<2"]), ("subset", [b"~=1.2", b">=1,2"]),
+        ("empty", [b">=1,!=1.5.*,<2"]), ("empty", [AT_END.encode()]),
+        ("hold", [b"os_name == 'posix'\nx\n", where, b"a\n"]), ("order", [b"1.0.0.0.1", b"1.0.0.0.2+a"]),
     ]
 
 
@@ -397,7 +411,8 @@ def rooms(program):
         text = whole.room[:length]
         replies = [it for lot in in_lots([(call, texts, LIMIT, room) for room in range(length + 2)], 400) for it in made(program, lot)]
         is_so = all(it.room == (text + bytes([WAS]) * 2)[:room] and not it.behind and it.grown == 0
-                    and (it.status, it.number, it.place()) == (whole.status, whole.number, whole.place()) for room, it in enumerate(replies))
+                    and (it.status, it.number, it.place()) == (whole.status, whole.number, whole.place())
+                    for room, it in enumerate(replies))
         wants(f"{call} of {texts[0]!r} with each room up to {length + 1}", is_so)
 
 
@@ -441,11 +456,13 @@ def exports(shared, static):
     """The header's functions are those that both libraries export, and they call nothing but the C library's for memory."""
     header = re.sub(r"/\*.*?\*/", "", read("include", "reqs.h").decode(), flags=re.S)
     declared = {*re.findall(r"\b(reqs_\w+)\(", header)}
-    names = lambda *words: {it.split()[-1].partition("@")[0] for it in subprocess.check_output(["nm", *words], text=True).splitlines() if it.split()}
+    lines = lambda *words: subprocess.check_output(["nm", *words], text=True).splitlines()
+    names = lambda *words: {it.split()[-1].partition("@")[0] for it in lines(*words) if it.split()}
     wants("libreqs.so exports what the header declares", names("-D", "--defined-only", shared) == declared)
-    wants("libreqs.a exports what the header declares", {it for it in names("-g", "--defined-only", static) if not it.endswith(":")} == declared)
+    exported = {it for it in names("-g", "--defined-only", static) if not it.endswith(":")}
+    wants("libreqs.a exports what the header declares", exported == declared)
     called = names("-D", "--undefined-only", shared)
-    kinds = [it.split()[-2:] for it in subprocess.check_output(["nm", static], text=True).splitlines() if len(it.split()) > 1]
+    kinds = [it.split()[-2:] for it in lines(static) if len(it.split()) > 1]
     # (of `nothing` just the address is used, where memory is refused)
     variables = {name for kind, name in kinds if kind in "bBdDsSC"}
     wants("libreqs.a has no variables, by which calls or processes could be in each other's way", variables <= {"nothing"}, variables)

@@ -58,8 +58,8 @@ OPPOSITES = (
 NEVER = ("os_name == 'a' and os_name == 'b'", "python_full_version < '3.8' and python_full_version >= '3.9'",
          "extra == 'x' and extra != 'X'", "sys_platform < 'a' and 'b' < sys_platform")
 # Specifiers, and others beside them that exclude nothing more and name a pre-release.
-NAMING = ((">=1.0", "!=0.9.dev0"), (">=1.0", ">=0.5a1"), ("<2", "!=2.0rc1"), ("<2", "<=3.0b1"), ("==1.*", ">=1.dev0"), ("~=1.4", "!=1.4.dev3"),
-          ("!=1.5.*", "!=1.5rc1"))
+NAMING = ((">=1.0", "!=0.9.dev0"), (">=1.0", ">=0.5a1"), ("<2", "!=2.0rc1"), ("<2", "<=3.0b1"), ("==1.*", ">=1.dev0"),
+          ("~=1.4", "!=1.4.dev3"), ("!=1.5.*", "!=1.5rc1"))
 # Packages that no line of a list names but by an edit.
 OTHERS = ("alone", "zz.top", "Base_9")
 

@@ -11,11 +11,12 @@ for itself. Where an input is refused and its text can't be made, the text of wa
 the refusal. The last run gives the answer with ample memory.
 
 The commands are `reqs check` on each example and on lists that are refused, `reqs matrix`, `reqs same`, `reqs conflicts`
-and `reqs normal`, each of these asked for an object too, the program's help, and the questions of crates/pep440_vectors and crates/pep508_vectors and every eighth of crates/pep508_marker_vectors, one a
-run; each stands with the answer that it has with ample memory. To questions of KEPT the program goes on: it makes a call
-that was refused memory again, and answers by it and by the trees that it made before. There some run has to give the
-whole answer after a refusal. tests/least.txt says how many commands and questions there are at least. The last line is
-`refused: N passed, M failed`, a command or a kind of question each.
+and `reqs normal`, each of these asked for an object too, the program's help, and the questions of crates/pep440_vectors and
+crates/pep508_vectors and every eighth of crates/pep508_marker_vectors, one a run; each stands with the answer that it has
+with ample memory. To questions of KEPT the program goes on: it makes a call that was refused memory again, and answers by it
+and by the trees that it made before. There some run has to give the whole answer after a refusal. tests/least.txt says how
+many commands and questions there are at least. The last line is `refused: N passed, M failed`, a command or a kind of
+question each.
 """
 
 import json

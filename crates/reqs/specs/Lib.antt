@@ -1,3 +1,3 @@
-pub mod Texts
-pub mod Check
-pub mod Matrix
+pub use Rattle.reqs_answers.specs.Texts
+pub use Rattle.reqs_answers.specs.Check
+pub use Rattle.reqs_answers.specs.Matrix

@@ -16,14 +16,8 @@
 //! )?;
 //! ```
 
-mod admitting;
-mod checks;
-pub mod laws;
-mod matrices;
-
-pub use checks::check;
-pub use matrices::matrix;
 pub use pep508_url::Vars;
+pub use reqs_answers::{check, laws, matrix};
 pub use reqs_ends::{Input, JsonShape, RefusedCause, RefusedWord, RunFault, Status};
 pub use reqs_json::Format;
 pub use reqs_lists::{conflicts, normal, same};

@@ -9,8 +9,8 @@ use Rattle.reqs_ends.specs.declared.fault.RunFault.{RunFault}
 use Rattle.reqs_ends.specs.declared.fault.RunFault.TheVariants.{Memory}
 use Rattle.reqs_ends.specs.declared.fault.Status.{Status}
 use Rattle.reqs_ends.specs.Ends.{Answering, Refusing, Runs}
-use Rattle.reqs.specs.Check.{ChecksAs, CheckRefuses}
-use Rattle.reqs.specs.Matrix.{MatrixAnswersAs, MatrixRefuses}
+use Rattle.reqs_answers.specs.Check.{ChecksAs, CheckRefuses}
+use Rattle.reqs_answers.specs.Matrix.{MatrixAnswersAs, MatrixRefuses}
 use Rattle.reqs_lists.specs.Comparison.{SameAnswersAs, SameRefuses}
 use Rattle.reqs_lists.specs.Contradictions.{ConflictsAnswerAs, ConflictsRefuse}
 use Rattle.reqs_lists.specs.Normal.{NormalAnswersAs, NormalRefuses}

@@ -6,7 +6,7 @@ ghost use Rattle.reqs_cli.specs.Asked.{text_at, paths_in, LimitIs, AsksFor, Name
 ghost use Rattle.reqs_cli.specs.Asked.{NamesFormat, IsToldFormat};
 
 use clap::{Arg, ArgMatches, Command, Error};
-use reqs::Format;
+use reqs_json::Format;
 use std::alloc::{AllocError, Global};
 
 /// The words for formats.

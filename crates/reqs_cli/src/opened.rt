@@ -4,7 +4,11 @@ ghost use Rattle.std.specs.Prelude.{◌≡◌, map};
 ghost use Rattle.reqs_cli.specs.Opened.{asked_of, readers_of, Opens, RunsAsked};
 
 use crate::asked::Asked;
-use reqs::{Format, Input, RunFault, Status, Vars, check, conflicts, matrix, normal, same};
+use pep508_url::Vars;
+use reqs_answers::{check, matrix};
+use reqs_ends::{Input, RunFault, Status};
+use reqs_json::Format;
+use reqs_lists::{conflicts, normal, same};
 use std::alloc::Global;
 use std::io::{Read, Write};
 

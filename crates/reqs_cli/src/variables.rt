@@ -6,7 +6,7 @@ ghost use Rattle.pep508_url.specs.Vars.{IsAbsolute};
 ghost use Rattle.reqs_cli.specs.Variables.{is_root, root_in, pairs_in, variables_in};
 
 use crate::words::filled;
-use reqs::Vars;
+use pep508_url::Vars;
 use std::alloc::{AllocError, Global};
 use std::env::Env;
 

@@ -11,8 +11,8 @@ use Rattle.reqs_json.specs.declared.format.Format.TheVariants as format
 use Rattle.reqs_lists.specs.Comparison.{SameAnswersAs, SameRefuses}
 use Rattle.reqs_lists.specs.Contradictions.{ConflictsAnswerAs, ConflictsRefuse}
 use Rattle.reqs_lists.specs.Normal.{NormalAnswersAs, NormalRefuses}
-use Rattle.reqs.specs.Check.{ChecksAs, CheckRefuses}
-use Rattle.reqs.specs.Matrix.{MatrixAnswersAs, MatrixRefuses}
+use Rattle.reqs_answers.specs.Check.{ChecksAs, CheckRefuses}
+use Rattle.reqs_answers.specs.Matrix.{MatrixAnswersAs, MatrixRefuses}
 use Rattle.reqs_reply.specs.declared.place.Place.{Place}
 use Rattle.reqs_reply.specs.Endings.{Ending, Answered, Different, Refused, OutOfMemory}
 use Rattle.reqs_reply.specs.Endings.{EndsIn, NoAnswer, IsNotText}

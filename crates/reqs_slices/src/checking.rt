@@ -1,8 +1,8 @@
 //! Answers on lists in environments.
 
 ghost use Rattle.std.specs.Prelude.{◌∷◌, [], map};
-ghost use Rattle.reqs.specs.Check.{ChecksAs, CheckRefuses};
-ghost use Rattle.reqs.specs.Matrix.{MatrixAnswersAs, MatrixRefuses};
+ghost use Rattle.reqs_answers.specs.Check.{ChecksAs, CheckRefuses};
+ghost use Rattle.reqs_answers.specs.Matrix.{MatrixAnswersAs, MatrixRefuses};
 ghost use Rattle.reqs_reply.specs.Endings.{RepliesAs, ending_of};
 ghost use Rattle.reqs_slices.specs.Commands.{CommandEnds, CheckEnds, MatrixEnds};
 ghost use Rattle.reqs_slices.specs.Commands.{check_names, matrix_names};
@@ -82,7 +82,7 @@ fn checked_with(
         candidates,
     );
     let mut text = Vec::new(alloc);
-    let ran = reqs::check(
+    let ran = reqs_answers::check(
         alloc,
         &mut requirements,
         &mut environment,
@@ -165,7 +165,7 @@ fn tabled_with(
         candidates,
     );
     let mut text = Vec::new(alloc);
-    let ran = reqs::matrix(
+    let ran = reqs_answers::matrix(
         alloc,
         &mut requirements,
         &mut environments,

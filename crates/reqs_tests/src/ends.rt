@@ -1,8 +1,11 @@
 //! Readers and writers that are interrupted, fail or never end, and the limits up to which they are
 //! borne with.
 
-use reqs::{Format, RunFault, Status, Vars, check, matrix};
+use pep508_url::Vars;
+use reqs_answers::{check, matrix};
+use reqs_ends::{RunFault, Status};
 use reqs_io::{ASK_LIMIT, ReadFault, WriteFault, read_whole, write_whole};
+use reqs_json::Format;
 use std::alloc::{AllocError, Global};
 use std::io::{self, ErrorKind, Read, Write};
 use std::test::Fail;

@@ -21,7 +21,7 @@ use Rattle.reqtable_cases.specs.Usable.{members_asked, points_of}
 use Rattle.reqtable_cases.specs.Requires.{AskAlike, RequireAlike, RequireTheSame}
 use Rattle.reqtable_cases.proofs.Alike.{same_back}
 use Rattle.reqtable_cases.proofs.Taken.{usable_takes}
-use Rattle.reqtable_conflicts.proofs.Taken.{its_asks}
+use Rattle.reqtable_packages.proofs.Asked.{its_asks}
 use Rattle.reqtable_compare.specs.Refusals.{line_refusal}
 use Rattle.reqtable_compare.specs.Answered.{IsOfText, AreOfTexts, ArePlain}
 use Rattle.reqtable_compare.proofs.Comparable.{IsComparable, AreComparable, both_comparable}

@@ -23,8 +23,8 @@ use Rattle.reqtable_compare.specs.declared.refusing.Refused.{Refused}
 use Rattle.reqtable_compare.specs.Differences.{ComparesTables, FindsPlace, IsFirstPlace, listed, place_seen}
 use Rattle.reqtable_compare.specs.Refusals.{line_refusal, refusal_in}
 use Rattle.reqtable_compare.specs.RefusedLines.{lines_refusal, refused_seen}
-use Rattle.reqtable_conflicts.specs.Packages.{said_among}
-use Rattle.reqtable_conflicts.proofs.Among.{none_too_many}
+use Rattle.reqtable_packages.specs.Packages.{said_among}
+use Rattle.reqtable_packages.proofs.Among.{none_too_many}
 use Rattle.reqtable_compare.specs.Settled.{AreOpen}
 use Rattle.reqtable_compare.proofs.ByNumber.{Rise}
 use Rattle.reqtable_compare.proofs.Causes.{refusal_said}

@@ -18,8 +18,8 @@ use Rattle.reqtable_requirements.specs.LineReading.{LineRecord}
 use Rattle.reqtable_requirements.specs.LineSpecifiers.{specifiers_by}
 use Rattle.reqtable_requirements.specs.Requirements.{ReadsUrl, StandsFor}
 use Rattle.reqtable_requirements.specs.declared.requirements.Line.{Line}
-use Rattle.reqtable_conflicts.specs.Packages.{lent}
-use Rattle.reqtable_conflicts.proofs.Standing.{asked_all}
+use Rattle.reqtable_packages.specs.Packages.{lent}
+use Rattle.reqtable_packages.proofs.Standing.{asked_all}
 use Rattle.reqtable_compare.specs.Settled.{SayTheSame, IsSaidIn, AreSaidIn}
 use Rattle.reqtable_compare.proofs.Covered.{Test, MeanTheSame, IsMeantIn, AreMeantIn}
 

@@ -4,8 +4,8 @@ use Rattle.std.specs.List.{list_any}
 use Rattle.std.specs.Str.{bytes_eq}
 use Rattle.reqtable_requirements.specs.declared.requirements.Line.{Line}
 use Rattle.reqtable_table.specs.Given.{is_under}
-use Rattle.reqtable_conflicts.specs.Packages.{lines_under}
-use Rattle.reqtable_conflicts.proofs.Passing.{Rise}
+use Rattle.reqtable_packages.specs.Packages.{lines_under}
+use Rattle.reqtable_packages.proofs.Passing.{Rise}
 use Rattle.reqtable_compare.specs.Settled.{AreOpen, AreSettled}
 
 pub are_open : (limit : ℕ) (left right : List Line) (names names' some : List (List ℕ)) (ours theirs : List ℕ → List Line) →

@@ -15,9 +15,9 @@ use Rattle.reqtable_requirements.specs.declared.requirements.Line.{Line}
 use Rattle.reqtable_cases.specs.Lines.{HasTooMany}
 use Rattle.reqtable_cases.specs.Requires.{RequireAlike, asked_of}
 use Rattle.reqtable_table.specs.Given.{is_under}
-use Rattle.reqtable_conflicts.specs.Packages.{lines_under}
-use Rattle.reqtable_conflicts.proofs.Few.{few_cases}
-use Rattle.reqtable_conflicts.proofs.Standing.{under, unnamed, named_alike}
+use Rattle.reqtable_packages.specs.Packages.{lines_under}
+use Rattle.reqtable_packages.proofs.Few.{few_cases}
+use Rattle.reqtable_packages.proofs.Standing.{under, unnamed, named_alike}
 use Rattle.reqtable_compare.specs.Settled.{AreOpen, AreSettled}
 use Rattle.reqtable_compare.proofs.Covered.{require_alike}
 use Rattle.reqtable_compare.proofs.Meant.{are_meant}

@@ -33,15 +33,15 @@ use Rattle.reqtable_compare.specs.Compared.{NoneTooMany, MayCompare, Compares, T
 use Rattle.reqtable_compare.specs.Differences.{Listed, Sums, AgreeOn, IsFirstPlace, Place, IsBoth}
 use Rattle.reqtable_compare.specs.Differences.{ComparesTables, listed}
 use Rattle.reqtable_compare.specs.Refusals.{line_refusal}
-use Rattle.reqtable_conflicts.specs.Packages.{said_among}
+use Rattle.reqtable_packages.specs.Packages.{said_among}
 use Rattle.reqtable_compare.specs.Summed.{SummaryRecord, AreSummaries}
 use Rattle.reqtable_compare.specs.Totals.{AreSummed}
 use Rattle.reqtable_compare.proofs.ByNumber.{Rise, HasExtras, extras_said}
 use Rattle.reqtable_compare.proofs.Comparable.{AreComparable}
 use Rattle.reqtable_compare.proofs.Summaries.{no_summaries, some_summaries}
 use Rattle.reqtable_compare.proofs.Paired.{all_pass, differs}
-use Rattle.reqtable_conflicts.proofs.Among.{among_lines, none_too_many, first_too_many}
-use Rattle.reqtable_conflicts.proofs.Standing.{unnamed}
+use Rattle.reqtable_packages.proofs.Among.{among_lines, none_too_many, first_too_many}
+use Rattle.reqtable_packages.proofs.Standing.{unnamed}
 use Rattle.reqtable_compare.proofs.Outside.{AreOutside}
 
 -- ---- a list with its table, and what its lines say

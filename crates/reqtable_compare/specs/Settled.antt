@@ -7,7 +7,7 @@ use Rattle.std.specs.Cmp.Lexicographic.{slice_cmp}
 use Rattle.std.specs.Str.{bytes_eq}
 use Rattle.reqtable_requirements.specs.declared.requirements.Line.{Line}
 use Rattle.reqtable_table.specs.Given.{is_under}
-use Rattle.reqtable_conflicts.specs.Packages.{HasRoom, lines_under}
+use Rattle.reqtable_packages.specs.Packages.{HasRoom, lines_under}
 
 -- two lines of a package say the same, their numbers apart
 pub record SayTheSame (a b : Line) : Type 0 where

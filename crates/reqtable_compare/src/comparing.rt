@@ -17,7 +17,7 @@ ghost use Rattle.reqtable_compare.specs.Compared.{Compares, TablesSide};
 ghost use Rattle.reqtable_compare.specs.Differences.{FindsPlace, place_seen, listed, AnswersPlace};
 ghost use Rattle.reqtable_compare.specs.Differences.{ComparesTables};
 ghost use Rattle.reqtable_compare.specs.RefusedLines.{lines_refusal};
-ghost use Rattle.reqtable_conflicts.specs.Packages.{said_among};
+ghost use Rattle.reqtable_packages.specs.Packages.{said_among};
 ghost use Rattle.reqtable_compare.specs.Settled.{AreOpen};
 
 use crate::pairing::{Meeting, first_trees};
@@ -28,7 +28,7 @@ use crate::summing::summaries;
 use pep508_name::PackageName;
 use pep508_tree::Interner;
 use pep508_tree_laws::{a_tree_holds_somewhere, constants_are_named};
-use reqtable_conflicts::packages_table;
+use reqtable_packages::packages_table;
 use reqtable_requirements::{Line, Requirements};
 use reqtable_table::{Table, TableError};
 use std::alloc::{AllocError, Global};

@@ -2,7 +2,7 @@
 
 ghost use Rattle.std.specs.Prelude.{◌≡◌, map, IsTrue};
 ghost use Rattle.pep440_version.specs.Record.{segment_of};
-ghost use Rattle.reqtable_conflicts.specs.Packages.{lent};
+ghost use Rattle.reqtable_packages.specs.Packages.{lent};
 ghost use Rattle.reqtable_compare.specs.Settled.{SayTheSame, IsSaidIn, AreSaidIn};
 
 use pep440_specifier::VersionSpecifier;

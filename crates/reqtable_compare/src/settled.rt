@@ -7,12 +7,12 @@ ghost use Rattle.std.specs.Ordering.{nat_cmp};
 ghost use Rattle.std.specs.Cmp.Lexicographic.{slice_cmp};
 ghost use Rattle.std.specs.Str.{bytes_eq};
 ghost use Rattle.reqtable_table.specs.Given.{is_under};
-ghost use Rattle.reqtable_conflicts.specs.Packages.{lines_at, lent};
+ghost use Rattle.reqtable_packages.specs.Packages.{lines_at, lent};
 ghost use Rattle.reqtable_compare.specs.Settled.{AreOpen, AreSettled};
 
 use crate::equal_lines::are_said;
 use pep508_name::PackageName;
-use reqtable_conflicts::{Groups, by_package, has_room, package_names};
+use reqtable_packages::{Groups, by_package, has_room, package_names};
 use reqtable_requirements::Line;
 use std::alloc::{AllocError, Global};
 

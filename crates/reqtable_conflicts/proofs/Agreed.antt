@@ -27,10 +27,10 @@ use Rattle.reqtable_cases.specs.Usable.{members_asked, IsRangeOfMembers}
 use Rattle.reqtable_cases.specs.Conflicts.{IsConflict}
 use Rattle.reqtable_table.specs.Given.{is_under}
 use Rattle.reqtable_conflicts.specs.Agreeing.{Agree, AreDoubtful, Meet}
-use Rattle.reqtable_conflicts.specs.Packages.{lines_under}
-use Rattle.reqtable_conflicts.proofs.Few.{few_cases}
-use Rattle.reqtable_conflicts.proofs.Passing.{Rise}
-use Rattle.reqtable_conflicts.proofs.Standing.{asked_all, under, unnamed, named_alike}
+use Rattle.reqtable_packages.specs.Packages.{lines_under}
+use Rattle.reqtable_packages.proofs.Few.{few_cases}
+use Rattle.reqtable_packages.proofs.Passing.{Rise}
+use Rattle.reqtable_packages.proofs.Standing.{asked_all, under, unnamed, named_alike}
 
 both : (a b : Bool) → (a && b) ≡ true → (a ≡ true) × (b ≡ true)
 both true b h = (refl, h)

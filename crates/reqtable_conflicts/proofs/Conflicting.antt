@@ -39,11 +39,11 @@ use Rattle.reqtable_conflicts.specs.Contradictions.{ConflictRecord, FindsConflic
 use Rattle.reqtable_conflicts.specs.Contradictions.{told_under}
 use Rattle.reqtable_conflicts.specs.Picking.{Picks, PicksOf, FoundFor, named}
 use Rattle.reqtable_conflicts.specs.Agreeing.{AreDoubtful}
-use Rattle.reqtable_conflicts.specs.Packages.{said_among}
+use Rattle.reqtable_packages.specs.Packages.{said_among}
 use Rattle.reqtable_conflicts.proofs.Agreed.{empty_has_none, no_conflict, few_others}
-use Rattle.reqtable_conflicts.proofs.Among.{among_lines, none_too_many, first_too_many}
+use Rattle.reqtable_packages.proofs.Among.{among_lines, none_too_many, first_too_many}
 use Rattle.reqtable_conflicts.proofs.Picked.{in_or}
-use Rattle.reqtable_conflicts.proofs.Standing.{unnamed}
+use Rattle.reqtable_packages.proofs.Standing.{unnamed}
 
 -- ---- a case without any point is a conflict
 

@@ -1,12 +1,6 @@
-pub mod Copied
-pub mod Gathered
 pub mod Picked
 pub mod Conflicting
 pub mod Numbered
 pub mod ReadFrom
 pub mod Taken
-pub mod Standing
-pub mod Few
-pub mod Among
-pub mod Passing
 pub mod Agreed

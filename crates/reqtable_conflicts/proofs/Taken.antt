@@ -31,39 +31,13 @@ use Rattle.reqtable_cases.specs.Lines.{line_marks, numbers_of, asked_by}
 use Rattle.reqtable_cases.specs.Usable.{members_asked, is_ranged}
 use Rattle.reqtable_cases.specs.Conflicts.{IsConflict, told_of, AreConflicts}
 use Rattle.reqtable_cases.proofs.Taken.{conflicts_take_none}
+use Rattle.reqtable_packages.proofs.Asked.{its_asks}
 use Rattle.reqtable_conflicts.specs.Contradictions.{ConflictRecord, told_under}
 use Rattle.reqtable_conflicts.specs.NothingTaken.{ApplySomewhere, TakesNoPlain, HasNothing, EachFound}
 use Rattle.reqtable_conflicts.proofs.Numbered.{number_of, Rise, rise_kept, same_marked, applying_marked}
 use Rattle.reqtable_conflicts.proofs.Numbered.{numbers_alike}
 use Rattle.reqtable_conflicts.proofs.Conflicting.{told_by}
 use Rattle.reqtable_conflicts.proofs.ReadFrom.{said_read}
-
--- ---- what is asked of a package is what its lines ask for
-
-its_by : (v : Valuation) (name : List ℕ) (line : LineRecord) (lines its : List LineRecord) →
-    filter (is_of name) (map (λ l. l.front) lines) ≡ map (λ l. l.front) (filter (applies v) its) →
-    (a b : Bool) → is_of name line.front ≡ a → applies v line ≡ b →
-    filter (is_of name) (map (λ l. l.front) (cond b (line ∷ lines) lines))
-    ≡ map (λ l. l.front) (filter (applies v) (cond a (line ∷ its) its))
-its_by v name line lines its h true true e g =
-    let X = filter (is_of name) (map (λ l. l.front) lines) in
-    let Y = filter (applies v) its in
-    ap (λ t. cond t (line.front ∷ X) X) e ∙ ap (λ l. line.front ∷ l) h
-    ∙ sym (ap (λ t. map (λ l. l.front) (cond t (line ∷ Y) Y)) g)
-its_by v name line lines its h false true e g =
-    let X = filter (is_of name) (map (λ l. l.front) lines) in
-    ap (λ t. cond t (line.front ∷ X) X) e ∙ h
-its_by v name line lines its h true false e g =
-    let Y = filter (applies v) its in
-    h ∙ sym (ap (λ t. map (λ l. l.front) (cond t (line ∷ Y) Y)) g)
-its_by v name line lines its h false false e g = h
-
-pub its_asks : (v : Valuation) (name : List ℕ) (lines : List LineRecord) →
-    filter (is_of name) (asks_of v lines) ≡ asks_of v (lines_of name lines)
-its_asks v name [] = refl
-its_asks v name (line ∷ lines) =
-    its_by v name line (filter (applies v) lines) (lines_of name lines) (its_asks v name lines)
-    (is_of name line.front) (applies v line) refl refl
 
 -- ---- each conflict by itself
 

@@ -11,7 +11,7 @@ use Rattle.pep440_range.specs.Ranges.{range_of, all_hold}
 use Rattle.reqtable_requirements.specs.LineSpecifiers.{specifiers_in}
 use Rattle.reqtable_requirements.specs.declared.requirements.Line.{Line}
 use Rattle.reqtable_table.specs.Given.{is_under}
-use Rattle.reqtable_conflicts.specs.Packages.{HasRoom, lines_under}
+use Rattle.reqtable_packages.specs.Packages.{HasRoom, lines_under}
 
 -- some point is in the ranges of all that these lines ask for
 abbrev pub Meet : List Line → Type 0

@@ -1,5 +1,4 @@
 pub mod Contradictions
 pub mod Picking
 pub mod NothingTaken
-pub mod Packages
 pub mod Agreeing

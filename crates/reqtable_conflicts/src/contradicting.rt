@@ -17,10 +17,10 @@ ghost use Rattle.reqtable_conflicts.specs.Contradictions.{conflict_record, Finds
 ghost use Rattle.reqtable_conflicts.specs.Picking.{AddsPicked, FoundFor, told, named};
 
 use crate::doubtful::doubtful_packages;
-use crate::packages::packages_table;
 use pep440_version::Version;
 use pep508_name::PackageName;
 use pep508_tree::Interner;
+use reqtable_packages::packages_table;
 use reqtable_requirements::Requirements;
 use reqtable_table::{Case, Table, TableError};
 use std::alloc::{AllocError, Global};

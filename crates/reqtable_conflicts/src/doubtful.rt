@@ -9,15 +9,14 @@ ghost use Rattle.std.specs.Str.{bytes_eq};
 ghost use Rattle.reqtable_range.specs.Together as together;
 ghost use Rattle.reqtable_requirements.specs.LineSpecifiers.{specifiers_in};
 ghost use Rattle.reqtable_conflicts.specs.Agreeing.{Agree, AreDoubtful, Meet};
-ghost use Rattle.reqtable_conflicts.specs.Packages.{lines_at, lent};
+ghost use Rattle.reqtable_packages.specs.Packages.{lines_at, lent};
 
 use crate::contradicting::holds_nothing;
-use crate::names::package_names;
-use crate::packages::{Groups, by_package, has_room};
 use pep440_specifier::VersionSpecifier;
 use pep508_name::PackageName;
 use pep508_requirement::VersionOrUrl;
 use reqtable_cases::asked_range;
+use reqtable_packages::{Groups, by_package, has_room, package_names};
 use reqtable_requirements::Line;
 use std::alloc::{AllocError, Global};
 

@@ -1,6 +1,6 @@
 use Rattle.std.proofs.Common.{◌∙◌, ◌∷◌, [], Bor, ℕ, List, ap, map}
 use Rattle.reqs_json.specs.declared.format.Format.TheVariants as format
-use Rattle.reqs.specs.Matrix.{MatrixAnswersAs, MatrixRefuses}
+use Rattle.reqs_answers.specs.Matrix.{MatrixAnswersAs, MatrixRefuses}
 use Rattle.reqs_reply.specs.Lines.{filled_lines}
 use Rattle.reqs_slices.specs.Commands.{CommandEnds, matrix_names}
 use Rattle.reqs_slices.specs.Refusals.{IsToldAt}

@@ -1,5 +1,5 @@
 use Rattle.std.proofs.Common.{take}
-use Rattle.reqtable_conflicts.specs.Packages.{lent}
+use Rattle.reqtable_packages.specs.Packages.{lent}
 use Rattle.reqtable_compare.specs.Settled.{AreSaidIn}
 use Rattle.reqtable_compare.proofs.equal_lines.are_said.Given as goal
 

@@ -1,8 +1,8 @@
 use Rattle.std.proofs.Common.{◌≡◌, ◌∙◌, ◌++◌, ◌+◌, ℕ, false, List, drop, ap, sym, subst}
 use Rattle.std.specs.List.{list_any}
 use Rattle.std.specs.Str.{bytes_eq}
-use Rattle.reqtable_conflicts.specs.Packages.{lines_at}
-use Rattle.reqtable_conflicts.proofs.Passing.{texts, Rise, rise_kept, rise_passed, kept, passed}
+use Rattle.reqtable_packages.specs.Packages.{lines_at}
+use Rattle.reqtable_packages.proofs.Passing.{texts, Rise, rise_kept, rise_passed, kept, passed}
 use Rattle.reqtable_compare.specs.Settled.{AreSettled}
 use Rattle.reqtable_compare.proofs.settled.open_among.Goals as goal
 use Rattle.reqtable_compare.proofs.settled.open_among.Goals.{then-not-is_settled+in_ok-push}

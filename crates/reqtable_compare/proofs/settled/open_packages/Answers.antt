@@ -1,8 +1,8 @@
 use Rattle.std.proofs.Common.{◌≡◌, ℕ, true, false, List, ap}
 use Rattle.std.specs.List.{list_any}
 use Rattle.std.specs.Str.{bytes_eq}
-use Rattle.reqtable_conflicts.specs.Packages.{lines_at}
-use Rattle.reqtable_conflicts.proofs.Passing.{Rise, texts, if_both}
+use Rattle.reqtable_packages.specs.Packages.{lines_at}
+use Rattle.reqtable_packages.proofs.Passing.{Rise, texts, if_both}
 use Rattle.reqtable_compare.specs.Settled.{AreOpen, AreSettled}
 use Rattle.reqtable_compare.proofs.Opening.{are_open}
 use Rattle.reqtable_compare.proofs.settled.open_packages.Goals as goal

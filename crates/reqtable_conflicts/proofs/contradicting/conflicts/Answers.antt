@@ -5,7 +5,7 @@ use Rattle.reqtable_conflicts.specs.Contradictions.{conflict_record}
 use Rattle.reqtable_conflicts.specs.Picking.{FoundFor}
 use Rattle.reqtable_conflicts.proofs.Agreed.{doubtful_at}
 use Rattle.reqtable_conflicts.proofs.Conflicting.{all_found, refused_too}
-use Rattle.reqtable_conflicts.proofs.Passing.{Rise, texts}
+use Rattle.reqtable_packages.proofs.Passing.{Rise, texts}
 use Rattle.reqtable_conflicts.proofs.contradicting.conflicts.Goals as goal
 
 pub packages_table-requires-clause-rising : goal.packages_table-requires-clause-rising

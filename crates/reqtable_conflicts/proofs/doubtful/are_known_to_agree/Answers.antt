@@ -2,7 +2,7 @@ use Rattle.std.proofs.Common.{◌≡◌, List, IsTrue, rules, subst}
 use Rattle.std.specs.Prelude.{IfOk}
 use Rattle.reqtable_requirements.specs.declared.requirements.Line.{Line}
 use Rattle.reqtable_conflicts.specs.Agreeing.{Agree}
-use Rattle.reqtable_conflicts.specs.Packages.{lines_at, lent}
+use Rattle.reqtable_packages.specs.Packages.{lines_at, lent}
 use Rattle.reqtable_conflicts.proofs.doubtful.are_known_to_agree.Goals as goal
 
 pub returns-in-Some : goal.returns-in-Some

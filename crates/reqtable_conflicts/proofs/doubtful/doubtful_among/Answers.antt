@@ -2,8 +2,8 @@ use Rattle.std.proofs.Common.{◌≡◌, ◌∙◌, ◌++◌, ◌+◌, ℕ, fals
 use Rattle.std.specs.List.{list_any}
 use Rattle.std.specs.Str.{bytes_eq}
 use Rattle.reqtable_conflicts.specs.Agreeing.{Agree}
-use Rattle.reqtable_conflicts.specs.Packages.{lines_at}
-use Rattle.reqtable_conflicts.proofs.Passing.{texts, Rise, rise_kept, rise_passed, kept, passed}
+use Rattle.reqtable_packages.specs.Packages.{lines_at}
+use Rattle.reqtable_packages.proofs.Passing.{texts, Rise, rise_kept, rise_passed, kept, passed}
 use Rattle.reqtable_conflicts.proofs.doubtful.doubtful_among.Goals as goal
 use Rattle.reqtable_conflicts.proofs.doubtful.doubtful_among.Goals.{then-not-agree+in_ok-push}
 use Rattle.reqtable_conflicts.proofs.doubtful.doubtful_among.Goals.{else-not-agree}

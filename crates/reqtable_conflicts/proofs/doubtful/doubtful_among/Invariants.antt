@@ -2,8 +2,8 @@ use Rattle.std.proofs.Common.{◌≡◌, ◌++◌, ℕ, true, false, List, take,
 use Rattle.std.specs.List.{list_any}
 use Rattle.std.specs.Str.{bytes_eq}
 use Rattle.reqtable_conflicts.specs.Agreeing.{Agree}
-use Rattle.reqtable_conflicts.specs.Packages.{lines_at}
-use Rattle.reqtable_conflicts.proofs.Passing.{texts, Rise}
+use Rattle.reqtable_packages.specs.Packages.{lines_at}
+use Rattle.reqtable_packages.proofs.Passing.{texts, Rise}
 use Rattle.reqtable_conflicts.proofs.doubtful.doubtful_among.Given as goal
 
 abbrev pub invariant-loop-name : goal.invariant-loop-name

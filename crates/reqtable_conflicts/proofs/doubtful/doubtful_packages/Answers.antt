@@ -2,9 +2,9 @@ use Rattle.std.proofs.Common.{◌≡◌, ℕ, true, false, List, ap}
 use Rattle.std.specs.List.{list_any}
 use Rattle.std.specs.Str.{bytes_eq}
 use Rattle.reqtable_conflicts.specs.Agreeing.{Agree, AreDoubtful}
-use Rattle.reqtable_conflicts.specs.Packages.{lines_at}
+use Rattle.reqtable_packages.specs.Packages.{lines_at}
 use Rattle.reqtable_conflicts.proofs.Agreed.{are_doubtful}
-use Rattle.reqtable_conflicts.proofs.Passing.{Rise, texts, if_both}
+use Rattle.reqtable_packages.proofs.Passing.{Rise, texts, if_both}
 use Rattle.reqtable_conflicts.proofs.doubtful.doubtful_packages.Goals as goal
 
 pub returns : goal.returns

@@ -1,7 +1,7 @@
 use Rattle.std.proofs.Common.{◌∙◌, ap, subst}
 use Rattle.reqtable_range.specs.Together as together
 use Rattle.reqtable_cases.specs.Usable.{IsRangeOfMembers}
-use Rattle.reqtable_conflicts.specs.Packages.{lent}
+use Rattle.reqtable_packages.specs.Packages.{lent}
 use Rattle.reqtable_conflicts.proofs.Agreed.{some_point}
 use Rattle.reqtable_conflicts.proofs.doubtful.meet.Goals as goal
 

@@ -1,5 +1,0 @@
-use Rattle.reqs.proofs.Numbered.{as_check}
-use Rattle.reqs.proofs.laws.matrix_writes_what_check_writes.Goals as goal
-
-pub returns : goal.returns
-returns c = λ extras lines candidates. as_check extras lines candidates 1

@@ -1,0 +1,5 @@
+use Rattle.reqs_answers.proofs.Formats.{same_rows}
+use Rattle.reqs_answers.proofs.laws.both_formats_have_the_same_rows.Goals as goal
+
+pub returns : goal.returns
+returns c = same_rows

@@ -1,0 +1,61 @@
+-- What `check` does, from the bytes of its inputs to the bytes of its answer.
+use Rattle.std.specs.Prelude.{◌≡◌, ◌||◌, ℕ, not, List, [], ◌∷◌, Option, Result, Ok, Err, String}
+use Rattle.std.specs.String.{string_bytes}
+use Rattle.pep440_version.specs.Changes.{is_prerelease}
+use Rattle.pep508_url.specs.Vars.{Variables}
+use Rattle.pep508_environment.specs.Environment.{EnvironmentRecord}
+use Rattle.pep508_evaluation.specs.Valuations.{valuation_of}
+use Rattle.reqtable_answer.specs.Answer.{Admits}
+use Rattle.reqtable_requirements.specs.Asks.{asks_of}
+use Rattle.reqs_json.specs.declared.format.Format.{Format}
+use Rattle.reqs_json.specs.Rows.{IsAnswerIn}
+use Rattle.reqs_ends.specs.declared.fault.Input.TheVariants.{First, Second, Third}
+use Rattle.reqs_ends.specs.declared.fault.RunFault.{RunFault}
+use Rattle.reqs_ends.specs.declared.fault.Status.{Status}
+use Rattle.reqs_ends.specs.declared.fault.Status.TheVariants.{Answered}
+use Rattle.reqs_ends.specs.Faults.{Cause, IsOfTexts, Refuses}
+use Rattle.reqs_ends.specs.Inputs.{environment_from}
+use Rattle.reqs_ends.specs.Ends.{of_input, Runs}
+use Rattle.reqs_answers.specs.Texts.{ReadTexts, texts_of}
+
+-- a pre-release or a developmental release is admitted where an applying line has a specifier with one, and
+-- any other version always
+abbrev pub on_request : Admits
+on_request = λ version names_prerelease. names_prerelease || not (is_prerelease version)
+
+-- what the texts of `check` are
+abbrev pub CheckTexts : Type 0
+CheckTexts = Result (ReadTexts EnvironmentRecord) Cause
+
+-- the text is the answer's in a format, for texts in the written grammars
+pub record IsCheckText (format : Format) (texts : CheckTexts) (text : List ℕ) : Type 0 where
+  pub read : ReadTexts EnvironmentRecord
+  pub is_read : texts ≡ Ok read
+  pub is_text : IsAnswerIn format on_request (asks_of (valuation_of read.second read.extras) read.lines)
+      read.candidates text
+
+-- the text is the answer's; or the texts are refused for what the fault says
+abbrev pub AnswersText : {Y : Type 0} → (RunFault → Type 0) → Format → Result (String Y) RunFault → CheckTexts
+    → Type 0
+AnswersText IsOne format (Ok text) texts = IsCheckText format texts (string_bytes text)
+AnswersText IsOne format (Err fault) texts = Refuses IsOne fault texts
+
+abbrev pub check_texts : Variables → List (List ℕ) → List (List ℕ) → CheckTexts
+check_texts vars extras inputs =
+    texts_of (environment_from Second 1) vars extras
+    (of_input inputs First) (of_input inputs Second) (of_input inputs Third)
+
+abbrev pub ChecksAs : Format → Variables → List (List ℕ) → List (List ℕ) → Status → List ℕ → Type 0
+ChecksAs format vars extras inputs status text =
+    (status ≡ Answered) × IsCheckText format (check_texts vars extras inputs) text
+
+abbrev pub CheckRefuses : Variables → List (List ℕ) → List (List ℕ) → RunFault → Type 0
+CheckRefuses vars extras inputs fault =
+    Refuses (IsOfTexts vars First (of_input inputs First)) fault (check_texts vars extras inputs)
+
+-- `check` ends so, with what its readers tell of the requirements, the environment and the candidates
+abbrev pub RunsCheck : {W : Type 0} → Format → Variables → List (List ℕ) → Option (List ℕ)
+    → Option (List ℕ) → Option (List ℕ) → (W → Option (List ℕ)) → W → W → Result Status RunFault → Type 0
+RunsCheck format vars extras requirements environment candidates contents old new result =
+    Runs (ChecksAs format vars extras) (CheckRefuses vars extras)
+    (requirements ∷ environment ∷ candidates ∷ []) contents old new result

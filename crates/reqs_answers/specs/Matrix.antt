@@ -1,0 +1,140 @@
+-- What `matrix` does, from the bytes of its inputs to the bytes of its answers.
+use Rattle.std.specs.Prelude.{◌≡◌, ◌⊎◌, ℕ, suc, List, [], ◌∷◌, ◌++◌, codes, Option, Result, Ok, Err}
+use Rattle.std.specs.List.{AllZip}
+use Rattle.std.specs.Fmt.{decimal}
+use Rattle.pep508_url.specs.Vars.{Variables}
+use Rattle.pep508_tree.specs.Meaning.{NodeRecord}
+use Rattle.pep508_environment.specs.Environment.{EnvironmentRecord}
+use Rattle.pep508_evaluation.specs.Valuations.{valuation_of}
+use Rattle.reqtable_text.specs.declared.candidates.Candidate.{Candidate}
+use Rattle.reqtable_answer.specs.Answer.{Admits, RowRecord, IsAnswer, IsAnswerText}
+use Rattle.reqs_json.specs.declared.format.Format.{Format}
+use Rattle.reqs_json.specs.declared.format.Format.TheVariants.{Text, Json}
+use Rattle.reqs_json.specs.Lines.{line_of}
+use Rattle.reqs_json.specs.Rows.{answers_value}
+use Rattle.reqtable_requirements.specs.Asks.{asks_of}
+use Rattle.reqtable_requirements.specs.LineReading.{LineRecord}
+use Rattle.reqtable_requirements.specs.Requirements.{StandsFor}
+use Rattle.reqtable_requirements.specs.declared.requirements.Line.{Line}
+use Rattle.reqtable_cases.specs.Lines.{HasTooMany, IsFirstTooMany}
+use Rattle.reqtable_table.specs.Cases.{Builds}
+use Rattle.reqtable_table.specs.Kept.{KeptPackage}
+use Rattle.reqs_ends.specs.declared.fault.Input.TheVariants.{First, Second, Third}
+use Rattle.reqs_ends.specs.declared.fault.RunFault.{RunFault}
+use Rattle.reqs_ends.specs.declared.fault.RunFault.TheVariants.{TooManyCases, Memory, Write}
+use Rattle.reqs_ends.specs.declared.fault.Status.{Status}
+use Rattle.reqs_ends.specs.declared.fault.Status.TheVariants.{Answered}
+use Rattle.reqs_ends.specs.Faults.{Cause, IsOfTexts, Refuses}
+use Rattle.reqs_ends.specs.Inputs.{environments_from}
+use Rattle.reqs_ends.specs.Ends.{of_input, Runs}
+use Rattle.reqs_io.specs.Front.{WritesWhole, AppendsFront}
+use Rattle.reqs_pieces.specs.Pieces.{PiecesRecord}
+use Rattle.reqs_answers.specs.Check.{on_request}
+use Rattle.reqs_answers.specs.Texts.{ReadTexts, texts_of}
+
+-- ---- the text
+
+-- what stands before the answer for an environment
+abbrev pub environment_line : ℕ → List ℕ
+environment_line number = codes "env " ++ decimal number ++ codes "\n"
+
+-- for each environment, numbered from this number on, its line and then the text of the answer
+abbrev pub IsMatrixText : Admits → List (List ℕ) → List LineRecord → List Candidate → ℕ
+    → List EnvironmentRecord → List ℕ → Type 0
+IsMatrixText admits extras lines candidates number [] text = text ≡ []
+IsMatrixText admits extras lines candidates number (environment ∷ environments) text =
+    (answer : List ℕ) × (rest : List ℕ)
+    × IsAnswerText admits (asks_of (valuation_of environment extras) lines) candidates answer
+    × IsMatrixText admits extras lines candidates (suc number) environments rest
+    × (text ≡ environment_line number ++ answer ++ rest)
+
+-- the rows that are the answer in each environment
+abbrev pub AreAnswers : Admits → List (List ℕ) → List LineRecord → List Candidate → List EnvironmentRecord
+    → List (List RowRecord) → Type 0
+AreAnswers admits extras lines candidates environments answers =
+    AllZip
+    (λ environment rows. IsAnswer admits (asks_of (valuation_of environment extras) lines) candidates rows)
+    environments answers
+
+-- the text of all answers in a format: that above, or the line of the object that has the rows of each
+abbrev pub IsMatrixIn : Format → Admits → List (List ℕ) → List LineRecord → List Candidate
+    → List EnvironmentRecord → List ℕ → Type 0
+IsMatrixIn Text admits extras lines candidates environments text =
+    IsMatrixText admits extras lines candidates 1 environments text
+IsMatrixIn Json admits extras lines candidates environments text =
+    (answers : List (List RowRecord)) × AreAnswers admits extras lines candidates environments answers
+    × (text ≡ line_of (answers_value candidates answers))
+
+-- texts one behind another, each behind the line of its environment
+abbrev pub numbered : ℕ → List (List ℕ) → List ℕ
+numbered number [] = []
+numbered number (answer ∷ answers) = environment_line number ++ answer ++ numbered (suc number) answers
+
+-- ---- what texts are answered with
+
+abbrev pub MatrixTexts : Type 0
+MatrixTexts = Result (ReadTexts (List EnvironmentRecord)) Cause
+
+-- no package has more cases than the limit, and the text has the answers for all environments
+pub record IsWithinLimit (format : Format) (limit : ℕ) (read : ReadTexts (List EnvironmentRecord))
+    (text : List ℕ) : Type 0 where
+  pub few : (name : List ℕ) → HasTooMany limit read.lines name → ⊥
+  pub is_text : IsMatrixIn format on_request read.extras read.lines read.candidates read.second text
+
+-- the fault names the first package that has more
+abbrev pub IsOverLimit : ℕ → List LineRecord → RunFault → Type 0
+IsOverLimit limit lines fault =
+    (name : List ℕ) × (fault ≡ TooManyCases First limit name) × IsFirstTooMany limit lines name
+
+-- texts are read as what has this property
+abbrev pub IsRead : MatrixTexts → (ReadTexts (List EnvironmentRecord) → Type 0) → Type 0
+IsRead texts Holds = (read : ReadTexts (List EnvironmentRecord)) × (texts ≡ Ok read) × Holds read
+
+-- the text has the answers; or the texts are refused for what the fault says, or, once all are read, for a
+-- package that has too many cases
+abbrev pub AnswersAll : (RunFault → Type 0) → Format → ℕ → Result PiecesRecord RunFault → MatrixTexts → Type 0
+AnswersAll IsOne format limit (Ok text) texts =
+    IsRead texts (λ read. IsWithinLimit format limit read text.whole)
+AnswersAll IsOne format limit (Err fault) texts =
+    Refuses IsOne fault texts ⊎ IsRead texts (λ read. IsOverLimit limit read.lines fault)
+
+-- lines stand for those of some text
+abbrev pub AreRead : List NodeRecord → List Line → Type 0
+AreRead nodes lines = (vars : Variables) × (said : List LineRecord) × AllZip (StandsFor vars nodes) lines said
+
+-- a table of lines is built, with these nodes, or refused
+abbrev pub TablesAs : ℕ → List NodeRecord → List LineRecord → Result (List KeptPackage) RunFault → Type 0
+TablesAs limit nodes lines (Ok table) = Builds limit nodes lines (Ok table)
+TablesAs limit nodes lines (Err fault) = (fault ≡ Memory) ⊎ IsOverLimit limit lines fault
+
+abbrev pub matrix_texts : Variables → List (List ℕ) → List (List ℕ) → MatrixTexts
+matrix_texts vars extras inputs =
+    texts_of (environments_from Second) vars extras
+    (of_input inputs First) (of_input inputs Second) (of_input inputs Third)
+
+-- the text was written, or a front of it; or, for want of memory, nothing
+abbrev pub WritesText : {W : Type 0} → (W → Option (List ℕ)) → W → W → List ℕ → Result Status RunFault
+    → Type 0
+WritesText contents old new text (Ok status) = (status ≡ Answered) × WritesWhole contents old new text
+WritesText contents old new text (Err fault) =
+    ((fault ≡ Write) × AppendsFront (contents old) (contents new) text) ⊎ ((fault ≡ Memory) × (new ≡ old))
+
+-- ---- the command
+
+abbrev pub MatrixAnswersAs : Format → ℕ → Variables → List (List ℕ) → List (List ℕ) → Status → List ℕ
+    → Type 0
+MatrixAnswersAs format limit vars extras inputs status text =
+    (status ≡ Answered)
+    × IsRead (matrix_texts vars extras inputs) (λ read. IsWithinLimit format limit read text)
+
+abbrev pub MatrixRefuses : ℕ → Variables → List (List ℕ) → List (List ℕ) → RunFault → Type 0
+MatrixRefuses limit vars extras inputs fault =
+    Refuses (IsOfTexts vars First (of_input inputs First)) fault (matrix_texts vars extras inputs)
+    ⊎ IsRead (matrix_texts vars extras inputs) (λ read. IsOverLimit limit read.lines fault)
+
+-- `matrix` ends so, with what its readers tell of the requirements, the environments and the candidates
+abbrev pub RunsMatrix : {W : Type 0} → Format → ℕ → Variables → List (List ℕ) → Option (List ℕ)
+    → Option (List ℕ) → Option (List ℕ) → (W → Option (List ℕ)) → W → W → Result Status RunFault → Type 0
+RunsMatrix format limit vars extras requirements environments candidates contents old new result =
+    Runs (MatrixAnswersAs format limit vars extras) (MatrixRefuses limit vars extras)
+    (requirements ∷ environments ∷ candidates ∷ []) contents old new result

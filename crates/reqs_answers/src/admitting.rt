@@ -1,0 +1,15 @@
+//! Which candidates are admitted.
+
+ghost use Rattle.std.specs.Prelude.{◌≡◌};
+ghost use Rattle.reqs_answers.specs.Check.{on_request};
+
+use pep440_version::Version;
+
+/// Whether a candidate of this version may be taken: a pre-release or a developmental release only where a
+/// specifier of the lines that apply names one (PEP 440, "Handling of pre-releases", without the fallback
+/// where nothing else fits), and any other version always.
+pub(crate) fn is_admitted(version: &Version, names_prerelease: bool) -> bool
+    ensures { result ≡ on_request version.now names_prerelease }
+{
+    names_prerelease || !version.any_prerelease()
+}

@@ -1,0 +1,153 @@
+//! `check`: the answer for one environment.
+
+ghost use Rattle.std.specs.Prelude.{◌≡◌, ◌≢◌, List, map, IfErr, IfOk, string_bytes};
+ghost use Rattle.std.specs.List.{AllZip};
+ghost use Rattle.pep508_url.specs.Vars.{Variables};
+ghost use Rattle.pep508_evaluation.specs.Valuations.{valuation_of};
+ghost use Rattle.reqtable_requirements.specs.Asks.{AreOfNodes, asks_of};
+ghost use Rattle.reqtable_requirements.specs.LineReading.{LineRecord};
+ghost use Rattle.reqtable_requirements.specs.Requirements.{StandsFor};
+ghost use Rattle.reqs_json.specs.Rows.{IsAnswerIn};
+ghost use Rattle.reqs_ends.specs.declared.fault.Input.TheVariants.{First, Second};
+ghost use Rattle.reqs_ends.specs.Faults.{IsPlain, IsOfTexts};
+ghost use Rattle.reqs_ends.specs.Inputs.{environment_from};
+ghost use Rattle.reqs_answers.specs.Check.{on_request, AnswersText, RunsCheck};
+ghost use Rattle.reqs_answers.specs.Texts.{behind_lines, texts_of};
+
+use crate::admitting::is_admitted;
+use pep508_environment::MarkerEnvironment;
+use pep508_name::ExtraName;
+use pep508_tree::Interner;
+use pep508_url::Vars;
+use reqs_ends::{
+    Input, RunFault, Status, read_candidates, read_environment, read_extras, read_input,
+    read_requirements, write_answer,
+};
+use reqs_json::Format;
+use reqtable_answer::Admission;
+use reqtable_requirements::Requirements;
+use reqtable_text::Candidates;
+use std::alloc::{AllocError, Global};
+use std::io::{Read, Write};
+
+/// Reads a list of requirements, an environment and a list of candidates, and writes for each
+/// package that a line which applies asks for, with the extras that these lines ask for, the greatest
+/// candidate that all of them take, the first among equals, or `none`; or `direct` where one of them has
+/// a URL. A pre-release or a developmental release is a candidate only where a specifier of the package's
+/// lines that apply names one. Rows stand in the order of the names' bytes, a line for each, or as one object
+/// (`docs/JSON.md`).
+///
+/// All inputs are read whole, in this order; then the extras are read as names, and then each
+/// input as what it is. The answer is made whole before the first write, by one call of
+/// `Requirements::judge`.
+pub fn check<L: Read, E: Read, C: Read, W: Write>(
+    alloc: Global,
+    requirements: &mut L,
+    environment: &mut E,
+    candidates: &mut C,
+    extras: &[&str],
+    vars: &Vars,
+    format: Format,
+    output: &mut W,
+) -> Result<Status, RunFault>
+    ensures runs { RunsCheck format vars.now (map (λ e. e.now) extras.now)
+        (L.remaining requirements.old) (E.remaining environment.old) (C.remaining candidates.old)
+        W.contents output.old output.new result }
+    // A refused command has written nothing.
+    ensures unwritten { IfErr result (λ fault. fault ≢ RunFault.Write → output.new ≡ output.old) }
+{
+    let mut requirements = read_input(alloc, Input::First, requirements)?;
+    let mut environment = read_input(alloc, Input::Second, environment)?;
+    let mut candidates = read_input(alloc, Input::Third, candidates)?;
+    let text = check_text(
+        alloc,
+        &mut requirements,
+        &mut environment,
+        &mut candidates,
+        extras,
+        vars,
+        format,
+    )?;
+    write_answer(output, text.as_str(), Status::Answered)
+}
+
+/// The text of the answer. The bytes of each input are let go once they are read.
+fn check_text(
+    alloc: Global,
+    requirements: &mut Vec<u8>,
+    environment: &mut Vec<u8>,
+    candidates: &mut Vec<u8>,
+    extras: &[&str],
+    vars: &Vars,
+    format: Format,
+) -> Result<String, RunFault>
+    ensures { AnswersText (IsOfTexts vars.now First requirements.old.items) format result
+        (texts_of (environment_from Second 1) vars.now (map (λ e. e.now) extras.now)
+        requirements.old.items environment.old.items candidates.old.items) }
+{
+    let extras = read_extras(alloc, extras)?;
+    let mut interner = Interner::new(alloc);
+    let requirements = read_requirements(alloc, Input::First, requirements, &mut interner, vars)?;
+    text_behind(
+        alloc,
+        &requirements,
+        &interner,
+        &extras,
+        environment,
+        candidates,
+        format,
+    )
+}
+
+/// The text of the answer for requirements and extras that are read.
+fn text_behind(
+    alloc: Global,
+    requirements: &Requirements,
+    interner: &Interner,
+    extras: &[ExtraName],
+    environment: &mut Vec<u8>,
+    candidates: &mut Vec<u8>,
+    format: Format,
+) -> Result<String, RunFault>
+    requires { AreOfNodes interner.now.nodes requirements.now }
+    ensures { (vars : Variables) (said : List LineRecord) →
+        AllZip (StandsFor vars interner.now.nodes) requirements.now said →
+        AnswersText IsPlain format result (behind_lines (environment_from Second 1) extras.now said
+        environment.old.items candidates.old.items) }
+{
+    let environment = read_environment(alloc, Input::Second, 1, environment)?;
+    let candidates = read_candidates(alloc, Input::Third, candidates)?;
+    match answer_text(
+        alloc,
+        requirements,
+        interner,
+        &environment,
+        extras,
+        &candidates,
+        format,
+    ) {
+        Ok(text) => Ok(text),
+        Err(_) => Err(RunFault::Memory),
+    }
+}
+
+/// The text of what the requirements ask for in the environment with the extras, in a format.
+fn answer_text(
+    alloc: Global,
+    requirements: &Requirements,
+    interner: &Interner,
+    environment: &MarkerEnvironment,
+    extras: &[ExtraName],
+    candidates: &Candidates,
+    format: Format,
+) -> Result<String, AllocError>
+    requires { AreOfNodes interner.now.nodes requirements.now }
+    ensures { IfOk result (λ text. (vars : Variables) (said : List LineRecord) →
+        AllZip (StandsFor vars interner.now.nodes) requirements.now said →
+        IsAnswerIn format on_request (asks_of (valuation_of environment.now extras.now) said) candidates.now
+        (string_bytes text)) }
+{
+    let admission = Admission::new(|version, named| is_admitted(version, named));
+    let answer = requirements.judge(alloc, interner, environment, extras, candidates, &admission)?;
+    reqs_json::answer_text(alloc, format, &answer, candidates)
+}

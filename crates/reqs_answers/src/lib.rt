@@ -1,0 +1,18 @@
+#![tactic(auto)]
+//! The commands of `reqs` that judge a list: for one environment, and for many. Each reads its inputs whole,
+//! and writes its answer once it is made whole.
+//!
+//! ```text
+//! let status = check(
+//!     alloc, &mut requirements, &mut environment, &mut candidates, &extras, &vars, Format::Text,
+//!     &mut output,
+//! )?;
+//! ```
+
+mod admitting;
+mod checks;
+pub mod laws;
+mod matrices;
+
+pub use checks::check;
+pub use matrices::matrix;

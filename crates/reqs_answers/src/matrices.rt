@@ -1,0 +1,369 @@
+//! `matrix`: the answers for many environments, from one table of the requirements.
+
+ghost use Rattle.std.specs.Prelude.{◌≡◌, ◌≢◌, ◌++◌, ◌∷◌, [], List, map, codes};
+ghost use Rattle.std.specs.Prelude.{IfErr, IfOk, OnOk, string_bytes};
+ghost use Rattle.std.specs.List.{AllZip, AllByRecursion};
+ghost use Rattle.pep508_url.specs.Vars.{Variables};
+ghost use Rattle.reqtable_answer.specs.Admission.{AnswersBy};
+ghost use Rattle.reqtable_requirements.specs.Asks.{AreOfNodes};
+ghost use Rattle.reqtable_requirements.specs.LineReading.{LineRecord};
+ghost use Rattle.reqtable_requirements.specs.Requirements.{StandsFor};
+ghost use Rattle.reqtable_table.specs.Cases.{HasItsCases};
+ghost use Rattle.reqtable_table.specs.Kept.{KeepsAll};
+ghost use Rattle.reqtable_table.specs.Runs.{AreRunsOf, AreTold};
+ghost use Rattle.reqs_ends.specs.declared.fault.Input.TheVariants.{First, Second};
+ghost use Rattle.reqs_ends.specs.Faults.{IsPlain, IsOfTexts};
+ghost use Rattle.reqs_ends.specs.Inputs.{environments_from};
+ghost use Rattle.reqs_answers.specs.Check.{on_request};
+ghost use Rattle.reqs_json.specs.declared.format.Format.TheVariants.{Json};
+ghost use Rattle.reqs_answers.specs.Matrix.{environment_line, IsMatrixText, IsMatrixIn, AreRead, AnswersAll};
+ghost use Rattle.reqs_answers.specs.Matrix.{TablesAs, RunsMatrix, WritesText};
+ghost use Rattle.reqs_answers.specs.Texts.{behind_lines, texts_of};
+
+use crate::admitting::is_admitted;
+use pep440_version::Version;
+use pep508_environment::MarkerEnvironment;
+use pep508_name::ExtraName;
+use pep508_tree::Interner;
+use pep508_url::Vars;
+use reqs_ends::{
+    Input, RunFault, Status, read_candidates, read_environments, read_extras, read_input,
+    read_requirements,
+};
+use reqs_json::{Format, environment_text};
+use reqs_pieces::Pieces;
+use reqs_rows::RowTexts;
+use reqtable_answer::Admission;
+use reqtable_requirements::Requirements;
+use reqtable_table::{Runs, Table, TableError};
+use reqtable_text::Candidates;
+use std::alloc::{AllocError, Global};
+use std::io::{Read, Write};
+
+/// How many bytes of the text wait for one another before they are written.
+const WAITING_BYTES: usize = 65_536;
+
+/// Reads a list of requirements, a list of environments and a list of candidates, and writes for each
+/// environment its number, as `env 1`, on a line, and then what `check` writes for it; or one object of the
+/// rows of all (`docs/JSON.md`).
+///
+/// All inputs are read whole, in this order; then the extras are read as names, and then each input
+/// as what it is. Then one table of the requirements is made, from which all environments are answered, by
+/// `Table::build`. A package that has more cases than the limit is refused: the first by name, whatever the
+/// environments are. Before the first write all is decided, and all memory is there that writing takes: of
+/// the lines each row is kept once, however many environments have it; an object is kept whole.
+pub fn matrix<L: Read, E: Read, C: Read, W: Write>(
+    alloc: Global,
+    requirements: &mut L,
+    environments: &mut E,
+    candidates: &mut C,
+    extras: &[&str],
+    vars: &Vars,
+    limit: u64,
+    format: Format,
+    output: &mut W,
+) -> Result<Status, RunFault>
+    ensures runs { RunsMatrix format limit vars.now (map (λ e. e.now) extras.now)
+        (L.remaining requirements.old) (E.remaining environments.old) (C.remaining candidates.old)
+        W.contents output.old output.new result }
+    // A refused command has written nothing.
+    ensures unwritten { IfErr result (λ fault. fault ≢ RunFault.Write → output.new ≡ output.old) }
+{
+    let mut requirements = read_input(alloc, Input::First, requirements)?;
+    let mut environments = read_input(alloc, Input::Second, environments)?;
+    let mut candidates = read_input(alloc, Input::Third, candidates)?;
+    let text = matrix_text(
+        alloc,
+        &mut requirements,
+        &mut environments,
+        &mut candidates,
+        extras,
+        vars,
+        limit,
+        format,
+    )?;
+    write_text(alloc, &text, output)
+}
+
+/// Writes the text of all answers through a buffer, whose memory is taken before the first write.
+fn write_text<W: Write>(alloc: Global, text: &Pieces, output: &mut W) -> Result<Status, RunFault>
+    ensures { WritesText W.contents output.old output.new text.now.whole result }
+{
+    let Ok(buffer) = Vec::with_capacity(alloc, WAITING_BYTES) else {
+        return Err(RunFault::Memory);
+    };
+    let mut buffer = buffer;
+    match text.write_through(&mut buffer, output) {
+        Ok(()) => Ok(Status::Answered),
+        Err(_) => Err(RunFault::Write),
+    }
+}
+
+/// The text of all answers. The bytes of each input are let go once they are read.
+fn matrix_text(
+    alloc: Global,
+    requirements: &mut Vec<u8>,
+    environments: &mut Vec<u8>,
+    candidates: &mut Vec<u8>,
+    extras: &[&str],
+    vars: &Vars,
+    limit: u64,
+    format: Format,
+) -> Result<Pieces, RunFault>
+    ensures { AnswersAll (IsOfTexts vars.now First requirements.old.items) format limit result
+        (texts_of (environments_from Second) vars.now (map (λ e. e.now) extras.now)
+        requirements.old.items environments.old.items candidates.old.items) }
+{
+    let extras = read_extras(alloc, extras)?;
+    let mut interner = Interner::new(alloc);
+    let requirements = read_requirements(alloc, Input::First, requirements, &mut interner, vars)?;
+    matrix_behind(
+        alloc,
+        requirements,
+        &mut interner,
+        &extras,
+        environments,
+        candidates,
+        limit,
+        format,
+    )
+}
+
+/// The text of all answers for requirements and extras that are read.
+fn matrix_behind(
+    alloc: Global,
+    requirements: Requirements,
+    interner: &mut Interner,
+    extras: &[ExtraName],
+    environments: &mut Vec<u8>,
+    candidates: &mut Vec<u8>,
+    limit: u64,
+    format: Format,
+) -> Result<Pieces, RunFault>
+    requires { AreRead interner.old.nodes requirements }
+    ensures { (vars : Variables) (said : List LineRecord) →
+        AllZip (StandsFor vars interner.old.nodes) requirements said →
+        AnswersAll IsPlain format limit result (behind_lines (environments_from Second) extras.now said
+        environments.old.items candidates.old.items) }
+{
+    let environments = read_environments(alloc, Input::Second, environments)?;
+    let candidates = read_candidates(alloc, Input::Third, candidates)?;
+    let mut table = table_of(alloc, requirements, interner, limit)?;
+    match answers_text(
+        alloc,
+        &mut table,
+        interner,
+        &environments,
+        extras,
+        &candidates,
+        format,
+    ) {
+        Ok(text) => Ok(text),
+        Err(_) => Err(RunFault::Memory),
+    }
+}
+
+/// The table of the first input's requirements.
+fn table_of(
+    alloc: Global,
+    requirements: Requirements,
+    interner: &mut Interner,
+    limit: u64,
+) -> Result<Table, RunFault>
+    requires { AreOfNodes interner.old.nodes requirements }
+    ensures { (vars : Variables) (said : List LineRecord) →
+        AllZip (StandsFor vars interner.old.nodes) requirements said →
+        TablesAs limit interner.new.nodes said result }
+{
+    match Table::build(alloc, requirements, interner, limit) {
+        Ok(table) => Ok(table),
+        Err(TableError::TooManyCases { package }) => Err(RunFault::TooManyCases {
+            input: Input::First,
+            limit,
+            package,
+        }),
+        Err(TableError::Memory) => Err(RunFault::Memory),
+    }
+}
+
+/// The answers of a table for all environments with the extras, in a format.
+fn answers_text(
+    alloc: Global,
+    table: &mut Table,
+    interner: &Interner,
+    environments: &[MarkerEnvironment],
+    extras: &[ExtraName],
+    candidates: &Candidates,
+    format: Format,
+) -> Result<Pieces, AllocError>
+    requires { AllByRecursion (HasItsCases interner.now.nodes) table.old }
+    ensures { IfOk result (λ text. (said : List LineRecord) → KeepsAll interner.now.nodes table.old said →
+        IsMatrixIn format on_request extras.now said candidates.now environments.now text.whole) }
+{
+    let ordered = candidates.in_order(alloc)?;
+    let mut runs = table.runs(alloc, &ordered)?;
+    let admission = Admission::new(|version, named| is_admitted(version, named));
+    answers_in(
+        alloc,
+        table,
+        interner,
+        environments,
+        extras,
+        &mut runs,
+        &admission,
+        candidates,
+        format,
+    )
+}
+
+/// The same among the candidates of the table's packages.
+fn answers_in<F: Fn(&Version, bool) -> bool>(
+    alloc: Global,
+    table: &mut Table,
+    interner: &Interner,
+    environments: &[MarkerEnvironment],
+    extras: &[ExtraName],
+    runs: &mut Runs<'_, '_>,
+    admission: &Admission<F>,
+    candidates: &Candidates,
+    format: Format,
+) -> Result<Pieces, AllocError>
+    requires cases { AllByRecursion (HasItsCases interner.now.nodes) table.old }
+    requires callable { F.IsAlwaysCallable admission.now }
+    requires admits { AnswersBy (F.post admission.now) on_request }
+    requires runs { AreRunsOf table.old runs.old }
+    requires told { AreTold (F.post admission.now) table.old runs.old }
+    requires candidates { runs.old.candidates ≡ candidates.now }
+    ensures { IfOk result (λ text. (said : List LineRecord) → KeepsAll interner.now.nodes table.old said →
+        IsMatrixIn format on_request extras.now said candidates.now environments.now text.whole) }
+{
+    match format {
+        Format::Text => answers_among(
+            alloc,
+            table,
+            interner,
+            environments,
+            extras,
+            runs,
+            admission,
+            candidates,
+        ),
+        Format::Json => objects_among(
+            alloc,
+            table,
+            interner,
+            environments,
+            extras,
+            runs,
+            admission,
+            candidates,
+        ),
+    }
+}
+
+/// The object of these answers.
+fn objects_among<F: Fn(&Version, bool) -> bool>(
+    alloc: Global,
+    table: &mut Table,
+    interner: &Interner,
+    environments: &[MarkerEnvironment],
+    extras: &[ExtraName],
+    runs: &mut Runs<'_, '_>,
+    admission: &Admission<F>,
+    candidates: &Candidates,
+) -> Result<Pieces, AllocError>
+    requires cases { AllByRecursion (HasItsCases interner.now.nodes) table.old }
+    requires callable { F.IsAlwaysCallable admission.now }
+    requires admits { AnswersBy (F.post admission.now) on_request }
+    requires runs { AreRunsOf table.old runs.old }
+    requires told { AreTold (F.post admission.now) table.old runs.old }
+    requires candidates { runs.old.candidates ≡ candidates.now }
+    ensures { IfOk result (λ text. (said : List LineRecord) → KeepsAll interner.now.nodes table.old said →
+        IsMatrixIn Json on_request extras.now said candidates.now environments.now text.whole) }
+{
+    let mut text = Pieces::new(alloc, environments.len().saturating_add(2));
+    open_object(alloc, &mut text)?;
+    for (place, environment) in environments.iter().enumerate() {
+        let answer = table.answer_among(alloc, interner, environment, extras, runs, admission)?;
+        let object = environment_text(alloc, place > 0, place + 1, &answer, candidates)?;
+        put(&mut text, object)?;
+    }
+    close_object(alloc, &mut text)?;
+    Ok(text)
+}
+
+/// Puts what stands before all environments behind a text.
+fn open_object(alloc: Global, text: &mut Pieces) -> Result<(), AllocError>
+    ensures { OnOk result (text.new.whole ≡ text.old.whole ++ codes "{\"environments\":[") }
+{
+    let piece = String::from_str(alloc, "{\"environments\":[")?;
+    put(text, piece)
+}
+
+/// Puts what stands behind all environments behind a text.
+fn close_object(alloc: Global, text: &mut Pieces) -> Result<(), AllocError>
+    ensures { OnOk result (text.new.whole ≡ text.old.whole ++ codes "]}\n") }
+{
+    let piece = String::from_str(alloc, "]}\n")?;
+    put(text, piece)
+}
+
+/// Puts a piece behind a text.
+fn put(text: &mut Pieces, piece: String) -> Result<(), AllocError>
+    ensures { OnOk result (text.new.whole ≡ text.old.whole ++ string_bytes piece) }
+{
+    let place = text.add(piece)?;
+    text.append(place)
+}
+
+/// The lines of these answers, behind their environments' lines.
+fn answers_among<F: Fn(&Version, bool) -> bool>(
+    alloc: Global,
+    table: &mut Table,
+    interner: &Interner,
+    environments: &[MarkerEnvironment],
+    extras: &[ExtraName],
+    runs: &mut Runs<'_, '_>,
+    admission: &Admission<F>,
+    candidates: &Candidates,
+) -> Result<Pieces, AllocError>
+    requires cases { AllByRecursion (HasItsCases interner.now.nodes) table.old }
+    requires callable { F.IsAlwaysCallable admission.now }
+    requires admits { AnswersBy (F.post admission.now) on_request }
+    requires runs { AreRunsOf table.old runs.old }
+    requires told { AreTold (F.post admission.now) table.old runs.old }
+    requires candidates { runs.old.candidates ≡ candidates.now }
+    ensures { IfOk result (λ text. (said : List LineRecord) → KeepsAll interner.now.nodes table.old said →
+        IsMatrixText on_request extras.now said candidates.now 1 environments.now text.whole) }
+{
+    let room = environments
+        .len()
+        .saturating_mul(table.len().saturating_add(1));
+    let mut text = Pieces::new(alloc, room);
+    let mut rows = RowTexts::new(alloc);
+    for (place, environment) in environments.iter().enumerate() {
+        put_line(alloc, &mut text, place + 1)?;
+        rows.put_answer(
+            alloc,
+            table,
+            interner,
+            environment,
+            extras,
+            runs,
+            admission,
+            candidates,
+            &mut text,
+        )?;
+    }
+    Ok(text)
+}
+
+/// Puts the line of an environment behind a text.
+fn put_line(alloc: Global, text: &mut Pieces, number: usize) -> Result<(), AllocError>
+    ensures whole { OnOk result (text.new.whole ≡ text.old.whole ++ environment_line number) }
+    ensures texts { OnOk result (text.new.texts ≡ text.old.texts ++ environment_line number ∷ []) }
+{
+    let line = format!(in alloc; "env {number}\n")?;
+    let piece = text.add(line)?;
+    text.append(piece)
+}

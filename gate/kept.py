@@ -1,0 +1,139 @@
+"""The everyday way to prove crates: what a check of the same crate found before is taken where it still holds.
+
+The store keeps of each crate that is proved so the folder of `rattle --incremental`, its kept work: its modules as they
+were checked. The next time something below the crate changes, and the crate's own texts don't, the prover reads the kept
+work, judges of each module whether it still holds over the crates below as they are now, and checks the others anew. A crate
+whose own texts are new has no kept work, and is proved as by a run from nothing; so is each where the store is empty.
+
+Libraries that are made so hold their proofs, not statements alone, and name no sums of those below; so each goes under the
+sum of all texts that it rests on, none is made before those below are there, and what lay in out/ is removed first. A crate
+is taken as proved from nothing only where all below it are.
+"""
+
+import os
+import re
+import shutil
+import tempfile
+
+import keys
+import toolchain
+from crates import kit_folder
+from prover import CPU, LIBRARY, PROGRAM, SECONDS, STATIC, TESTS, Prover, archive_of
+from store import Store
+
+WORK = "work"
+# The forms of what is proved, and which those of the libraries below may have.
+NOTHING, STATEMENTS, WHOLE = "nothing", "statements", "whole"
+FITS = {NOTHING: {NOTHING}, STATEMENTS: {NOTHING, STATEMENTS}, WHOLE: {NOTHING, STATEMENTS, WHOLE}}
+# The word of a verdict that rests on kept work. All other words are held to `rt`'s rules as they are.
+TRUSTED = re.compile(r" incremental=trusted\n\Z")
+CHECKED = re.compile(r"^crate (\w+): modules loaded=\d+ checked=(\d+)$", re.M)
+# What a line takes by one job where kept work is there.
+SECONDS_A_LINE = 0.03
+
+
+class Verdict:
+    """What `rt` holds the last line of a check to, with one word more allowed."""
+
+    def __init__(self, pattern):
+        self.pattern = pattern
+
+    def search(self, said):
+        return self.pattern.search(TRUSTED.sub("\n", said))
+
+
+def prover_of(is_from_nothing):
+    """The way to prove of a run from nothing, which takes nothing from the store, or of an everyday run."""
+    rt = toolchain.load()
+    return Prover(rt, Store(reads=False)) if is_from_nothing else KeptProver(rt, Store())
+
+
+class KeptProver(Prover):
+    """Proves crates through kept work where the store has none of them."""
+
+    def __init__(self, rt, store):
+        super().__init__(rt, store)
+        rt.rtlib.VERDICT = Verdict(rt.rtlib.VERDICT)
+        self.forms, self.through = {}, []
+
+    def form(self, name, tests=False):
+        """In which form a crate or its tests are taken, or else proved: as by a run from nothing (and perhaps by one), or whole,
+        with all of its proofs. Statements fit those libraries alone over which they were made, and so go with statements."""
+        key = name, tests
+        if key not in self.forms:
+            below = {self.form(it) for it in self.crates[name].uses}
+            can = [it for it in (NOTHING, STATEMENTS, WHOLE) if below <= FITS[it]]
+            there = [it for it in can if self.store.has(self.entry_in(it, name, tests), self.parts(name, tests))]
+            made = STATEMENTS if STATEMENTS in can and not self.keeps_work(name, tests) else WHOLE
+            self.forms[key] = there[0] if there else made
+        return self.forms[key]
+
+    def keeps_work(self, name, tests):
+        """Whether a proof goes through kept work: there is some, or the crate's own texts were proved before, over others, and
+        so may be again."""
+        return self.store.has(self.work_entry(name, tests), ()) or self.was_proved_before(name, tests)
+
+    def entry_in(self, form, name, tests):
+        if form == NOTHING:
+            return super().entry(name, tests)
+        return f"{keys.of_everyday_proof(self.crates, name)}.{self.kind(name, tests)}{'.whole' if form == WHOLE else ''}"
+
+    def entry(self, name, tests=False):
+        return self.entry_in(self.form(name, tests), name, tests)
+
+    def work_entry(self, name, tests):
+        return f"{keys.of_kept_work(self.crates, name)}.{self.kind(name, tests)}.{WORK}"
+
+    def seconds(self, name, tests, lines):
+        if self.store.has(self.work_entry(name, tests), ()):
+            return SECONDS + SECONDS_A_LINE * lines
+        return super().seconds(name, tests, lines)
+
+    def prove(self, crate, flags, tests):
+        if self.form(crate.name, tests) != WHOLE:
+            return super().prove(crate, flags, tests)
+        entry = self.work_entry(crate.name, tests)
+        with tempfile.TemporaryDirectory(prefix="reqs-kept-") as room:
+            work = os.path.join(room, WORK)
+            is_there = self.store.take(entry, room, [WORK])
+            os.makedirs(work, exist_ok=True)
+            status, said = self.prove_over(crate, flags, tests, work)
+            anew = sum(int(count) for name, count in CHECKED.findall(said) if name == crate.name)
+            if is_there:
+                self.through.append(f"{crate.name} ({anew} modules anew)")
+            if status == 0 and (anew or not is_there):
+                self.store.keep(entry, room, [WORK])
+        return status
+
+    def prove_over(self, crate, flags, tests, work):
+        """Proves over kept work, and gives a status and what was said."""
+        out = crate.out
+        with tempfile.TemporaryFile("w+", errors="replace") as crate.out:
+            try:
+                status = self.build(crate, flags, tests, work)
+            finally:
+                said, crate.out = crate.out, out
+            said.seek(0)
+            text = said.read()
+        print(text, end="", file=out, flush=True)
+        return status, text
+
+    def build(self, crate, flags, tests, work):
+        kind, to = self.kind(crate.name, tests), f"out/{crate.name}"
+        words = [*crate.words(flags, tests=tests, keeps=False), "--incremental", work]
+        if kind == LIBRARY:
+            shutil.rmtree(os.path.dirname(crate.rlib), ignore_errors=True)
+            os.makedirs(os.path.dirname(crate.rlib))
+            return crate.prove(["build", *words, "-o", crate.rlib])
+        words += ["--toolchain", os.path.join(kit_folder(), "toolchain")]
+        if kind == STATIC:
+            return crate.prove(["build", *words, "--cpu", CPU, "--backend", "llvm", "-o", f"out/{archive_of(crate.name)}"])
+        to = f"{to}_tests" if kind == TESTS else to
+        status = crate.prove(["build", *words, "--backend", "llvm", "-o", f"{to}.o"])
+        if not status and os.path.getsize(os.path.join(crate.folder, f"{to}.o")):
+            status = crate.link(f"{to}.o", to)
+        return status or (crate.compile_by("rattle", words, to) if kind == PROGRAM else 0)
+
+    def told(self):
+        through = f": {', '.join(self.through)}" if self.through else ""
+        return f"{super().told()}, {len(self.through)} proved through kept work{through}"

@@ -1,0 +1,75 @@
+"""What a check of a crate sees of the crates below it: all of their texts but the bodies of functions and the proofs of these.
+
+A function's proof rests on the contracts of what it calls, and on definitions and lemmas; where these are the same, so is the
+verdict on an edit of the function. A library for C is another thing: what it calls is linked with it.
+"""
+
+import os
+import re
+
+from clauses import BRACKET, Source, after_brackets
+from crates import sum_of_file
+from keys import summed
+
+# The files of a function's own proof, which no other proof can name.
+OWN_PROOF = ("Answers.antt", "Invariants.antt", "Proof.antt")
+# Functions whose bodies say more than their contracts: what type they return, or what a constant is.
+OPAQUE = re.compile(r"->[^{;]*\bimpl\b|^(?:pub(?:\s*\([^)]*\))?\s+)?const\b")
+
+
+def by(crates, name):
+    """The sum of all that a check of single functions of a crate reads."""
+    crate = crates[name]
+    if crate.is_static() or crate.is_program():
+        return crates.sum(name)
+    return summed((crate.own_sum(), crates.around(), [shown(crates[it.name]) for it in crates.below(name)]))
+
+
+def shown(crate):
+    """The sum of what crates above one see of it."""
+    if not hasattr(crate, "shown_sum"):
+        texts = [(os.path.relpath(it, crate.folder), text_of(crate, it)) for it in crate.text_files() if not is_own_proof(crate, it)]
+        crate.shown_sum = summed((crate.name, crate.words, crate.said, texts))
+    return crate.shown_sum
+
+
+def is_own_proof(crate, path):
+    return path.startswith(os.path.join(crate.folder, "proofs")) and os.path.basename(path) in OWN_PROOF
+
+
+def text_of(crate, path):
+    """The sum of a file, or of a source the text without the bodies of its functions."""
+    if not path.endswith(".rt"):
+        return sum_of_file(path)
+    with open(path, encoding="utf-8") as file:
+        text = file.read()
+    pieces, at = [], 0
+    source = Source(crate, path, text, None)
+    for begin, end in sorted(bodies(source, 0, len(text))):
+        pieces.append(text[at:begin])
+        at = end
+    return "{}".join([*pieces, text[at:]])
+
+
+def bodies(source, at, end):
+    """The places of the bodies of functions, from a place of a source to another; without those of tests, of functions that
+    constants may call, and of those that return a type without a name."""
+    for head, _, after in source.items(at, end):
+        if head["kind"] == "fn":
+            begin = body_of(source, head.end(), after)
+            if begin and not OPAQUE.search(source.bare[head.start() : begin]):
+                yield begin, after
+        elif head["kind"] in ("impl", "mod", "trait") and source.bare[after - 1] == "}":
+            begin = source.bare.index("{", head.start())
+            yield from bodies(source, begin + 1, after - 1)
+
+
+def body_of(source, at, after):
+    """The place where the body of a function begins, or None where it has none."""
+    while True:
+        it = BRACKET.search(source.bare, at, after)
+        if not it or it[0] == ";":
+            return None
+        at = after_brackets(source.bare, it.start())
+        if it[0] == "{" and not source.clause_at(it.start()):
+            return it.start() if at == after else None

@@ -1,0 +1,204 @@
+"""Faults of the store and of kept work: each is made in a store of its own, and the gate has to see it."""
+
+import collections
+import os
+import re
+import shutil
+import tempfile
+
+import kept
+from crates import TOP
+from faults import FAILING, FAILING_TEST, FAULTS, LAST_USE, PROVE, Fault, copy_of, ran
+from store import Store
+
+# Scripts that take a crate's tests for proved, and keep that.
+SLIP = Fault("tests that are taken for proved", "underline", PROVE, "gate/prover.py", "        # (a library is unpacked once", """\
+        if tests:
+            write(os.path.join(out, parts[0]), "")
+            self.keep(crate, entry, tests)
+            remove(os.path.join(out, parts[0]))
+            return 0
+        # (a library is unpacked once""")
+# Prints the name of the entry of a crate's tests.
+ENTRY = """import sys
+sys.path.insert(0, "gate")
+import kept
+print(kept.prover_of(False).entry("underline", True))
+"""
+# Prints the sum of what a check of `high` sees.
+SEEN = """import sys
+sys.path.insert(0, "gate")
+import seen
+from crates import Crates
+print(seen.by(Crates(), "high"))
+"""
+# Two small crates, one over the other.
+HEAD = "//! A crate.\n#![tactic(auto)]\n\nghost use Rattle.std.specs.Prelude.{◌≡◌, ◌≤◌, ◌*◌};\n"
+LOW = f"""{HEAD}
+/// Twice.
+pub fn double(x: u32) -> u32
+    requires {{ x ≤ 1000 }}
+    ensures {{ result ≡ 2 * x }}
+{{
+    helper(x)
+}}
+
+fn helper(x: u32) -> u32
+    requires {{ x ≤ 1000 }}
+    ensures {{ result ≡ 2 * x }}
+{{
+    x + x
+}}
+"""
+HIGH = f"""{HEAD}
+use low::double;
+
+/// Four times.
+pub fn quadruple(x: u32) -> u32
+    requires {{ x ≤ 500 }}
+    ensures {{ result ≡ 4 * x }}
+{{
+    double(double(x))
+}}
+"""
+BODY, CLAUSE = "    x + x\n", "    requires { x ≤ 1000 }\n    ensures { result ≡ 2 * x }\n{\n    helper(x)"
+WEAKER = CLAUSE.replace("≡ 2 * x", "≤ 2 * x")
+Tried = collections.namedtuple("Tried", "name why")
+BY_KEPT_WORK = re.compile(r"^crate high: modules loaded=[1-9]\d* checked=0$", re.M)
+ANEW = re.compile(r"^crate high: modules loaded=0 checked=[1-9]", re.M)
+
+
+def taken_over():
+    """Why the gate takes over a failing test what it may not, or None: what scripts kept that prove no tests, and an entry of
+    tests without their program."""
+    test = next(it for it in FAULTS if it.new == LAST_USE + FAILING_TEST)
+    with tempfile.TemporaryDirectory() as folder, tempfile.TemporaryDirectory(prefix="reqs-faults-") as room:
+        copy_of("underline", room)
+        test.plant(room)
+        SLIP.plant(room)
+        status, said = ran(PROVE, room, folder)
+        if status:
+            return f"the scripts that prove no tests failed: {said[-300:]}"
+        shutil.copy2(os.path.join(TOP, SLIP.path), os.path.join(room, SLIP.path))
+        status, said = ran(PROVE, room, folder)
+        if status == 0 or FAILING not in said:
+            return f"what such scripts kept was taken: status {status}: {said[-300:]}"
+        name = ran(["-c", ENTRY], room, folder)[1].strip()
+        Store(folder).keep(name, room, ["HANDLES"])
+        status, said = ran(PROVE, room, folder)
+        if status == 0 or FAILING not in said:
+            return f"an entry without its program was taken: status {status}: {said[-300:]}"
+    return None
+
+
+def cut_short():
+    """Why an entry of the store that is cut short is taken, or None: the crate has to be proved in its place."""
+    with tempfile.TemporaryDirectory(prefix="reqs-faults-") as room, tempfile.TemporaryDirectory() as folder:
+        copy_of("read_outcome", room)
+        entry, parts = kept.prover_of(False).entry("read_outcome"), ["rlib/read_outcome.rlib"]
+        store = Store(folder)
+        with open(Store().path("packed", f"{entry}.tar.gz"), "rb") as whole:
+            with open(store.path("packed", f"{entry}.tar.gz"), "wb") as part:
+                part.write(whole.read()[:-1000])
+        store.keep_verdict(f"{entry}.sum", Store().verdict(f"{entry}.sum"))
+        if store.take(entry, room, parts):
+            return "it was taken"
+        _, said = ran(PROVE, room, folder)
+    return None if "gate: 1 proved, 0 taken" in said else "the crate was not proved anew"
+
+
+class TwoCrates:
+    """A tree of two small crates, `high` over `low`, and a store of its own."""
+
+    def __init__(self, room, folder):
+        self.room, self.folder = room, folder
+        shutil.copytree(os.path.join(TOP, "gate"), os.path.join(room, "gate"), ignore=shutil.ignore_patterns("__pycache__"))
+        shutil.copy2(os.path.join(TOP, "HANDLES"), room)
+        self.write("crates.txt", "low:\nhigh: low\n")
+        self.write("crates/low/src/lib.rt", LOW)
+        self.write("crates/high/src/lib.rt", HIGH)
+
+    def write(self, path, text):
+        os.makedirs(os.path.dirname(os.path.join(self.room, path)), exist_ok=True)
+        with open(os.path.join(self.room, path), "w", encoding="utf-8") as file:
+            file.write(text)
+
+    def proved(self, low):
+        """The status of a proof of both crates over a text of `low`, and what it said of `high`."""
+        self.write("crates/low/src/lib.rt", low)
+        status, _ = ran([*PROVE, "--libraries", "high"], self.room, self.folder)
+        with open(os.path.join(self.room, "crates/high/out/prove.log"), encoding="utf-8") as file:
+            return status, file.read()
+
+    def seen(self):
+        """The sum of what a check of `high` sees."""
+        status, said = ran(["-c", SEEN], self.room, self.folder)
+        if status:
+            raise ValueError(said)
+        return said
+
+    def damage(self):
+        """Turns a bit of each piece of kept work."""
+        packed = os.path.join(self.folder, "packed")
+        for name in os.listdir(packed):
+            if f".{kept.WORK}." in name:
+                with open(os.path.join(packed, name), "r+b") as file:
+                    file.seek(os.path.getsize(file.name) // 2)
+                    byte = file.read(1)[0]
+                    file.seek(-1, os.SEEK_CUR)
+                    file.write(bytes([byte ^ 1]))
+
+
+def through_kept_work():
+    """What isn't as it has to be of proofs through kept work."""
+    with tempfile.TemporaryDirectory() as folder, tempfile.TemporaryDirectory(prefix="reqs-faults-") as room:
+        tree = TwoCrates(room, folder)
+        # (the second proof of `high` is the first that keeps its work)
+        tree.proved(LOW)
+        tree.proved(LOW.replace(BODY, "    2 * x\n"))
+        status, said = tree.proved(LOW.replace(BODY, "    (x + x)\n"))
+        is_well = status == 0 and BY_KEPT_WORK.search(said)
+        yield Tried("a private body below, over kept work", None if is_well else f"status {status}: {said[-300:]}")
+        status, said = tree.proved(LOW.replace(CLAUSE, WEAKER))
+        is_well = status and BY_KEPT_WORK.search(said) is None and "logic=not-proved" in said
+        yield Tried("a contract that is weakened below, over kept work", None if is_well else f"status {status}: {said[-300:]}")
+        tree.damage()
+        status, said = tree.proved(LOW.replace(BODY, "    x * 2\n"))
+        is_well = status == 0 and ANEW.search(said)
+        yield Tried("kept work that is damaged", None if is_well else f"it wasn't dropped: status {status}: {said[-300:]}")
+
+
+def what_a_check_sees():
+    """Why the sum of what a check of `high` sees is the same after a change of `low` that it sees, or another after one that it
+    doesn't, or None."""
+    changed = {
+        "a body": (LOW.replace(BODY, "    2 * x\n"), True),
+        "a contract": (LOW.replace(CLAUSE, WEAKER), False),
+        "a private contract": (LOW.replace("requires { x ≤ 1000 }\n    ensures { result ≡ 2 * x }\n{\n    x", "{\n    x"), False),
+        "a signature": (LOW.replace("double(x: u32) -> u32", "double(x: u64) -> u64"), False),
+        "a constant": (LOW + "\npub const MOST: u32 = 1000;\n", False),
+        "a function that a constant may call": (LOW + "\npub const fn most() -> u32 {\n    1000\n}\n", False),
+    }
+    files = {"proofs/double/Answers.antt": True, "proofs/Lemmas.antt": False, "specs/Limits.antt": False}
+    with tempfile.TemporaryDirectory() as folder, tempfile.TemporaryDirectory(prefix="reqs-faults-") as room:
+        tree = TwoCrates(room, folder)
+        before = tree.seen()
+        for name, (text, is_same) in changed.items():
+            tree.write("crates/low/src/lib.rt", text)
+            if text == LOW or (tree.seen() == before) != is_same:
+                return f"{name}: {'another' if is_same else 'the same'} sum"
+        tree.write("crates/low/src/lib.rt", LOW)
+        for path, is_same in files.items():
+            tree.write(f"crates/low/{path}", "-- changed\n")
+            if (tree.seen() == before) != is_same:
+                return f"{path}: {'another' if is_same else 'the same'} sum"
+            os.remove(os.path.join(room, "crates", "low", path))
+    return None
+
+
+def told():
+    """The name of each thing that is tried, and why it isn't as it has to be, or None."""
+    yield Tried("an entry that is cut short", cut_short())
+    yield Tried("a failing test that the store knows otherwise", taken_over())
+    yield Tried("what a check sees of the crates below", what_a_check_sees())
+    yield from through_kept_work()
