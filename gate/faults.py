@@ -49,8 +49,8 @@ class Fault:
 OF_TEXTS, OF_PROOFS = "texts", "proofs"
 PROVE, WRONG, HELD, NAMES = ["gate/prove.py"], ["gate/wrong.py"], ["gate/held.py"], ["gate/names.py"]
 LENT, CONSTANTS, FITS = ["gate/lent.py"], ["gate/constants.py"], [*WRONG, "--texts"]
-MUTANTS = ["gate/mutants.py", "--listed"]
-PACK, FIGURES = [*PROVE, "--program", "reqs_c"], ["bench/figures.py", "--check"]
+MUTANTS, FIGURES = ["gate/mutants.py", "--listed"], ["bench/figures.py", "--check"]
+PACK = [*PROVE, "--program", "reqs_c"]
 DOCUMENTED = ["tests/documented.py", os.path.join(TOP, "crates", "reqs_cli", "out", "reqs_cli")]
 # The parts that prove nothing, and leave nothing in the tree.
 TEXTS = (HELD, MUTANTS, NAMES, LENT, CONSTANTS, FITS, FIGURES, DOCUMENTED)

@@ -77,7 +77,7 @@ def parts(more):
         Part("calls and least counts", [*python, "gate/asked.py"]),
         Part("constants in definitions", [*python, "gate/constants.py"]),
         Part("statements held", [*python, "gate/held.py"]),
-        Part("definitions weakened", [*python, "gate/mutants.py", "--listed"]),
+        Part("mutants tried", [*python, "gate/mutants.py", "--listed"]),
         Part("figures", [*python, "bench/figures.py", "--check"]),
         Part("tests by name", [*python, "gate/names.py"]),
         Part("lent calls", [*python, "gate/lent.py"]),
