@@ -4,7 +4,7 @@
     gate.py                    proves what the store doesn't hold, and takes the rest from there
     gate.py --from-nothing     takes nothing from the store, and fills it
     gate.py --release          the same, and what is left out fails
-    gate.py --wrong [CRATE..]  each wrong edit and each mutant of a definition of these crates, or of all
+    gate.py --wrong [CRATE..]  each wrong edit of these crates, or of all, and each mutant of a definition that was tried before
     gate.py --mutants [NAME..] the mutants of definitions by crate, module or name, or of those that weren't tried as they stand
     gate.py --faults           plants faults, and sees that the gate fails at each
     gate.py --accept NAME..    takes statements and tests that are new, others or gone into the lists of them
@@ -158,17 +158,17 @@ def are_built(programs):
 def gate(more, demands_all):
     began, store, crates = time.monotonic(), Store(reads=not more), Crates()
     alone, together = parts(more)
-    verdicts = [judged(it, crates, store, lambda text: print(text, end="", flush=True)) for it in alone]
+    counted = [judged(it, crates, store, lambda text: print(text, end="", flush=True)) for it in alone]
     if are_built(["reqs_cli", "reqs_c", *QUESTIONS]):
         # (found once, before all ask for it)
         verdicts.versions()
         with ThreadPoolExecutor() as pool:
-            verdicts += pool.map(lambda part: judged_apart(part, crates, store), together)
+            counted += pool.map(lambda part: judged_apart(part, crates, store), together)
     else:
         print("test: the programs and the library for C were not built, so nothing that runs them was tried")
-        verdicts.append((0, len(together), []))
-    left = [it for verdict in verdicts for it in verdict[2]]
-    passed, failed = (sum(it[at] for it in verdicts) for at in (0, 1))
+        counted.append((0, len(together), []))
+    left = [it for part in counted for it in part[2]]
+    passed, failed = (sum(it[at] for it in counted) for at in (0, 1))
     if left:
         print("test: left out, though a release needs all of it (./test --release):", *left, sep="\n    ")
     failed += len(left) if demands_all else 0

@@ -4,8 +4,8 @@
     mutants.py [NAME..]             those of crates, modules (CRATE.MODULE) and definitions (CRATE.MODULE.NAME), or of each
                                     definition that wasn't tried as it stands; writes what came of it into both lists
     mutants.py --above NAME..       the same, and what its crate leaves unnoticed is tried in the crates above
-    mutants.py --again [CRATE..]    those of all definitions of these crates, or of all; writes nothing, and fails where one
-                                    isn't noticed that tests/unnoticed.txt doesn't have
+    mutants.py --again [CRATE..]    those of all definitions of these crates, or of all, that were tried; writes nothing, and
+                                    fails where one isn't noticed that tests/unnoticed.txt doesn't have
     mutants.py --listed             proves nothing: sees that both lists are those of the definitions as they stand
 
 A proof is worth what its definitions say. weakenings.py makes mutants of a definition, and mutant_lists.py has the lists.
@@ -84,6 +84,10 @@ def mended(item, mutant, texts, said):
     return found
 
 
+class Killed(Exception):
+    """A check was ended from without, so it says nothing."""
+
+
 class Trial:
     """Tries mutants, each by what notices it first."""
 
@@ -100,7 +104,10 @@ class Trial:
         return not lacking or Chain(self.prover, lacking).run() and all(self.prover.lay_out(it) for it in lacking)
 
     def check(self, crate, texts, kept, flags=()):
-        return self.prover.rt.checked(self.rt_crates[crate.name], texts, ["--jobs", "1", *flags], kept)
+        ran = self.prover.rt.checked(self.rt_crates[crate.name], texts, ["--jobs", "1", *flags], kept)
+        if ran.returncode < 0:
+            raise Killed(f"a check of {crate.name} was ended by signal {-ran.returncode}")
+        return ran
 
     def base(self, crate):
         """The folder of what a check of the crate as it stands proved, or None where it isn't proved."""
@@ -158,6 +165,8 @@ class Trial:
                 words = self.not_proved_above(item, texts)
                 how = BY_VALUE if words else PROVED
             return how, words
+        except Killed as error:
+            return UNTOLD, str(error)
         finally:
             shutil.rmtree(room, ignore_errors=True)
 
@@ -211,7 +220,7 @@ def linked_store(folder):
     here = Store(folder)
     for kind in ("packed", "told"):
         for it in os.listdir(os.path.join(default_folder(), kind)):
-            os.link(os.path.join(default_folder(), kind, it), here.path(kind, it))
+            os.symlink(os.path.join(default_folder(), kind, it), here.path(kind, it))
 
 
 class Run:
@@ -262,17 +271,17 @@ class Run:
 
 
 def chosen_of(items, crates, names, is_again):
-    """The definitions that words name, or those that weren't tried as they stand; or a sentence."""
+    """The definitions that words name, or those that weren't tried as they stand, or that were; or a sentence."""
+    lists = Lists()
     if not names:
-        lists = Lists()
-        return [it for it in items.values() if is_again or not lists.is_tried(it)]
+        return [it for it in items.values() if lists.is_tried(it) == is_again]
     chosen = {}
     for name in names:
         found = {it.name: it for it in items.values() if it.name == name or it.name.startswith(f"{name}.")}
         if not found and name not in crates:
             return f"there is no definition, module or crate {name}"
         chosen.update(found)
-    return [*chosen.values()]
+    return [it for it in chosen.values() if not is_again or lists.is_tried(it)]
 
 
 def main(words):
@@ -291,7 +300,7 @@ def main(words):
     room = end_on_signals()
     try:
         return Run(items, chosen, mode == "--above", mode == "--again").run()
-    except (toolchain.Unknown, Misfit) as error:
+    except (toolchain.Unknown, Misfit, Killed) as error:
         print(f"FAILED: {error}, so no mutant was tried\n0 passed, 1 failed")
         return 1
     finally:
