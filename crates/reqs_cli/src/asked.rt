@@ -113,73 +113,90 @@ fn limit_of(given: &ArgMatches<'_>) -> Option<u64>
 
 /// The matches of the words.
 pub fn matches<'a>(alloc: Global, words: &'a [String]) -> Result<ArgMatches<'a>, Error> {
+    reqs_command(alloc)?.try_get_matches_from(words)
+}
+
+fn reqs_command<'a>(alloc: Global) -> Result<Command<'a>, AllocError> {
     let reqs = Command::new(alloc, "reqs")
         .version(VERSION)
         .about("Judges and compares lists of Python requirements")
-        .subcommand_required(true)
-        .subcommand(check_command(alloc)?)?
-        .subcommand(matrix_command(alloc)?)?
-        .subcommand(same_command(alloc)?)?
-        .subcommand(conflicts_command(alloc)?)?
-        .subcommand(normal_command(alloc)?)?;
-    reqs.try_get_matches_from(words)
+        .subcommand_required(true);
+    let reqs = with_command(reqs, check_command(alloc))?;
+    let reqs = with_command(reqs, matrix_command(alloc))?;
+    let reqs = with_command(reqs, same_command(alloc))?;
+    let reqs = with_command(reqs, conflicts_command(alloc))?;
+    with_command(reqs, normal_command(alloc))
+}
+
+/// A command with one more below it, if that one was made: who makes commands owns none meanwhile.
+fn with_command<'a>(
+    command: Command<'a>,
+    made: Result<Command<'a>, AllocError>,
+) -> Result<Command<'a>, AllocError> {
+    command.subcommand(made?)
 }
 
 fn check_command<'a>(alloc: Global) -> Result<Command<'a>, AllocError> {
-    let environment = Arg::new(alloc, "ENV")
-        .help("The environment, a JSON object in a file")
-        .required(true);
-    let check = Command::new(alloc, "check")
-        .about("Prints the greatest candidate of each package that the lines ask for")
-        .arg(format_argument(alloc))?;
-    with_inputs(alloc, check, environment)
+    let check = Command::new(alloc, "check").about(
+        "Prints the greatest candidate of each package that the lines ask for",
+    );
+    let check = with_format(alloc, check)?;
+    with_inputs(
+        alloc,
+        check,
+        "ENV",
+        "The environment, a JSON object in a file",
+    )
 }
 
 fn matrix_command<'a>(alloc: Global) -> Result<Command<'a>, AllocError> {
-    let environments = Arg::new(alloc, "ENVS")
-        .help("The environments, a JSON list of objects in a file")
-        .required(true);
-    let matrix = Command::new(alloc, "matrix")
-        .about("Prints for each environment of a list what check prints for it")
-        .arg(limit_argument(alloc))?
-        .arg(format_argument(alloc))?;
-    with_inputs(alloc, matrix, environments)
+    let matrix = Command::new(alloc, "matrix").about(
+        "Prints for each environment of a list what check prints for it",
+    );
+    let matrix = with_limit(alloc, matrix)?;
+    with_inputs(
+        alloc,
+        matrix,
+        "ENVS",
+        "The environments, a JSON list of objects in a file",
+    )
 }
 
 fn same_command<'a>(alloc: Global) -> Result<Command<'a>, AllocError> {
-    let left = Arg::new(alloc, "LEFT")
-        .help(
+    let same = Command::new(alloc, "same").about(
+        "Prints yes where two lists require the same everywhere, or else where they first differ",
+    );
+    with_limit(alloc, same)?
+        .arg(input(
+            alloc,
+            "LEFT",
             "The one list, one requirement a line, a file; - is standard input, here or for the other",
-        )
-        .required(true);
-    let right = Arg::new(alloc, "RIGHT")
-        .help("The other list, a file")
-        .required(true);
-    Command::new(alloc, "same")
-        .about(
-            "Prints yes where two lists require the same everywhere, or else where they first differ",
-        )
-        .arg(limit_argument(alloc))?
-        .arg(format_argument(alloc))?
-        .arg(left)?
-        .arg(right)
+        ))?
+        .arg(input(alloc, "RIGHT", "The other list, a file"))
 }
 
 fn conflicts_command<'a>(alloc: Global) -> Result<Command<'a>, AllocError> {
-    Command::new(alloc, "conflicts")
-        .about(
-            "Prints each package with its lines that contradict each other, and pre where one names a pre-release",
-        )
-        .arg(limit_argument(alloc))?
-        .arg(format_argument(alloc))?
-        .arg(list_argument(alloc))
+    let conflicts = Command::new(alloc, "conflicts").about(
+        "Prints each package with its lines that contradict each other, and pre where one names a pre-release",
+    );
+    with_limit(alloc, conflicts)?.arg(list_argument(alloc))
 }
 
 fn normal_command<'a>(alloc: Global) -> Result<Command<'a>, AllocError> {
-    Command::new(alloc, "normal")
-        .about("Prints the lines in one normal form, without those that never apply")
-        .arg(format_argument(alloc))?
-        .arg(list_argument(alloc))
+    let normal = Command::new(alloc, "normal").about(
+        "Prints the lines in one normal form, without those that never apply",
+    );
+    with_format(alloc, normal)?.arg(list_argument(alloc))
+}
+
+/// A command that is told a limit and a format.
+fn with_limit<'a>(alloc: Global, command: Command<'a>) -> Result<Command<'a>, AllocError> {
+    with_format(alloc, command.arg(limit_argument(alloc))?)
+}
+
+/// A command that is told a format.
+fn with_format<'a>(alloc: Global, command: Command<'a>) -> Result<Command<'a>, AllocError> {
+    command.arg(format_argument(alloc))
 }
 
 fn limit_argument<'a>(alloc: Global) -> Arg<'a> {
@@ -202,33 +219,41 @@ fn format_argument<'a>(alloc: Global) -> Arg<'a> {
 
 /// The argument of a command on one list.
 fn list_argument<'a>(alloc: Global) -> Arg<'a> {
-    Arg::new(alloc, "REQS")
-        .help("The requirements, one a line, a file; - is standard input")
-        .required(true)
+    input(
+        alloc,
+        "REQS",
+        "The requirements, one a line, a file; - is standard input",
+    )
 }
 
-/// A command with its inputs, of which this is the second, and extras.
+/// The argument of an input.
+fn input<'a>(alloc: Global, name: &'a str, help: &'a str) -> Arg<'a> {
+    Arg::new(alloc, name).help(help).required(true)
+}
+
+/// A command with its inputs, of which the second has this name and help, and extras. Each argument is made
+/// where it is taken, so that none is let go of where memory runs out.
 fn with_inputs<'a>(
     alloc: Global,
     command: Command<'a>,
-    second: Arg<'a>,
+    name: &'a str,
+    help: &'a str,
 ) -> Result<Command<'a>, AllocError> {
-    let requirements = Arg::new(alloc, "REQS")
-        .help(
-            "The requirements, one a line, a file; - is standard input, here or in place of another file",
-        )
-        .required(true);
-    let candidates = Arg::new(alloc, "CANDIDATES")
-        .help(
-            "The candidates, a name and a version a line, a file; pre-releases are taken where a line names one",
-        )
-        .required(true);
-    let extras = Arg::new(alloc, "EXTRA")
-        .help("The extras that are asked for")
-        .num_args(0..);
     command
-        .arg(requirements)?
-        .arg(second)?
-        .arg(candidates)?
-        .arg(extras)
+        .arg(input(
+            alloc,
+            "REQS",
+            "The requirements, one a line, a file; - is standard input, here or in place of another file",
+        ))?
+        .arg(input(alloc, name, help))?
+        .arg(input(
+            alloc,
+            "CANDIDATES",
+            "The candidates, a name and a version a line, a file; pre-releases are taken where a line names one",
+        ))?
+        .arg(
+            Arg::new(alloc, "EXTRA")
+                .help("The extras that are asked for")
+                .num_args(0..),
+        )
 }
