@@ -2,8 +2,8 @@
 
 It stands in $FOWLYORE_CACHE, else in $XDG_CACHE_HOME/fowlyore, else in ~/.cache/fowlyore. It holds folders (a proved
 library, a built program), packed, and verdicts, a line each. An entry is written beside and renamed, and its sum is a
-verdict, so that half of one, or a damaged one, is never taken; what was not taken for longest goes first once all is more than MOST_BYTES. Who can write the store
-decides what a gate that reads it takes for proved.
+verdict, so that half of one, or a damaged one, is never taken; what was not taken for longest goes first once all is
+more than MOST_BYTES. Who can write the store decides what a gate that reads it takes for proved.
 """
 
 import errno
@@ -35,7 +35,7 @@ class Store:
 
     def __init__(self, folder=None, reads=True):
         self.folder, self.reads = folder or default_folder(), reads
-        self.has_room = True
+        self.has_room, self.sums = True, {}
         try:
             for it in ("packed", "told", "writing"):
                 os.makedirs(os.path.join(self.folder, it), exist_ok=True)
@@ -47,9 +47,9 @@ class Store:
         return os.path.join(self.folder, kind, name)
 
     def has(self, name, parts):
-        """Whether there is an entry with these files or folders."""
+        """Whether there is an entry as it was written, with these files or folders."""
         path = self.path("packed", f"{name}.tar.gz")
-        if not self.reads or not os.path.isfile(path):
+        if not self.reads or not os.path.isfile(path) or self.verdict(f"{name}.sum") != self.sum_found(path):
             return False
         try:
             # (read as far as to the last of them, and they stand first)
@@ -63,6 +63,14 @@ class Store:
             return True
         except (OSError, EOFError, tarfile.TarError, zlib.error):
             return False
+
+    def sum_found(self, path):
+        """The sum of an entry's file, which is found once: an entry that is written anew is another file."""
+        seen = os.stat(path)
+        key = seen.st_ino, seen.st_size
+        if key not in self.sums:
+            self.sums[key] = sum_of_file(path)
+        return self.sums[key]
 
     def take(self, name, folder, parts):
         """Unpacks an entry below a folder. Says whether it was there, and as it was written, with these in it."""

@@ -137,11 +137,11 @@ class TwoCrates:
             raise ValueError(said)
         return said
 
-    def damage(self):
-        """Turns a bit of each piece of kept work."""
+    def damage(self, is_work):
+        """Turns a bit of each piece of kept work, or of all else."""
         packed = os.path.join(self.folder, "packed")
         for name in os.listdir(packed):
-            if f".{kept.WORK}." in name:
+            if (f".{kept.WORK}." in name) == is_work:
                 with open(os.path.join(packed, name), "r+b") as file:
                     file.seek(os.path.getsize(file.name) // 2)
                     byte = file.read(1)[0]
@@ -162,10 +162,15 @@ def through_kept_work():
         status, said = tree.proved(LOW.replace(CLAUSE, WEAKER))
         is_well = status and BY_KEPT_WORK.search(said) is None and "logic=not-proved" in said
         yield Tried("a contract that is weakened below, over kept work", None if is_well else f"status {status}: {said[-300:]}")
-        tree.damage()
+        tree.damage(is_work=True)
         status, said = tree.proved(LOW.replace(BODY, "    x * 2\n"))
         is_well = status == 0 and ANEW.search(said)
         yield Tried("kept work that is damaged", None if is_well else f"it wasn't dropped: status {status}: {said[-300:]}")
+        tree.damage(is_work=False)
+        shutil.rmtree(os.path.join(room, "crates", "low", "out"))
+        status, said = tree.proved(LOW.replace(BODY, "    x * 2\n"))
+        is_well = status == 0 and "logic=proved" in said
+        yield Tried("libraries that are damaged", None if is_well else f"they weren't made anew: status {status}: {said[-300:]}")
 
 
 def what_a_check_sees():

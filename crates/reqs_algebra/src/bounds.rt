@@ -17,7 +17,8 @@ use std::ops::Bound;
 /// The version of the argument of this number, where it isn't empty; or how the call ends that gets none.
 pub(crate) fn read_bound(alloc: Global, input: u32, bytes: &[u8]) -> Result<Option<Version>, Ended>
     ensures version { IfOk result (IsVersionOrNone bytes.now) }
-    ensures none { IfErr result (λ ended. EndsIn NoAnswer (RefusesVersion input bytes.now) (ending_of ended)) }
+    ensures none { IfErr result (λ ended.
+        EndsIn NoAnswer (RefusesVersion input bytes.now) (ending_of ended)) }
 {
     if bytes.is_empty() {
         return Ok(None);
