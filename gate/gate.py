@@ -4,7 +4,7 @@
     gate.py                    proves what the store doesn't hold, and takes the rest from there
     gate.py --from-nothing     takes nothing from the store, and fills it
     gate.py --release          the same, and what is left out fails
-    gate.py --wrong [CRATE..]  each wrong edit of these crates, or of all, and each mutant of a definition that was tried before
+    gate.py --wrong [CRATE..]  each wrong edit of these crates and their mutants that were tried before; or all, which takes a day
     gate.py --mutants [NAME..] the mutants of definitions by crate, module or name, or of those that weren't tried as they stand
     gate.py --faults           plants faults, and sees that the gate fails at each
     gate.py --accept NAME..    takes statements and tests that are new, others or gone into the lists of them

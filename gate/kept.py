@@ -1,27 +1,35 @@
-"""The everyday way to prove crates: what a check of the same crate found before is taken where it still holds.
+"""The everyday way to prove crates: what was proved before is taken where it still holds.
 
-The store keeps of each crate that is proved so the folder of `rattle --incremental`, its kept work: its modules as they
-were checked. The next time something below the crate changes, and the crate's own texts don't, the prover reads the kept
-work, judges of each module whether it still holds over the crates below as they are now, and checks the others anew. A crate
-whose own texts are new has no kept work, and is proved as by a run from nothing; so is each where the store is empty.
+A library that is made so holds its proofs, not statements alone, and names no sums of those below. It goes under the sum of
+what its check sees: its own texts, and of those below all but the bodies of functions and the proofs of these (seen.py). So
+after a change of bodies alone the crate itself is proved, and what is linked with it: programs, tests, the library for C.
 
-Libraries that are made so hold their proofs, not statements alone, and name no sums of those below; so each goes under the
-sum of all texts that it rests on, none is made before those below are there, and what lay in out/ is removed first. A crate
-is taken as proved from nothing only where all below it are.
+Where more changed, a crate whose own texts are the same is proved through its kept work, the folder of `rattle
+--incremental`: its modules as they were checked. The prover judges of each module whether it still holds over the crates
+below as they are now, and checks the others anew. A crate whose own texts are new has no kept work, and is proved as by a
+run from nothing; so is each where the store is empty.
+
+None is made before those below are there, and what lay in out/ is removed first. A crate is taken as proved from nothing
+only where all below it are.
 """
 
+import copy
 import os
 import re
 import shutil
 import tempfile
+from concurrent.futures import ThreadPoolExecutor
 
 import keys
+import seen
 import toolchain
 from crates import kit_folder
 from prover import CPU, LIBRARY, PROGRAM, SECONDS, STATIC, TESTS, Prover, archive_of
 from store import Store
 
 WORK = "work"
+# The scripts that say so of a library by what its check sees.
+OF_SEEN = (*keys.OF_KEPT, "gate/clauses.py", "gate/seen.py", "gate/statements.py")
 # The forms of what is proved, and which those of the libraries below may have.
 NOTHING, STATEMENTS, WHOLE = "nothing", "statements", "whole"
 FITS = {NOTHING: {NOTHING}, STATEMENTS: {NOTHING, STATEMENTS}, WHOLE: {NOTHING, STATEMENTS, WHOLE}}
@@ -74,9 +82,12 @@ class KeptProver(Prover):
         return self.store.has(self.work_entry(name, tests), ()) or self.was_proved_before(name, tests)
 
     def entry_in(self, form, name, tests):
+        kind = self.kind(name, tests)
         if form == NOTHING:
             return super().entry(name, tests)
-        return f"{keys.of_everyday_proof(self.crates, name)}.{self.kind(name, tests)}{'.whole' if form == WHOLE else ''}"
+        if form == WHOLE and kind == LIBRARY:
+            return f"{keys.summed((seen.by(self.crates, name), keys.scripts_sum(OF_SEEN)))}.{kind}.whole"
+        return f"{keys.of_everyday_proof(self.crates, name)}.{kind}{'.whole' if form == WHOLE else ''}"
 
     def entry(self, name, tests=False):
         return self.entry_in(self.form(name, tests), name, tests)
@@ -128,11 +139,28 @@ class KeptProver(Prover):
         words += ["--toolchain", os.path.join(kit_folder(), "toolchain")]
         if kind == STATIC:
             return crate.prove(["build", *words, "--cpu", CPU, "--backend", "llvm", "-o", f"out/{archive_of(crate.name)}"])
-        to = f"{to}_tests" if kind == TESTS else to
+        if kind == TESTS:
+            return self.build_by_llvm(crate, words, f"{to}_tests")
+        if not os.listdir(work):
+            return self.build_by_llvm(crate, words, to) or crate.compile_by("rattle", words, to)
+        return self.build_beside(crate, words, to, work)
+
+    def build_by_llvm(self, crate, words, to):
         status = crate.prove(["build", *words, "--backend", "llvm", "-o", f"{to}.o"])
-        if not status and os.path.getsize(os.path.join(crate.folder, f"{to}.o")):
-            status = crate.link(f"{to}.o", to)
-        return status or (crate.compile_by("rattle", words, to) if kind == PROGRAM else 0)
+        is_made = not status and os.path.getsize(os.path.join(crate.folder, f"{to}.o"))
+        return crate.link(f"{to}.o", to) if is_made else status
+
+    def build_beside(self, crate, words, to, work):
+        """Has a program built by both compilers at a time, by one of them over a copy of the kept work."""
+        other = copy.copy(crate)
+        with tempfile.TemporaryDirectory(prefix="reqs-kept-") as room, tempfile.TemporaryFile("w+", errors="replace") as other.out:
+            copied = shutil.copytree(work, os.path.join(room, WORK))
+            with ThreadPoolExecutor() as pool:
+                beside = pool.submit(other.compile_by, "rattle", [copied if it == work else it for it in words], to)
+                status = self.build_by_llvm(crate, words, to)
+            other.out.seek(0)
+            print(other.out.read(), end="", file=crate.out, flush=True)
+            return status or beside.result()
 
     def told(self):
         through = f": {', '.join(self.through)}" if self.through else ""

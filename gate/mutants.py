@@ -4,8 +4,9 @@
     mutants.py [NAME..]             those of crates, modules (CRATE.MODULE) and definitions (CRATE.MODULE.NAME), or of each
                                     definition that wasn't tried as it stands; writes what came of it into both lists
     mutants.py --above NAME..       the same, and what its crate leaves unnoticed is tried in the crates above
-    mutants.py --again [CRATE..]    those of all definitions of these crates, or of all, that were tried; writes nothing, and
-                                    fails where one isn't noticed that tests/unnoticed.txt doesn't have
+    mutants.py --again [NAME..]     those that were tried before; or where none is named those of all definitions: writes only
+                                    what came of definitions that weren't tried, and fails where one isn't noticed that
+                                    tests/unnoticed.txt doesn't have
     mutants.py --listed             proves nothing: sees that both lists are those of the definitions as they stand
 
 A proof is worth what its definitions say. weakenings.py makes mutants of a definition, and mutant_lists.py has the lists.
@@ -257,7 +258,7 @@ class Run:
             made, fit, by_name, unnoticed = found
             # (read anew, since a person may have given reasons meanwhile)
             lists = Lists()
-            if not self.is_again:
+            if not self.is_again or not lists.is_tried(item):
                 lists.take(item, fit, made, by_name, unnoticed)
                 lists.drop(self.items)
                 lists.write()
@@ -274,7 +275,7 @@ def chosen_of(items, crates, names, is_again):
     """The definitions that words name, or those that weren't tried as they stand, or that were; or a sentence."""
     lists = Lists()
     if not names:
-        return [it for it in items.values() if lists.is_tried(it) == is_again]
+        return [it for it in items.values() if is_again or not lists.is_tried(it)]
     chosen = {}
     for name in names:
         found = {it.name: it for it in items.values() if it.name == name or it.name.startswith(f"{name}.")}

@@ -1,7 +1,7 @@
 """What a check of a crate sees of the crates below it: all of their texts but the bodies of functions and the proofs of these.
 
 A function's proof rests on the contracts of what it calls, and on definitions and lemmas; where these are the same, so is the
-verdict on an edit of the function. A library for C is another thing: what it calls is linked with it.
+verdict on the function. What is linked, a program, its tests or a library for C, rests on all texts.
 """
 
 import os
@@ -18,11 +18,8 @@ OPAQUE = re.compile(r"->[^{;]*\bimpl\b|^(?:pub(?:\s*\([^)]*\))?\s+)?const\b")
 
 
 def by(crates, name):
-    """The sum of all that a check of single functions of a crate reads."""
-    crate = crates[name]
-    if crate.is_static() or crate.is_program():
-        return crates.sum(name)
-    return summed((crate.own_sum(), crates.around(), [shown(crates[it.name]) for it in crates.below(name)]))
+    """The sum of all that the verdicts on a crate's functions rest on."""
+    return summed((crates[name].own_sum(), crates.around(), [shown(crates[it.name]) for it in crates.below(name)]))
 
 
 def shown(crate):

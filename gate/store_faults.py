@@ -1,4 +1,4 @@
-"""Faults of the store and of kept work: each is made in a store of its own, and the gate has to see it."""
+"""Faults of the store and of what is taken from it: each is made in a store of its own, and the gate has to see it."""
 
 import collections
 import os
@@ -63,6 +63,7 @@ pub fn quadruple(x: u32) -> u32
 """
 BODY, CLAUSE = "    x + x\n", "    requires { x ≤ 1000 }\n    ensures { result ≡ 2 * x }\n{\n    helper(x)"
 WEAKER = CLAUSE.replace("≡ 2 * x", "≤ 2 * x")
+OTHER = "\nfn other(x: u32) -> u32 {\n    x\n}\n"
 Tried = collections.namedtuple("Tried", "name why")
 BY_KEPT_WORK = re.compile(r"^crate high: modules loaded=[1-9]\d* checked=0$", re.M)
 ANEW = re.compile(r"^crate high: modules loaded=0 checked=[1-9]", re.M)
@@ -130,6 +131,11 @@ class TwoCrates:
         with open(os.path.join(self.room, "crates/high/out/prove.log"), encoding="utf-8") as file:
             return status, file.read()
 
+    def amiss(self, low, is_well):
+        """Why a proof over a text of `low` didn't end as it has to, or None."""
+        status, said = self.proved(low)
+        return None if is_well(status, said) else f"status {status}: {said[-300:]}"
+
     def seen(self):
         """The sum of what a check of `high` sees."""
         status, said = ran(["-c", SEEN], self.room, self.folder)
@@ -150,27 +156,26 @@ class TwoCrates:
 
 
 def through_kept_work():
-    """What isn't as it has to be of proofs through kept work."""
+    """What isn't as it has to be of proofs over what was proved before."""
     with tempfile.TemporaryDirectory() as folder, tempfile.TemporaryDirectory(prefix="reqs-faults-") as room:
         tree = TwoCrates(room, folder)
         # (the second proof of `high` is the first that keeps its work)
         tree.proved(LOW)
         tree.proved(LOW.replace(BODY, "    2 * x\n"))
-        status, said = tree.proved(LOW.replace(BODY, "    (x + x)\n"))
-        is_well = status == 0 and BY_KEPT_WORK.search(said)
-        yield Tried("a private body below, over kept work", None if is_well else f"status {status}: {said[-300:]}")
-        status, said = tree.proved(LOW.replace(CLAUSE, WEAKER))
-        is_well = status and BY_KEPT_WORK.search(said) is None and "logic=not-proved" in said
-        yield Tried("a contract that is weakened below, over kept work", None if is_well else f"status {status}: {said[-300:]}")
+        low = LOW.replace(BODY, "    (x + x)\n")
+        yield Tried("a private body below", tree.amiss(low, lambda status, said: status == 0 and not said))
+        low = LOW.replace(BODY, "    x + x + 1\n")
+        yield Tried("a wrong body below", tree.amiss(low, lambda status, _: status))
+        low, is_refused = LOW.replace(CLAUSE, WEAKER), lambda status, said: status and "logic=not-proved" in said
+        yield Tried("a contract that is weakened below, over kept work", tree.amiss(low, is_refused))
+        low, is_over_work = LOW + OTHER, lambda status, said: status == 0 and BY_KEPT_WORK.search(said)
+        yield Tried("another function below, over kept work", tree.amiss(low, is_over_work))
         tree.damage(is_work=True)
-        status, said = tree.proved(LOW.replace(BODY, "    x * 2\n"))
-        is_well = status == 0 and ANEW.search(said)
-        yield Tried("kept work that is damaged", None if is_well else f"it wasn't dropped: status {status}: {said[-300:]}")
+        low += OTHER.replace("other", "more")
+        yield Tried("kept work that is damaged", tree.amiss(low, lambda status, said: status == 0 and ANEW.search(said)))
         tree.damage(is_work=False)
         shutil.rmtree(os.path.join(room, "crates", "low", "out"))
-        status, said = tree.proved(LOW.replace(BODY, "    x * 2\n"))
-        is_well = status == 0 and "logic=proved" in said
-        yield Tried("libraries that are damaged", None if is_well else f"they weren't made anew: status {status}: {said[-300:]}")
+        yield Tried("libraries that are damaged", tree.amiss(low, lambda status, said: status == 0 and "logic=proved" in said))
 
 
 def what_a_check_sees():
