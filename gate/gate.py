@@ -11,7 +11,7 @@
 
 Each part closes with a line `N passed, M failed`, or with two. The last line is that of their sums; the status is 0 where
 M is 0, and 2 where the words are others. Before it stands what was left out, for want of what this machine doesn't have.
-Parts that run programs are run side by side.
+Parts that read texts are run side by side, beside the proofs; so are then those that run programs.
 """
 
 import os
@@ -59,7 +59,7 @@ class Part:
 
 
 def parts(more):
-    """The parts that are run one after another, and those that are then run side by side."""
+    """The parts that read texts, that which proves, and those that then run programs; all but the second are run side by side."""
     python = [sys.executable]
     of_reqs = ("examples", "reqs", "build", "install", "share", "try", *(f"tests/{it}" for it in OF_REQS))
     # (that its answers are right the command line says)
@@ -81,8 +81,7 @@ def parts(more):
         Part("figures", [*python, "bench/figures.py", "--check"]),
         Part("tests by name", [*python, "gate/names.py"]),
         Part("lent calls", [*python, "gate/lent.py"]),
-        Part("proofs and wrong edits", [*python, "gate/together.py", *more], closings=2),
-    ], [
+    ], Part("proofs and wrong edits", [*python, "gate/together.py", *more], closings=2), [
         Part("command line", ["bash", "tests/cli.sh"], ["reqs_cli"], [*of_reqs, "README.md", "docs"]),
         Part("answers compared", [*python, "tests/alike.py", "1000"], ["reqs_cli"], of_reqs),
         Part("lists compared", [*python, "tests/pairs.py", "500"], ["reqs_cli"], of_reqs),
@@ -157,16 +156,18 @@ def are_built(programs):
 
 def gate(more, demands_all):
     began, store, crates = time.monotonic(), Store(reads=not more), Crates()
-    alone, together = parts(more)
-    counted = [judged(it, crates, store, lambda text: print(text, end="", flush=True)) for it in alone]
-    if are_built(["reqs_cli", "reqs_c", *QUESTIONS]):
-        # (found once, before all ask for it)
-        verdicts.versions()
-        with ThreadPoolExecutor() as pool:
-            counted += pool.map(lambda part: judged_apart(part, crates, store), together)
-    else:
-        print("test: the programs and the library for C were not built, so nothing that runs them was tried")
-        counted.append((0, len(together), []))
+    of_texts, proofs, of_programs = parts(more)
+    with ThreadPoolExecutor() as pool:
+        beside = [pool.submit(judged_apart, it, crates, store) for it in of_texts]
+        counted = [judged(proofs, crates, store, lambda text: print(text, end="", flush=True))]
+        counted += [it.result() for it in beside]
+        if are_built(["reqs_cli", "reqs_c", *QUESTIONS]):
+            # (found once, before all ask for it)
+            verdicts.versions()
+            counted += pool.map(lambda part: judged_apart(part, crates, store), of_programs)
+        else:
+            print("test: the programs and the library for C were not built, so nothing that runs them was tried")
+            counted.append((0, len(of_programs), []))
     left = [it for part in counted for it in part[2]]
     passed, failed = (sum(it[at] for it in counted) for at in (0, 1))
     if left:

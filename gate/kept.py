@@ -63,6 +63,8 @@ class KeptProver(Prover):
         super().__init__(rt, store)
         rt.rtlib.VERDICT = Verdict(rt.rtlib.VERDICT)
         self.forms, self.through = {}, []
+        # (what is proved above doesn't wait until kept work is packed)
+        self.pool, self.packed = ThreadPoolExecutor(1), []
 
     def form(self, name, tests=False):
         """In which form a crate or its tests are taken, or else proved: as by a run from nothing (and perhaps by one), or whole,
@@ -104,17 +106,23 @@ class KeptProver(Prover):
         if self.form(crate.name, tests) != WHOLE:
             return super().prove(crate, flags, tests)
         entry = self.work_entry(crate.name, tests)
-        with tempfile.TemporaryDirectory(prefix="reqs-kept-") as room:
-            work = os.path.join(room, WORK)
-            is_there = self.store.take(entry, room, [WORK])
-            os.makedirs(work, exist_ok=True)
-            status, said = self.prove_over(crate, flags, tests, work)
-            anew = sum(int(count) for name, count in CHECKED.findall(said) if name == crate.name)
-            if is_there:
-                self.through.append(f"{crate.name} ({anew} modules anew)")
-            if status == 0 and (anew or not is_there):
-                self.store.keep(entry, room, [WORK])
+        room = tempfile.mkdtemp(prefix="reqs-kept-")
+        work = os.path.join(room, WORK)
+        is_there = self.store.take(entry, room, [WORK])
+        os.makedirs(work, exist_ok=True)
+        status, said = self.prove_over(crate, flags, tests, work)
+        anew = sum(int(count) for name, count in CHECKED.findall(said) if name == crate.name)
+        if is_there:
+            self.through.append(f"{crate.name} ({anew} modules anew)")
+        is_new = status == 0 and (anew or not is_there)
+        self.packed.append(self.pool.submit(self.pack, entry if is_new else None, room))
         return status
+
+    def pack(self, entry, room):
+        """Keeps the kept work of a folder under a name, if there is one, and removes the folder."""
+        if entry:
+            self.store.keep(entry, room, [WORK])
+        shutil.rmtree(room, ignore_errors=True)
 
     def prove_over(self, crate, flags, tests, work):
         """Proves over kept work, and gives a status and what was said."""
@@ -163,5 +171,7 @@ class KeptProver(Prover):
             return status or beside.result()
 
     def told(self):
+        for it in self.packed:
+            it.result()
         through = f": {', '.join(self.through)}" if self.through else ""
         return f"{super().told()}, {len(self.through)} proved through kept work{through}"

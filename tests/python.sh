@@ -41,22 +41,27 @@ for name in python3 python3.{8..20} "${PYENV_ROOT:-${HOME-}/.pyenv}"/versions/3.
 done
 
 run_tests() {
-    local said=$work/said-$1 count skipped
     cd "$top/python" || return
-    FOWLYORE_LIBRARY=$library "$2" -W error -m unittest discover -q -t . -s tests >"$said" 2>&1
+    FOWLYORE_LIBRARY=$library "$2" -W error -m unittest discover -q -t . -s tests >"$work/said-$1" 2>&1
+}
+
+# Interpreters work side by side.
+for version in "${!interpreters[@]}"; do
+    run_tests "$version" "${interpreters[$version]}" &
+done
+wait
+
+for version in "${!interpreters[@]}"; do
+    said=$work/said-$version
     count=$(sed -n 's/^Ran \([0-9]*\) tests\? .*/\1/p' "$said")
     skipped=$(sed -n 's/^OK (.*skipped=\([0-9]*\).*/\1/p' "$said")
-    [ -z "$skipped" ] || echo "not tried: tests by Python $1, of which $skipped were skipped"
+    [ -z "$skipped" ] || echo "not tried: tests by Python $version, of which $skipped were skipped"
     if tail -n 1 "$said" | grep -q '^OK' && [ "${count:-0}" -gt 0 ]; then
         passed=$((passed + count))
     else
         tail -n 60 "$said"
-        fail "the tests by Python $1"
+        fail "the tests by Python $version"
     fi
-}
-
-for version in "${!interpreters[@]}"; do
-    run_tests "$version" "${interpreters[$version]}"
 done
 for minor in {8..13}; do
     [ "${interpreters[3.$minor]-}" ] || echo "not tried: the tests by Python 3.$minor, which is not there (pyenv install 3.$minor)"
