@@ -56,7 +56,7 @@ DOCUMENTED = ["tests/documented.py", os.path.join(TOP, "crates", "reqs_cli", "ou
 TEXTS = (HELD, MUTANTS, NAMES, LENT, CONSTANTS, FITS, FIGURES, DOCUMENTED)
 PYTHON_TESTS = "python/tests/test_specifiers.py"
 SPECIFIERS = "crates/reqs_versions/specs/Specifiers.antt"
-UNNOTICED = "reqs_versions.Versions.IsNoVersion: drop field is_utf8_text"
+UNNOTICED = "reqs_versions.Specifiers.AreTaken: drop field is_list ="
 LOW = "crates/underline"
 LAST_USE = "use unicode_width::UnicodeWidthChar;\n"
 FAILING = "a_letter_takes_two_columns"
@@ -99,7 +99,8 @@ FAULTS = [
           "Rattle.reqs_versions.specs.Versions.{version_in}", "Rattle.pep508_environment.specs.EnvironmentValues.{version_in}"),
     Fault("a definition whose mutants weren't tried as it stands", None, MUTANTS, SPECIFIERS,
           "  pub is_list : IsListIn bytes members\n  pub is_text : text ≡ map", "  pub is_text : text ≡ map"),
-    Fault("a mutant that nothing notices, for no reason", None, MUTANTS, "tests/unnoticed.txt", f"{UNNOTICED} = ", f"{UNNOTICED} =\n# "),
+    Fault("a mutant that nothing notices, for no reason", None, MUTANTS,
+          "tests/unnoticed.txt", "docs/GATE.md.\n", f"docs/GATE.md.\n\n{UNNOTICED}\n"),
     Fault("a contract without one of its clauses", None, HELD, "crates/pep440_version/src/version.rt",
           "        ensures grown { result ≡ Err errors.Memory → version_reading text.now ≢ Err NoLeadingNumber }\n", ""),
     Fault("a claim of README.md that says more", None, HELD, "README.md",
