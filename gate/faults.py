@@ -99,7 +99,7 @@ FAULTS = [
           "Rattle.reqs_versions.specs.Versions.{version_in}", "Rattle.pep508_environment.specs.EnvironmentValues.{version_in}"),
     Fault("a definition whose mutants weren't tried as it stands", None, MUTANTS, SPECIFIERS,
           "  pub is_list : IsListIn bytes members\n  pub is_text : text ≡ map", "  pub is_text : text ≡ map"),
-    Fault("a mutant that nothing notices, for no reason", None, MUTANTS, "tests/unnoticed.txt", f"{UNNOTICED} = ", f"{UNNOTICED} =\n# "),
+    Fault("a mutant that nothing notices, for no reason", None, MUTANTS, "tests/unnoticed.txt", "", f"{UNNOTICED} =\n"),
     Fault("a contract without one of its clauses", None, HELD, "crates/pep440_version/src/version.rt",
           "        ensures grown { result ≡ Err errors.Memory → version_reading text.now ≢ Err NoLeadingNumber }\n", ""),
     Fault("a claim of README.md that says more", None, HELD, "README.md",

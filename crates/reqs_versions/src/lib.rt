@@ -1,6 +1,7 @@
 //! What the library for C answers on versions and specifiers (PEP 440), over bytes.
 #![tactic(auto)]
 
+pub mod laws;
 mod lists;
 mod ranges;
 mod versions;
