@@ -24,7 +24,7 @@ import keys
 import seen
 import toolchain
 from crates import kit_folder
-from prover import CPU, LIBRARY, PROGRAM, SECONDS, STATIC, TESTS, Prover, archive_of
+from prover import CPU, LIBRARY, MARK, PROGRAM, SECONDS, STATIC, TESTS, Prover, archive_of, read
 from store import Store
 
 WORK = "work"
@@ -71,12 +71,24 @@ class KeptProver(Prover):
         with all of its proofs. Statements fit those libraries alone over which they were made, and so go with statements."""
         key = name, tests
         if key not in self.forms:
-            below = {self.form(it) for it in self.crates[name].uses}
-            can = [it for it in (NOTHING, STATEMENTS, WHOLE) if below <= FITS[it]]
-            there = [it for it in can if self.store.has(self.entry_in(it, name, tests), self.parts(name, tests))]
-            made = STATEMENTS if STATEMENTS in can and not self.keeps_work(name, tests) else WHOLE
-            self.forms[key] = there[0] if there else made
+            self.forms[key] = self.form_in_tree(name, tests) or self.form_by_store(name, tests)
         return self.forms[key]
+
+    def form_in_tree(self, name, tests):
+        """The form of a program, or of a library for C, that lies in the tree as it is now; or None. So whoever builds in the tree
+        over another store, as another user who installs it, finds it there."""
+        if tests or self.kind(name) not in (PROGRAM, STATIC):
+            return None
+        out = os.path.join(self.crates[name].folder, "out")
+        mark, is_there = read(os.path.join(out, MARK)), all(os.path.isfile(os.path.join(out, it)) for it in self.parts(name))
+        return next((it for it in FITS if is_there and self.entry_in(it, name, tests) == mark), None)
+
+    def form_by_store(self, name, tests):
+        below = {self.form(it) for it in self.crates[name].uses}
+        can = [it for it in FITS if below <= FITS[it]]
+        there = [it for it in can if self.store.has(self.entry_in(it, name, tests), self.parts(name, tests))]
+        made = STATEMENTS if STATEMENTS in can and not self.keeps_work(name, tests) else WHOLE
+        return there[0] if there else made
 
     def keeps_work(self, name, tests):
         """Whether a proof goes through kept work: there is some, or the crate's own texts were proved before, over others, and
@@ -103,7 +115,11 @@ class KeptProver(Prover):
         return super().seconds(name, tests, lines)
 
     def prove(self, crate, flags, tests):
-        if self.form(crate.name, tests) != WHOLE:
+        form = self.form(crate.name, tests)
+        if not {self.form(it) for it in self.crates[crate.name].uses} <= FITS[form]:
+            print(f"gate: {crate.name} can't be proved as {form} over the libraries that are there", file=crate.out)
+            return 1
+        if form != WHOLE:
             return super().prove(crate, flags, tests)
         entry = self.work_entry(crate.name, tests)
         room = tempfile.mkdtemp(prefix="reqs-kept-")
