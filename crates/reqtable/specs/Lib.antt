@@ -34,6 +34,7 @@ pub use Rattle.reqtable_table.specs.Casing
 pub use Rattle.reqtable_table.specs.Counts
 pub use Rattle.reqtable_table.specs.Answers
 pub use Rattle.reqtable_table.specs.Runs as TableRuns
+pub use Rattle.reqtable_table.specs.Lasting
 pub use Rattle.reqtable_table.specs.Errors as TableErrors
 pub use Rattle.reqtable_conflicts.specs.Contradictions
 pub use Rattle.reqtable_conflicts.specs.NothingTaken

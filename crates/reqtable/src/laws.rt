@@ -1,5 +1,6 @@
 //! The laws of the crates below, by what they speak of.
 
+pub use pep508_cases::laws as marks;
 pub use reqtable_answer::laws as answers;
 pub use reqtable_cases::laws as cases;
 pub use reqtable_compare::laws as comparisons;

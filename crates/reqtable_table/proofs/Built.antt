@@ -1,5 +1,5 @@
 -- What a table of all groups is to the lines of the text.
-use Rattle.std.proofs.Common.{◌≡◌, ◌∙◌, ℕ, Bool, true, false, cond, ◌||◌, List, [], ◌∷◌, ◌++◌, map, filter}
+use Rattle.std.proofs.Common.{◌≡◌, ◌∙◌, ◌+◌, ℕ, Bool, true, false, cond, ◌||◌, List, [], ◌∷◌, ◌++◌, map, filter}
 use Rattle.std.proofs.Common.{refl, sym, ap, subst, append-nil, append_assoc, true≢false, Less, Err, inl, inr}
 use Rattle.std.proofs.lemmas.Bool.{cases_Bool}
 use Rattle.std.proofs.lemmas.Cmp.{nat_list_eq_equiv}
@@ -26,6 +26,7 @@ use Rattle.reqtable_groups.specs.Given.{given_by, is_under, group_names, lines_u
 use Rattle.reqtable_table.specs.Kept.{KeptPackage, names_in, kept_under, Keeps, KeepsAll}
 use Rattle.reqtable_table.specs.KeptLines.{kept_by}
 use Rattle.reqtable_table.specs.Cases.{HasItsCases, Builds}
+use Rattle.reqtable_table.specs.Counts.{tests_of, all_tests}
 use Rattle.reqtable_table.specs.Building.{AreOfTrees, group_marks, IsPackageOf, HasFirstTooMany}
 use Rattle.reqtable_table.specs.Building.{IsFirstRefusal}
 use Rattle.reqtable_table.proofs.Firsts.{no_more}
@@ -34,6 +35,10 @@ use Rattle.reqtable_table.proofs.Rising.{name_cmp, below_other, around, not_befo
 use Rattle.reqtable_table.proofs.Said.{lines_kept, named_alike, marks_said}
 
 -- ---- the table beside its groups
+
+no_tests : (lines : List Given) → tests_of (map kept_by lines) ≡ 0
+no_tests [] = refl
+no_tests (line ∷ lines) = ap (λ n. 0 + n) (no_tests lines)
 
 module _ (limit : ℕ) (nodes : List NodeRecord) where
   pub names_alike : (groups : List Group) (table : List KeptPackage) → AllZip (IsPackageOf limit nodes) groups table →
@@ -66,6 +71,15 @@ module _ (limit : ℕ) (nodes : List NodeRecord) where
   all_cases [] (kept ∷ table) h = absurd h
   all_cases (group ∷ groups) [] h = absurd h
   all_cases (group ∷ groups) (kept ∷ table) h = (h.0.cases, all_cases groups table h.1)
+
+  pub none_asked : (groups : List Group) (table : List KeptPackage) → AllZip (IsPackageOf limit nodes) groups table → all_tests table ≡ 0
+  none_asked [] [] h = refl
+  none_asked [] (kept ∷ table) h = absurd h
+  none_asked (group ∷ groups) [] h = absurd h
+  none_asked (group ∷ groups) (kept ∷ table) h =
+      let here = ap tests_of h.0.lines ∙ no_tests group.lines.items in
+      let rest = none_asked groups table h.1 in
+      (λ i. here i + rest i)
 
   made_of : (front : List Group) (group : Group) (back : List Group) (table : List KeptPackage) →
       AllZip (IsPackageOf limit nodes) (front ++ group ∷ back) table → (kept : KeptPackage) × IsPackageOf limit nodes group kept

@@ -19,5 +19,6 @@ pub mod Own
 pub mod Rows
 pub mod StandingLines
 pub mod Told
+pub mod Lasting
 pub mod LentTable
 pub mod Placed

@@ -10,5 +10,6 @@ pub mod Numbers
 pub mod Answers
 pub mod Choosing
 pub mod Runs
+pub mod Lasting
 pub mod Owns
 pub use Rattle.reqtable_groups.specs.Given

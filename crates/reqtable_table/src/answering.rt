@@ -4,6 +4,7 @@ ghost use Rattle.std.specs.Prelude.{◌≡◌, ◌≤◌, ◌<◌, ◌+◌, List
 ghost use Rattle.std.specs.Prelude.{IfSome};
 ghost use Rattle.std.specs.List.{AllZip, AllByRecursion};
 ghost use Rattle.pep508_evaluation.specs.Valuations.{valuation_of};
+ghost use Rattle.pep508_tree.specs.Meaning.{NodeRecord, Extends};
 ghost use Rattle.reqtable_answer.specs.Admission.{Admits, AnswersBy};
 ghost use Rattle.reqtable_answer.specs.Answer.{IsAnswer};
 ghost use Rattle.reqtable_answer.specs.Rows.{row_seen, IsTakenBelow};
@@ -14,6 +15,7 @@ ghost use Rattle.reqtable_table.specs.Answers.{IsRowIf, LiesIn, SamePackage};
 ghost use Rattle.reqtable_table.specs.Cases.{HasItsCases};
 ghost use Rattle.reqtable_table.specs.Counts.{all_tests};
 ghost use Rattle.reqtable_table.specs.Kept.{KeepsAll, KeptPackage};
+ghost use Rattle.reqtable_table.specs.Lasting.{StillServes};
 ghost use Rattle.reqtable_table.specs.Runs.{AreRunsOf, AreTold, IsToldIn};
 ghost use Rattle.reqtable_table.specs.Standing.{IsTable};
 
@@ -54,6 +56,9 @@ impl Table {
         ensures places { IfOk result (λ answer.
             All (λ row. IsTakenBelow (length candidates.now) row.outcome) answer.rows.items) }
         ensures kept { AllZip SamePackage self.new self.old }
+        ensures serves { StillServes interner.now.nodes interner.now.nodes self.old self.new }
+        ensures lasts { (later : List NodeRecord) → Extends interner.now.nodes later →
+            StillServes interner.now.nodes later self.old self.new }
         ensures tests { all_tests self.new ≤ all_tests self.old
             + most_tests_of interner.now.nodes (valuation_of environment.now extras.now) candidates.now
             self.old }
@@ -94,6 +99,9 @@ impl Table {
         ensures places { IfOk result (λ answer.
             All (λ row. IsTakenBelow (length runs.old.candidates) row.outcome) answer.rows.items) }
         ensures kept { AllZip SamePackage self.new self.old }
+        ensures serves { StillServes interner.now.nodes interner.now.nodes self.old self.new }
+        ensures lasts { (later : List NodeRecord) → Extends interner.now.nodes later →
+            StillServes interner.now.nodes later self.old self.new }
         ensures candidates { runs.new.candidates ≡ runs.old.candidates }
         ensures runs { AreRunsOf self.new runs.new }
         ensures told { AreTold (F.post admission.now) self.new runs.new }
@@ -158,6 +166,9 @@ impl Table {
         ensures below { IfOk result (λ row.
             IfSome row (λ row. IsTakenBelow (length runs.old.candidates) row.outcome)) }
         ensures kept { AllZip SamePackage self.new self.old }
+        ensures serves { StillServes interner.now.nodes interner.now.nodes self.old self.new }
+        ensures lasts { (later : List NodeRecord) → Extends interner.now.nodes later →
+            StillServes interner.now.nodes later self.old self.new }
         ensures candidates { runs.new.candidates ≡ runs.old.candidates }
         ensures runs { AreRunsOf self.new runs.new }
         ensures told { AreTold (F.post admission.now) self.new runs.new }

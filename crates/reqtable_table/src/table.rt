@@ -11,7 +11,7 @@ ghost use Rattle.reqtable_requirements.specs.Requirements.{StandsFor};
 ghost use Rattle.reqtable_table.specs.Building.{AreOfTrees, IsPackageOf, IsRefusal, IsFirstRefusal};
 ghost use Rattle.reqtable_table.specs.Cases.{Builds, HasItsCases, cases_under};
 ghost use Rattle.reqtable_table.specs.Casing.{case_record};
-ghost use Rattle.reqtable_table.specs.Counts.{up_to_64_bits, tests_of, table_tests};
+ghost use Rattle.reqtable_table.specs.Counts.{up_to_64_bits, tests_of, all_tests, table_tests};
 ghost use Rattle.reqtable_groups.specs.Given.{lines_in};
 ghost use Rattle.reqtable_table.specs.Kept.{KeptPackage};
 ghost use Rattle.reqtable_table.specs.KeptLines.{line_record, package_record};
@@ -136,6 +136,7 @@ impl Table {
             AllZip (StandsFor vars interner.old.nodes) requirements said →
             Builds limit interner.new.nodes said result }
         ensures cases { IfOk result (AllByRecursion (HasItsCases interner.new.nodes)) }
+        ensures unasked { IfOk result (λ table. all_tests table ≡ 0) }
         ensures keeps { Extends interner.old.nodes interner.new.nodes }
         ensures counts { interner.new.conjunctions
             ≤ interner.old.conjunctions + 2 * (limit * length requirements) }

@@ -1,2 +1,3 @@
 pub mod CasesOfLines
 pub mod OneCase
+pub mod Telling

@@ -11,10 +11,14 @@ ghost use Rattle.reqtable_answer.specs.Answer.{Admits, RowRecord, IsAnswer};
 ghost use Rattle.reqtable_requirements.specs.Asks.{lines_of, asks_of};
 ghost use Rattle.reqtable_requirements.specs.LineReading.{LineRecord};
 ghost use Rattle.reqtable_cases.specs.Lines.{is_named};
-ghost use Rattle.reqtable_table.specs.Answers.{AreRowsFor};
+ghost use Rattle.reqtable_table.specs.Answers.{AreRowsFor, SamePackage};
 ghost use Rattle.reqtable_table.specs.Cases.{HasItsCases, AreCasesOf, cases_under};
 ghost use Rattle.reqtable_table.specs.Cases.{IsRenumbered, SameCase};
 ghost use Rattle.reqtable_table.specs.Kept.{KeptCase, KeptPackage, KeepsAll};
+ghost use Rattle.reqtable_table.specs.Runs.{RunsRecord, AreRunsOf, AreTold, AreUntold};
+
+use pep440_version::Version;
+use reqtable_answer::Admission;
 
 /// The cases under a name are those of the lines that the table keeps of it; there are none exactly where no
 /// line names it.
@@ -48,6 +52,38 @@ pub fn cases_are_kept()
     ensures { (old new : List NodeRecord) (kept : KeptPackage) → Extends old new →
         HasItsCases old kept → HasItsCases new kept }
 {}
+
+/// While nodes are added to the interner, a table's cases stay its cases, and it keeps the lines that it kept.
+pub fn tables_are_kept()
+    ensures cases { (old new : List NodeRecord) (table : List KeptPackage) → Extends old new →
+        AllByRecursion (HasItsCases old) table → AllByRecursion (HasItsCases new) table }
+    ensures lines { (old new : List NodeRecord) (table : List KeptPackage) (said : List LineRecord) →
+        Extends old new → KeepsAll old table said → KeepsAll new table said }
+{}
+
+/// A table of whose lines more was asked has the cases that it had and keeps the lines that it kept, and the
+/// candidates that were found for it are found still.
+pub fn asking_changes_no_table()
+    ensures cases { (nodes : List NodeRecord) (table before : List KeptPackage) →
+        AllZip SamePackage table before → AllByRecursion (HasItsCases nodes) before →
+        AllByRecursion (HasItsCases nodes) table }
+    ensures lines { (nodes : List NodeRecord) (table before : List KeptPackage) (said : List LineRecord) →
+        AllZip SamePackage table before → KeepsAll nodes before said → KeepsAll nodes table said }
+    ensures runs { (all : RunsRecord) (table before : List KeptPackage) →
+        AllZip SamePackage table before → AreRunsOf before all → AreRunsOf table all }
+{}
+
+/// What is known of a table's cases by an admission is right where nothing is known yet, and stays so while
+/// more is asked of the table's lines.
+pub fn what_is_told_lasts<F: Fn(&Version, bool) -> bool>(admission: &Admission<F>)
+    ensures first { (all : RunsRecord) (table : List KeptPackage) → AreRunsOf table all → AreUntold all →
+        AreTold (F.post admission.now) table all }
+    ensures later { (all : RunsRecord) (table before : List KeptPackage) →
+        AllZip SamePackage table before → AreTold (F.post admission.now) before all →
+        AreTold (F.post admission.now) table all }
+{
+    let _ = admission;
+}
 
 /// A row for each package of which a line applies, by what these lines ask for, is the answer to what applies
 /// of the text.

@@ -4,6 +4,7 @@ use Rattle.pep508_evaluation.specs.Valuations.{valuation_of}
 use Rattle.reqtable_answer.specs.Answer.{IsAnswer}
 use Rattle.reqtable_answer.specs.Rows.{row_seen}
 use Rattle.reqtable_requirements.specs.Asks.{asks_of}
+use Rattle.reqtable_table.proofs.Lasting.{serves_later, serves_unasked}
 use Rattle.reqtable_table.proofs.Same.{all_same}
 use Rattle.reqtable_table.proofs.Told.{told_at_first}
 use Rattle.reqtable_table.proofs.table.Table.answer.Goals as goal
@@ -25,3 +26,17 @@ returns-clause-answered g c =
 pub answer_among-requires-clause-told : goal.answer_among-requires-clause-told
 answer_among-requires-clause-told g c =
     told_at_first _ c.args.self.now c.in_ok-runs.runs c.in_ok-runs.ensures.are c.in_ok-runs.ensures.untold
+
+pub returns-in_err-ordered-clause-serves : goal.returns-in_err-ordered-clause-serves
+returns-in_err-ordered-clause-serves g c = serves_unasked c.args.interner.now.nodes c.args.self.now c.requires.cases
+
+pub returns-in_err-ordered-clause-lasts : goal.returns-in_err-ordered-clause-lasts
+returns-in_err-ordered-clause-lasts g c = λ later more.
+    serves_later c.args.interner.now.nodes later more c.args.self.now c.args.self.now (all_same c.args.self.now) c.requires.cases
+
+pub returns-in_err-runs-clause-serves : goal.returns-in_err-runs-clause-serves
+returns-in_err-runs-clause-serves g c = serves_unasked c.args.interner.now.nodes c.args.self.now c.requires.cases
+
+pub returns-in_err-runs-clause-lasts : goal.returns-in_err-runs-clause-lasts
+returns-in_err-runs-clause-lasts g c = λ later more.
+    serves_later c.args.interner.now.nodes later more c.args.self.now c.args.self.now (all_same c.args.self.now) c.requires.cases

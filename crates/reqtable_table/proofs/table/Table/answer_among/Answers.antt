@@ -4,6 +4,7 @@ use Rattle.std.specs.Vec.{with_items}
 use Rattle.pep508_diagram.specs.Question.{Valuation}
 use Rattle.pep508_evaluation.specs.Valuations.{valuation_of}
 use Rattle.pep508_tree.specs.Meaning.{NodeRecord}
+use Rattle.pep508_tree.proofs.Conjoining.{extends_itself}
 use Rattle.reqtable_text.specs.declared.candidates.Candidate.{Candidate}
 use Rattle.reqtable_answer.specs.Admission.{Admits}
 use Rattle.reqtable_answer.specs.Answer.{RowRecord}
@@ -17,7 +18,7 @@ use Rattle.reqtable_table.specs.Owns.{runs_of}
 use Rattle.reqtable_table.specs.Runs.{AreRunsOf}
 use Rattle.reqtable_holding.specs.Settings.{nodes_in, valuation_in}
 use Rattle.reqtable_table.proofs.RowsOfLines.{rows_are_the_answer}
-use Rattle.reqtable_table.proofs.LentTable.{stays, runs_stay, few_more}
+use Rattle.reqtable_table.proofs.LentTable.{stays, runs_stay, serve, few_more}
 use Rattle.reqtable_table.proofs.table.Table.answer_among.Goals as goal
 
 pub invariant_of-self : goal.invariant_of-self
@@ -95,3 +96,27 @@ returns-clause-answered g c = λ said admits keeps by.
     (rows_on admits c.deref_mut.result.now c.args.self.now nodes (nodes_in c.new-setting.result) v (valuation_in c.new-setting.result)
     c.runs.inside.ordered.now.candidates rows (ap (map package_record) c.deref_mut.ensures.value ∙ c.self.view_is)
     c.new-setting.ensures.nodes c.new-setting.ensures.valuation (c.in_ok-rows.ensures.rows admits by)))
+
+pub returns-in_err-rows-clause-serves : goal.returns-in_err-rows-clause-serves
+returns-in_err-rows-clause-serves g c =
+    serve c.self.inside.packages c.deref_mut.result.now c.rows_of.new.packages c.args.self.now c.args.interner.now.nodes c.args.interner.now.nodes
+    (with_items_is c.self.inside.packages c.rows_of.new.packages (c.rows_of.auto.packages ∙ c.deref_mut.ensures.len))
+    (ap (map package_record) c.deref_mut.ensures.value ∙ c.self.view_is) (extends_itself c.args.interner.now.nodes) c.rows_of.ensures.kept c.requires.cases
+
+pub returns-in_err-rows-clause-lasts : goal.returns-in_err-rows-clause-lasts
+returns-in_err-rows-clause-lasts g c = λ later more.
+    serve c.self.inside.packages c.deref_mut.result.now c.rows_of.new.packages c.args.self.now c.args.interner.now.nodes later
+    (with_items_is c.self.inside.packages c.rows_of.new.packages (c.rows_of.auto.packages ∙ c.deref_mut.ensures.len))
+    (ap (map package_record) c.deref_mut.ensures.value ∙ c.self.view_is) more c.rows_of.ensures.kept c.requires.cases
+
+pub returns-clause-serves : goal.returns-clause-serves
+returns-clause-serves g c =
+    serve c.self.inside.packages c.deref_mut.result.now c.rows_of.new.packages c.args.self.now c.args.interner.now.nodes c.args.interner.now.nodes
+    (with_items_is c.self.inside.packages c.rows_of.new.packages (c.rows_of.auto.packages ∙ c.deref_mut.ensures.len))
+    (ap (map package_record) c.deref_mut.ensures.value ∙ c.self.view_is) (extends_itself c.args.interner.now.nodes) c.rows_of.ensures.kept c.requires.cases
+
+pub returns-clause-lasts : goal.returns-clause-lasts
+returns-clause-lasts g c = λ later more.
+    serve c.self.inside.packages c.deref_mut.result.now c.rows_of.new.packages c.args.self.now c.args.interner.now.nodes later
+    (with_items_is c.self.inside.packages c.rows_of.new.packages (c.rows_of.auto.packages ∙ c.deref_mut.ensures.len))
+    (ap (map package_record) c.deref_mut.ensures.value ∙ c.self.view_is) more c.rows_of.ensures.kept c.requires.cases

@@ -2,7 +2,7 @@ use Rattle.std.proofs.Common.{subst, map}
 use Rattle.reqtable_requirements.specs.ReadLines.{AreRead}
 use Rattle.reqtable_groups.specs.Given.{AreGrouped}
 use Rattle.reqtable_table.specs.KeptLines.{package_record}
-use Rattle.reqtable_table.proofs.Built.{groups_of_trees, all_cases, all_built, refused_so}
+use Rattle.reqtable_table.proofs.Built.{groups_of_trees, all_cases, none_asked, all_built, refused_so}
 use Rattle.reqtable_table.proofs.StandingLines.{is_table}
 use Rattle.reqtable_table.proofs.table.Table.build.Goals as goal
 
@@ -38,4 +38,9 @@ returns-clause-built c = λ vars said stand.
 pub returns-in-Ok-clause-cases : goal.returns-in-Ok-clause-cases
 returns-in-Ok-clause-cases c =
     all_cases c.args.limit c.packages_of.new.interner.nodes c.in_ok-groups.groups.items
+    (map package_record c.in-Ok.packages.items) c.in-Ok.ensures.made
+
+pub returns-in-Ok-clause-unasked : goal.returns-in-Ok-clause-unasked
+returns-in-Ok-clause-unasked c =
+    none_asked c.args.limit c.packages_of.new.interner.nodes c.in_ok-groups.groups.items
     (map package_record c.in-Ok.packages.items) c.in-Ok.ensures.made

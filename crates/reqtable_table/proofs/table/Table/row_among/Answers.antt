@@ -6,6 +6,7 @@ use Rattle.std.specs.Vec.{with_items}
 use Rattle.pep508_diagram.specs.Question.{Valuation}
 use Rattle.pep508_evaluation.specs.Valuations.{valuation_of}
 use Rattle.pep508_tree.specs.Meaning.{NodeRecord}
+use Rattle.pep508_tree.proofs.Conjoining.{extends_itself}
 use Rattle.reqtable_text.specs.declared.candidates.Candidate.{Candidate}
 use Rattle.reqtable_answer.specs.Admission.{Admits}
 use Rattle.reqtable_answer.specs.Answer.{RowRecord}
@@ -19,7 +20,7 @@ use Rattle.reqtable_table.specs.Owns.{runs_of}
 use Rattle.reqtable_table.specs.Runs.{AreRunsOf, IsToldIn}
 use Rattle.reqtable_table.specs.declared.runs.Told.{Told}
 use Rattle.reqtable_holding.specs.Settings.{nodes_in, valuation_in}
-use Rattle.reqtable_table.proofs.LentTable.{stays, runs_stay, few_more}
+use Rattle.reqtable_table.proofs.LentTable.{stays, runs_stay, serve, few_more}
 use Rattle.reqtable_table.proofs.table.Table.row_among.Goals as goal
 
 pub row_at-requires-clause-within : goal.row_at-requires-clause-within
@@ -106,3 +107,15 @@ returns-clause-once g c = λ other known.
     let none : all_tests (map package_record (with_items held c.row_at.new.packages).items) ≤ all_tests c.args.self.now =
     omega (arith, few) in
     none
+
+pub returns-clause-serves : goal.returns-clause-serves
+returns-clause-serves g c =
+    serve c.self.inside.packages c.deref_mut.result.now c.row_at.new.packages c.args.self.now c.args.interner.now.nodes c.args.interner.now.nodes
+    (with_items_is c.self.inside.packages c.row_at.new.packages (c.row_at.auto.packages ∙ c.deref_mut.ensures.len))
+    (ap (map package_record) c.deref_mut.ensures.value ∙ c.self.view_is) (extends_itself c.args.interner.now.nodes) c.row_at.ensures.kept c.requires.cases
+
+pub returns-clause-lasts : goal.returns-clause-lasts
+returns-clause-lasts g c = λ later more.
+    serve c.self.inside.packages c.deref_mut.result.now c.row_at.new.packages c.args.self.now c.args.interner.now.nodes later
+    (with_items_is c.self.inside.packages c.row_at.new.packages (c.row_at.auto.packages ∙ c.deref_mut.ensures.len))
+    (ap (map package_record) c.deref_mut.ensures.value ∙ c.self.view_is) more c.row_at.ensures.kept c.requires.cases
