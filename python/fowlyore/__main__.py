@@ -13,6 +13,7 @@ from .distributions import installed
 from .explanations import check_explained
 from .lists import GREATEST_LIMIT, LIMIT, InvalidInput, check, conflicts, matrix, normal, same
 from .markers import completed
+from .version import InvalidVersion, Version
 
 ANSWERED, DIFFERENT, REFUSED, NOT_READ, STRICT = range(5)
 Source = Union[Path, bytes]
@@ -102,10 +103,16 @@ def candidates_of(words: argparse.Namespace) -> Any:
 def environment_of(words: argparse.Namespace) -> Any:
     if words.environment is not None:
         return source(words.environment)
-    given: Dict[str, str] = {}
-    if words.python_version is not None:
-        given["python_version"] = words.python_version
-    return completed(given)
+    return completed({} if words.python_version is None else versions_of(words.python_version))
+
+
+def versions_of(full: str) -> Dict[str, str]:
+    """Both values for an interpreter of this version. An invalid version is left to the library, which refuses it."""
+    try:
+        version = Version(full)
+    except InvalidVersion:
+        return {"python_version": full}
+    return {"python_full_version": full, "python_version": f"{version.major}.{version.minor}"}
 
 
 def run_check(words: argparse.Namespace) -> int:

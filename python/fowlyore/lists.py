@@ -254,7 +254,8 @@ def check(
     """For each package that a line which applies asks for, by name, the greatest candidate that all these lines take.
 
     `environment` has values in place of the running interpreter's, `candidates` are names with versions, by default what is
-    installed, and `extras` are those that are asked for. A pre-release is taken only where a line names one.
+    installed, and `extras` are those that are asked for. A pre-release is taken only where a line names one. The versions of
+    an interpreter of a pre-release are read as `Marker.evaluate` says, but in an environment that is a text or a file.
 
     >>> candidates = {"requests": ["2.31.0", "2.33.0rc1"], "numpy": ["1.26.3"]}
     >>> for row in check(["requests[socks]>=2.8.1", "NumPy==1.26.4"], candidates=candidates):
@@ -276,7 +277,8 @@ def matrix(
     extras: Extras = (),
     limit: int = LIMIT,
 ) -> List[List[Row]]:
-    """What `check` answers for each of some environments, which are whole ones: of each no value is the running one's.
+    """What `check` answers for each of some environments, which are whole ones: of each no value is the running one's. The
+    versions of a mapping are read as `Marker.evaluate` says, those of a text or a file as they stand there.
 
     A package may have `limit` cases, which are sets of its lines that apply together.
 
