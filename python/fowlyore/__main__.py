@@ -5,6 +5,7 @@ import io
 import os
 import re
 import sys
+import warnings
 from pathlib import Path
 from typing import Any, Dict, List, Optional, Union
 
@@ -13,6 +14,7 @@ from .distributions import installed
 from .explanations import check_explained
 from .lists import GREATEST_LIMIT, LIMIT, InvalidInput, check, conflicts, matrix, normal, same
 from .markers import completed
+from .urls import MarkerInURLWarning
 from .version import InvalidVersion, Version
 
 ANSWERED, DIFFERENT, REFUSED, NOT_READ, STRICT = range(5)
@@ -186,6 +188,20 @@ def write_utf8() -> None:
             it.reconfigure(encoding="utf-8", errors=it.errors)
 
 
+def complain_of_warnings() -> None:
+    """Has this package's warnings be sentences, until the filters are as they were."""
+    show_another = warnings.showwarning
+
+    def show_warning(message: Any, category: Any, *place: Any, **more: Any) -> None:
+        if issubclass(category, MarkerInURLWarning):
+            complain(str(message))
+        else:
+            show_another(message, category, *place, **more)
+
+    warnings.simplefilter("always", MarkerInURLWarning)
+    warnings.showwarning = show_warning
+
+
 def main(words: Optional[List[str]] = None) -> int:
     """Runs a command, by default that of the process, and gives its exit status."""
     if words is None:
@@ -195,7 +211,9 @@ def main(words: Optional[List[str]] = None) -> int:
         complain("standard input (-) can be one input alone")
         return REFUSED
     try:
-        status = RUNS[asked.command](asked)
+        with warnings.catch_warnings():
+            complain_of_warnings()
+            status = RUNS[asked.command](asked)
         if sys.stdout is not None:
             sys.stdout.flush()
         return status

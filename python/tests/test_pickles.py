@@ -39,6 +39,7 @@ MADE = {
     "InvalidSpecifier": [lambda: error_of(Specifier, "=1"), lambda: error_of(SpecifierSet, ">=1,=2")],
     "InvalidVersion": [lambda: error_of(Version, "1.x")],
     "Marker": [lambda: Marker("os_name == 'nt' and extra == 'x'"), lambda: Marker("'x' in os.name") | Marker("extra == 'a'")],
+    "MarkerInURLWarning": [lambda: fowlyore.MarkerInURLWarning("why")],
     "Refused": [lambda: Refused("why", text="a=1", line=1, start=1, end=2)],
     "Requirement": [lambda: Requirement("Foo [b , a] >= 1.0 ; os_name == 'nt'"), lambda: Requirement("a @ https://e.org/x"), changed],
     "Row": [lambda: fowlyore.check("a[x]", candidates="a 1")[0]],
