@@ -40,6 +40,22 @@ def is_version(text):
     return all(len(number) <= 20 and int(number) < 2**64 for number in numbers)
 
 
+def full_version():
+    """The interpreter's version, but of a pre-release, as 3.14.0rc1, the release, and without a local part.
+
+    `reqs` compares `python_version` by it too, which is 3.14 then, and 3.14.0rc1 is less than that. A build that isn't
+    tagged, as `3.14.0a0+`, ends in an empty local part.
+    """
+    python = platform.python_version()
+    found = VERSION.fullmatch(python.rstrip("+"))
+    if not found:
+        return python
+    written = found["release"] if found["pre"] or found["dev"] else found[0][: len(found[0]) - len(found["local"] or "")]
+    if written != python:
+        print(f"installed.py: python_full_version is {python}, {written} is written", file=sys.stderr)
+    return written
+
+
 def environment():
     """The members of PEP 508, "Environment Markers"."""
     implementation = sys.implementation
@@ -47,11 +63,7 @@ def environment():
     full = "%d.%d.%d" % version[:3]
     if version[3] != "final":
         full += version[3][0] + str(version[4])
-    python = platform.python_version()
-    if not is_version(python):
-        # As `3.14.0a0+`, of an interpreter from a development tree.
-        print(f"installed.py: {python} is no version, {python.rstrip('+')} is written", file=sys.stderr)
-        python = python.rstrip("+")
+    python = full_version()
     return {
         "implementation_name": implementation.name,
         "implementation_version": full,

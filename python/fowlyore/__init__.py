@@ -13,6 +13,7 @@ from .lists import Comparison, Conflict, InvalidInput, Row, check, conflicts, ma
 from .markers import InvalidMarker, Marker, UndefinedComparison, UndefinedEnvironmentName, default_environment
 from .requirements import InvalidRequirement, Requirement
 from .specifiers import InvalidSpecifier, Specifier, SpecifierSet
+from .urls import MarkerInURLWarning
 from .version import InvalidVersion, Version, parse
 
 __version__ = "0.1.0"
@@ -25,6 +26,7 @@ __all__ = [
     "InvalidSpecifier",
     "InvalidVersion",
     "Marker",
+    "MarkerInURLWarning",
     "Refused",
     "Requirement",
     "Row",

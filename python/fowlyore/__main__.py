@@ -5,6 +5,7 @@ import io
 import os
 import re
 import sys
+import warnings
 from pathlib import Path
 from typing import Any, Dict, List, Optional, Union
 
@@ -13,6 +14,8 @@ from .distributions import installed
 from .explanations import check_explained
 from .lists import GREATEST_LIMIT, LIMIT, InvalidInput, check, conflicts, matrix, normal, same
 from .markers import completed
+from .urls import MarkerInURLWarning
+from .version import InvalidVersion, Version
 
 ANSWERED, DIFFERENT, REFUSED, NOT_READ, STRICT = range(5)
 Source = Union[Path, bytes]
@@ -20,13 +23,31 @@ Source = Union[Path, bytes]
 INPUTS = ("requirements", "environment", "environments", "candidates", "left", "right")
 
 STATUSES = """exit status: 0 after an answer, 1 where `same` said no, 2 where an input or the command line is refused, 3 where
-memory ran out or a file can't be read or written, and 4 where a row is none with --strict. FILE may be `-` once, for standard
-input. A list has a requirement (PEP 508) a line; options of pip, as -r or --hash, are refused."""
+memory ran out or a file can't be read or written, as a standard stream that is closed, and 4 where a row is none with --strict.
+FILE may be `-` once, for standard input. A list has a requirement (PEP 508) a line; options of pip, as -r or --hash, are refused."""
 
 
 def source(word: str) -> Source:
     """An input: the bytes of standard input, or a path."""
-    return sys.stdin.buffer.read() if word == "-" else Path(word)
+    if word != "-":
+        return Path(word)
+    # (None where the process was started without it)
+    if sys.stdin is None:
+        raise OSError("standard input is closed")
+    return sys.stdin.buffer.read()
+
+
+def show(*words: object, sep: str = "\n") -> None:
+    """Prints a part of the answer."""
+    if sys.stdout is None:
+        raise OSError("standard output is closed")
+    print(*words, sep=sep)
+
+
+def complain(sentence: str) -> None:
+    """Prints a sentence on standard error, where there is one: without it `print` would write to standard output."""
+    if sys.stderr is not None:
+        print(f"fowlyore: {sentence}", file=sys.stderr)
 
 
 def limit_of(word: str) -> int:
@@ -95,17 +116,23 @@ def candidates_of(words: argparse.Namespace) -> Any:
     left_out: List[str] = []
     found = installed(left_out)
     for it in left_out:
-        print(f"fowlyore: {it} is installed and left out: a name or version that can't be read", file=sys.stderr)
+        complain(f"{it} is installed and left out: a name or version that can't be read")
     return found
 
 
 def environment_of(words: argparse.Namespace) -> Any:
     if words.environment is not None:
         return source(words.environment)
-    given: Dict[str, str] = {}
-    if words.python_version is not None:
-        given["python_version"] = words.python_version
-    return completed(given)
+    return completed({} if words.python_version is None else versions_of(words.python_version))
+
+
+def versions_of(full: str) -> Dict[str, str]:
+    """Both values for an interpreter of this version. An invalid version is left to the library, which refuses it."""
+    try:
+        version = Version(full)
+    except InvalidVersion:
+        return {"python_version": full}
+    return {"python_full_version": full, "python_version": f"{version.major}.{version.minor}"}
 
 
 def run_check(words: argparse.Namespace) -> int:
@@ -114,7 +141,7 @@ def run_check(words: argparse.Namespace) -> int:
     rows, explanations = check_explained(*inputs) if words.explain else (check(*inputs), [])
     why = {it.name: it.sentences for it in explanations}
     for row in rows:
-        print(row, *why.get(row.name, ()), sep="\n    ")
+        show(row, *why.get(row.name, ()), sep="\n    ")
     return STRICT if words.strict and any(it.is_none for it in rows) else ANSWERED
 
 
@@ -122,25 +149,25 @@ def run_matrix(words: argparse.Namespace) -> int:
     inputs = (source(words.requirements), source(words.environments), candidates_of(words), words.extra)
     answers = matrix(*inputs, limit=words.limit)
     for number, rows in enumerate(answers, 1):
-        print(f"env {number}", *rows, sep="\n")
+        show(f"env {number}", *rows)
     return STRICT if words.strict and any(it.is_none for rows in answers for it in rows) else ANSWERED
 
 
 def run_same(words: argparse.Namespace) -> int:
     answer = same(source(words.left), source(words.right), words.limit)
-    print(answer)
+    show(answer)
     return ANSWERED if answer else DIFFERENT
 
 
 def run_conflicts(words: argparse.Namespace) -> int:
     for it in conflicts(source(words.requirements), words.limit):
-        print(it)
+        show(it)
     return ANSWERED
 
 
 def run_normal(words: argparse.Namespace) -> int:
     for it in normal(source(words.requirements)):
-        print(it)
+        show(it)
     return ANSWERED
 
 
@@ -161,30 +188,47 @@ def write_utf8() -> None:
             it.reconfigure(encoding="utf-8", errors=it.errors)
 
 
+def complain_of_warnings() -> None:
+    """Has this package's warnings be sentences, until the filters are as they were."""
+    show_another = warnings.showwarning
+
+    def show_warning(message: Any, category: Any, *place: Any, **more: Any) -> None:
+        if issubclass(category, MarkerInURLWarning):
+            complain(str(message))
+        else:
+            show_another(message, category, *place, **more)
+
+    warnings.simplefilter("always", MarkerInURLWarning)
+    warnings.showwarning = show_warning
+
+
 def main(words: Optional[List[str]] = None) -> int:
     """Runs a command, by default that of the process, and gives its exit status."""
     if words is None:
         write_utf8()
     asked = parser().parse_args(words)
     if sum(getattr(asked, it, None) == "-" for it in INPUTS) > 1:
-        print("fowlyore: standard input (-) can be one input alone", file=sys.stderr)
+        complain("standard input (-) can be one input alone")
         return REFUSED
     try:
-        status = RUNS[asked.command](asked)
-        sys.stdout.flush()
+        with warnings.catch_warnings():
+            complain_of_warnings()
+            status = RUNS[asked.command](asked)
+        if sys.stdout is not None:
+            sys.stdout.flush()
         return status
     except InvalidInput as error:
-        print(f"fowlyore: {told(error)}", file=sys.stderr)
+        complain(told(error))
         return REFUSED
     except BrokenPipeError:
         # (so that nothing is written to it when the interpreter ends)
         os.dup2(os.open(os.devnull, os.O_WRONLY), sys.stdout.fileno())
         return NOT_READ
     except OSError as error:
-        print(f"fowlyore: {error.filename}: {error.strerror}" if error.filename else f"fowlyore: {error}", file=sys.stderr)
+        complain(f"{error.filename}: {error.strerror}" if error.filename else str(error))
         return NOT_READ
     except MemoryError:
-        print("fowlyore: memory ran out", file=sys.stderr)
+        complain("memory ran out")
         return NOT_READ
 
 

@@ -6,6 +6,7 @@ go of it.
 
 import ctypes
 import os
+import sys
 from typing import Any, List, NamedTuple, Optional, Tuple
 
 ABI = 2
@@ -57,8 +58,11 @@ def new_buffer() -> Any:
 
 
 def path() -> str:
-    """Where the library lies: beside this module, unless FOWLYORE_LIBRARY names another one."""
+    """Where the library lies: beside this module, unless FOWLYORE_LIBRARY names another one. An interpreter that was started
+    with `-I` or `-E` looks at no variables of the environment, and so this doesn't either."""
     beside = os.path.join(os.path.dirname(os.path.abspath(__file__)), "libreqs.so")
+    if sys.flags.isolated or sys.flags.ignore_environment:
+        return beside
     return os.environ.get("FOWLYORE_LIBRARY") or beside
 
 

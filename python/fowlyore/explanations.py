@@ -1,15 +1,17 @@
 """Why a row of `check` is `none`: which lines refuse the greatest candidates."""
 
 import re
+from bisect import bisect_left, bisect_right
 from dataclasses import dataclass
-from typing import Dict, Iterable, Iterator, List, NamedTuple, Optional, Sequence, Tuple
+from typing import Dict, Iterable, Iterator, List, NamedTuple, Optional, Sequence, Set, Tuple
 
 from . import _native
 from .lists import (
     Candidates, Environment, Extras, Input, Requirements, Row, answered, candidates_input, environment_input, extras_input,
     requirements_input, rows_of,
 )  # fmt: skip
-from .version import Version
+from .specifiers import InvalidSpecifier, Specifier, SpecifierSet
+from .version import InvalidVersion, Version
 
 __all__ = ["Explanation", "Line", "Refusal", "check_explained", "explain"]
 
@@ -17,9 +19,13 @@ __all__ = ["Explanation", "Line", "Refusal", "check_explained", "explain"]
 NAMED = 3
 # How many characters of lines one call is asked of, in which there are at most 16 MiB.
 BATCH = 1 << 21
+# How many times more candidates a line is asked about in each round than in the one before.
+GROWTH = 8
 # The name at the front of a requirement, and name and version on the line of a candidate.
 _NAME = re.compile(r"\s*([A-Za-z0-9](?:[A-Za-z0-9._-]*[A-Za-z0-9])?)")
 _CANDIDATE = re.compile(r"^[^\S\n]*([A-Za-z0-9._-]+)[^\S\n]+([^\s#]+)", re.M)
+# The specifiers after a requirement's name.
+_SPECIFIERS = re.compile(r"\s*(?:\[[^\]]*\])?\s*\(?([^;#)]*)")
 
 
 class Line(NamedTuple):
@@ -130,14 +136,14 @@ class _Question:
         rows = rows_of(answered(_native.check, asked, self.environment, offered, self.extras))
         return {it.name: it for it in rows}
 
-    def refusing(self, version: Version, lines: List[_Asking]) -> List[_Asking]:
-        """Which of some lines refuse a candidate: each is asked as a package of its own, all of them at once. One that doesn't
-        apply refuses none."""
+    def accepting_none(self, asked: Iterable["_Offer"]) -> List[_Asking]:
+        """The lines that accept none of the candidates that they are offered: each line is asked as a package of its own, all of
+        them at once. A line that doesn't apply accepts all."""
         found: List[_Asking] = []
-        for batch in _batches(lines):
-            asked = "".join(it.of(it.alias) + _admitting(it.alias) for it in batch)
-            rows = self.rows(asked, "".join(f"{it.alias} {version}\n" for it in batch))
-            found += (it for it in batch if rows[it.alias].is_none)
+        for batch in _batches(asked):
+            lines = "".join(it.of(it.alias) + _admitting(it.alias) for it, _ in batch)
+            rows = self.rows(lines, "".join(f"{it.alias} {version}\n" for it, versions in batch for version in versions))
+            found += (it for it, _ in batch if rows[it.alias].is_none)
         return found
 
     def taken_by_all(self, lines: List[_Asking], versions: Iterable[Version]) -> Optional[Version]:
@@ -146,16 +152,21 @@ class _Question:
         return self.rows(asked, "".join(f"all {it}\n" for it in versions))["all"].version
 
 
-def _batches(lines: Iterable[_Asking]) -> Iterator[List[_Asking]]:
+# A line, and the candidates that it is asked about.
+_Offer = Tuple[_Asking, Sequence[Version]]
+
+
+def _batches(offers: Iterable[_Offer]) -> Iterator[List[_Offer]]:
     """Lines in groups, of which a call can be asked."""
-    batch: List[_Asking] = []
+    batch: List[_Offer] = []
     size = 0
-    for it in lines:
-        if size + len(it.rest) > BATCH and batch:
+    for line, versions in offers:
+        more = len(line.rest) + len(line.alias) + sum(len(line.alias) + len(str(it)) for it in versions)
+        if size + more > BATCH and batch:
             yield batch
             batch, size = [], 0
-        batch.append(it)
-        size += len(it.rest) + len(it.alias)
+        batch.append((line, versions))
+        size += more
     if batch:
         yield batch
 
@@ -166,7 +177,9 @@ def explain(
     """For each row of `check` that is `none`, by name, why it is; the arguments are those of `check`.
 
     Beside the library's call for `check` it makes for each such package with candidates at most four calls over its own lines,
-    one of them with all its candidates; and for each line that refuses the three greatest ones a call with the others.
+    one of them with all its candidates. Lines that refuse the three greatest candidates are asked about others, all lines in
+    one call, and those that refuse these about eight times as many, and so on. Only candidates are asked about that lie within
+    the bounds of a line's specifiers: for `foo==1.2` these are 1.2 and its local versions.
 
     >>> for it in explain(["foo!=2.1", "foo>=1", "foo<2,!=1.5"], candidates={"foo": ["0.9", "1.5", "2.1"]}):
     ...     print(it)
@@ -227,7 +240,7 @@ def _versions_of(text: str, names: List[str]) -> Dict[str, List[Version]]:
 def _explanation(name: str, lines: List[_Asking], versions: List[Version], question: _Question) -> Explanation:
     if not versions:
         return Explanation(name)
-    refusals = [(it, question.refusing(it, lines)) for it in versions[:NAMED]]
+    refusals = [(it, question.accepting_none((line, [it]) for line in lines)) for it in versions[:NAMED]]
     without = _without_candidate([of_version for _, of_version in refusals], versions[NAMED:], question)
     if without:
         return Explanation(name, versions[0], len(versions), without)
@@ -239,4 +252,60 @@ def _without_candidate(refusing: List[List[_Asking]], others: List[Version], que
     """The lines that refuse the greatest candidates and the others too."""
     of_all = set(refusing[0]).intersection(*refusing[1:])
     lines = [it for it in refusing[0] if it in of_all]
-    return tuple(it.line for it in lines if not others or question.taken_by_all([it], others) is None)
+    accepting = _accepting(lines, others[::-1], question)
+    return tuple(it.line for it in lines if it not in accepting)
+
+
+def _accepting(lines: List[_Asking], rising: List[Version], question: _Question) -> Set[_Asking]:
+    """The lines that accept some of the candidates. Each is asked about the greatest one within its bounds, and where that is
+    refused about more and more of those below."""
+    public = [Version(it.public) if "+" in str(it) else it for it in rising]
+    within = {it: _within(it, public) for it in lines}
+    found: Set[_Asking] = set()
+    number = 1
+    while within:
+        within = {it: those for it, those in within.items() if those}
+        refused = set(question.accepting_none((it, [rising[at] for at in those[-number:]]) for it, those in within.items()))
+        found.update(it for it in within if it not in refused)
+        within = {it: those[:-number] for it, those in within.items() if it in refused}
+        number *= GROWTH
+    return found
+
+
+def _within(line: _Asking, public: List[Version]) -> range:
+    """Where those of some candidates stand that the line's specifiers may accept. The candidates are given by their public
+    versions, rising, since what a specifier accepts of these goes by its bounds."""
+    given = _SPECIFIERS.match(line.rest)
+    try:
+        spans = [_span(it, public) for it in SpecifierSet(given[1] if given else "")]
+    except InvalidSpecifier:
+        spans = []
+    return range(max((it.start for it in spans), default=0), min((it.stop for it in spans), default=len(public)))
+
+
+def _span(specifier: Specifier, public: List[Version]) -> range:
+    """Where the versions stand that lie within a specifier's bounds (PEP 440, Version specifiers): what `==` and `===` accept
+    has the public version of theirs, what `~=` and a star accept begins with their release. `!=` has no bounds."""
+    low, high = 0, len(public)
+    operator, named = specifier.operator, Version(Version(specifier._without_star()).public)
+    if operator == "!=":
+        return range(low, high)
+    if specifier.version.endswith(".*"):
+        return range(bisect_left(public, Version(f"{named}.dev0")), _end_of(named.epoch, named.release, public))
+    if operator not in ("<", "<="):
+        low = bisect_left(public, named)
+    if operator == "~=":
+        high = _end_of(named.epoch, named.release[:-1], public)
+    elif operator not in (">", ">="):
+        high = bisect_right(public, named)
+    return range(low, high)
+
+
+def _end_of(epoch: int, release: Sequence[int], public: List[Version]) -> int:
+    """Where the versions end whose release begins with some numbers, or all where none can be above these."""
+    *front, last = release
+    try:
+        above = Version(f"{epoch}!{'.'.join(map(str, [*front, last + 1]))}.dev0")
+    except InvalidVersion:
+        return len(public)
+    return bisect_left(public, above)

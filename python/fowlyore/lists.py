@@ -16,6 +16,7 @@ from .errors import Refused, characters
 from .distributions import installed
 from .markers import completed, environment_json
 from .requirements import InvalidRequirement, Requirement
+from .urls import warn_of_marker_in
 from .version import Version
 
 __all__ = [
@@ -41,6 +42,9 @@ Answer = TypeVar("Answer")
 # A text that is meant as a path, most likely, though a package could have such a name.
 _PATH = re.compile(r"\S+\.(txt|in|json|toml)")
 _ROW = re.compile(r"([^ \[]+)(?:\[([^\]]*)\])? (.*)")
+# A line in which a `;` stands at the end of something that may be a URL, and where a comment begins.
+_WITH_URL = re.compile(rb"@[^;\n]*[^;\s];")
+_COMMENT = re.compile(r"(?:^|\s)#.*")
 # A candidate's line that the library reads as one name and one version, or refuses.
 _CANDIDATE = re.compile(r"[^ #\n][^#\n]*")
 _WHITE = " \t\n\r\f"
@@ -142,7 +146,28 @@ def as_bytes(name: str, given: Any, otherwise: Callable[[Any], str]) -> Input:
 def requirements_input(given: Requirements, name: str = "requirements") -> Input:
     if isinstance(given, str) and _PATH.fullmatch(given):
         raise InvalidInput(f"{name}: {given!r} is read as a list's text: give a pathlib.Path for a file", input=name)
-    return as_bytes(name, given, lambda lines: _joined(name, lines))
+    read = as_bytes(name, given, lambda lines: _joined(name, lines))
+    if _WITH_URL.search(read.text):
+        _warn_of_urls(read)
+    return read
+
+
+def _warn_of_urls(given: Input) -> None:
+    """Warns of each line whose URL ends in a marker."""
+    for number, line in enumerate(given.text.split(b"\n"), 1):
+        if _WITH_URL.search(line):
+            url = _url_of(_COMMENT.sub("", line.decode("utf-8", "replace")))
+            warn_of_marker_in(url, f"{given.path or given.name}: line {number}: ")
+
+
+def _url_of(text: str) -> str:
+    """The URL of a requirement without a marker. Nothing where it has none, or has a marker, or where the text is no
+    requirement."""
+    try:
+        parts = _native.requirement(_native.encoded(text))
+    except _native.Fault:
+        return ""
+    return parts.url if parts.marker is None else ""
 
 
 def _joined(name: str, lines: Iterable[Union[str, Requirement]]) -> str:
@@ -254,7 +279,8 @@ def check(
     """For each package that a line which applies asks for, by name, the greatest candidate that all these lines take.
 
     `environment` has values in place of the running interpreter's, `candidates` are names with versions, by default what is
-    installed, and `extras` are those that are asked for. A pre-release is taken only where a line names one.
+    installed, and `extras` are those that are asked for. A pre-release is taken only where a line names one. The versions of
+    an interpreter of a pre-release are read as `Marker.evaluate` says, but in an environment that is a text or a file.
 
     >>> candidates = {"requests": ["2.31.0", "2.33.0rc1"], "numpy": ["1.26.3"]}
     >>> for row in check(["requests[socks]>=2.8.1", "NumPy==1.26.4"], candidates=candidates):
@@ -276,7 +302,8 @@ def matrix(
     extras: Extras = (),
     limit: int = LIMIT,
 ) -> List[List[Row]]:
-    """What `check` answers for each of some environments, which are whole ones: of each no value is the running one's.
+    """What `check` answers for each of some environments, which are whole ones: of each no value is the running one's. The
+    versions of a mapping are read as `Marker.evaluate` says, those of a text or a file as they stand there.
 
     A package may have `limit` cases, which are sets of its lines that apply together.
 

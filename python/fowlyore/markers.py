@@ -49,7 +49,9 @@ def _full_version(info: Any) -> str:
 
 
 def default_environment() -> Dict[str, str]:
-    """The values that markers are held against, of the running interpreter.
+    """The values of the running interpreter for PEP 508's environment markers: a text for each of eleven names, as
+    packaging's function returns them. `python_full_version` is the interpreter's own, as `3.14.0rc1`. `Marker.evaluate`
+    and the functions on lists read that as 3.14.0 (see `Marker.evaluate`).
 
     >>> sorted(default_environment())[:4]
     ['implementation_name', 'implementation_version', 'os_name', 'platform_machine']
@@ -85,12 +87,38 @@ def completed(given: Optional[Mapping[str, Any]]) -> Dict[str, Any]:
 
 
 def environment_json(environment: Mapping[str, Any]) -> bytes:
-    """The JSON that the library reads. An interpreter from a development tree may end its version with `+`, which is none."""
+    """The JSON that the library reads of an environment: its members as they are, but that `python_full_version` is
+    `full_version_read`."""
     values = {key: value for key, value in environment.items() if key in MEMBERS}
     full = values.get("python_full_version")
-    if isinstance(full, str) and full.endswith("+"):
-        values["python_full_version"] = full + "local"
+    if isinstance(full, str):
+        values["python_full_version"] = full_version_read(full, values.get("python_version"))
     return json.dumps(values).encode()
+
+
+def full_version_read(full: str, short: object) -> str:
+    """The text that the library reads for an environment's `python_full_version`.
+
+    The library compares `python_version` by this version, and 3.14.0rc1 is less than 3.14 (PEP 440, Summary of permitted
+    suffixes and relative ordering), though `python_version` is 3.14 on such an interpreter (PEP 508, Environment Markers).
+    So where `short`, the environment's `python_version`, is the first two numbers of `full`, a pre-release or developmental
+    release is read as its release, and a version with a local part as the version without it, which is how PEP 440
+    compares it with a version that has none. A build that isn't tagged ends in `+`, which counts as a local part. Every
+    other text is read as it is given, but that a `+` at its end, which no version has, becomes `+local`.
+
+    >>> full_version_read("3.14.0rc1", "3.14"), full_version_read("3.14.0+", "3.14"), full_version_read("3.14.0rc1", "3.13")
+    ('3.14.0', '3.14.0', '3.14.0rc1')
+    """
+    text = f"{full}local" if full.endswith("+") else full
+    if text.replace(".", "").isdecimal():
+        return text
+    try:
+        version = Version(text)
+    except InvalidVersion:
+        return text
+    if version.epoch or short != f"{version.major}.{version.minor}":
+        return text
+    return version.base_version if version.is_prerelease else version.public
 
 
 class _Shape(NamedTuple):
@@ -332,8 +360,16 @@ class Marker:
         `extra` is the one extra that is asked for, none where it is empty. `context` is taken as packaging has it, and says
         nothing here.
 
+        `python_version` is compared by `python_full_version`. Where that is a pre-release or developmental release, or has a
+        local part or a `+` at its end, and `python_version` is its first two numbers, it is read as the release: on 3.14.0rc1
+        both are compared as those of 3.14.0. `UndefinedEnvironmentName` is raised where the environment has an invalid
+        version, an `extra` that is no name, or a value that isn't a text.
+
         >>> Marker("extra == 'test'").evaluate(), Marker("extra == 'test'").evaluate({"extra": "Test"})
         (False, True)
+        >>> early = {"python_full_version": "3.14.0rc1", "python_version": "3.14"}
+        >>> Marker("python_version >= '3.14'").evaluate(early)
+        True
         """
         values = completed(environment)
         extra = values.get("extra") or ""

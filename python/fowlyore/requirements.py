@@ -8,6 +8,7 @@ from ._cached import cached_property
 from .errors import Refused, on_one_line, refusal
 from .markers import Marker, marker_of
 from .specifiers import SpecifierSet
+from .urls import warn_of_marker_in
 
 __all__ = ["InvalidRequirement", "Requirement"]
 
@@ -29,7 +30,9 @@ class Requirement:
 
     Name and extras are as they were written, and compared by their normal names. The marker is None where none was
     written; to compare, that is as one that always holds. All of these can be set. The functions on lists read the
-    text that a requirement was made of, or, where a part was set, one that says what its parts are now.
+    text that a requirement was made of, or, where a part was set, one that says what its parts are now. A URL that ends in
+    `;` and a marker, without white space before the `;`, is read as a URL with that at its end, of which
+    `MarkerInURLWarning` warns.
 
     >>> requirement = Requirement('Requests[Socks]>=2.8.1, == 2.8.* ; python_version > "3.7"')
     >>> requirement.name, requirement.extras, str(requirement.specifier), str(requirement.marker)
@@ -56,6 +59,8 @@ class Requirement:
         self.extras: Set[str] = {it.strip() for it in (found[2] or "").split(",") if it.strip()}
         self._written = self._front()
         self._read = self._values()
+        if self._parts.marker is None:
+            warn_of_marker_in(self._parts.url)
 
     @cached_property
     def specifier(self) -> SpecifierSet:

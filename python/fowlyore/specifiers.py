@@ -154,6 +154,9 @@ class Specifier:
             return self._operator, self._normal
         return self._operator, Version(self._normal)._key
 
+    def __reduce__(self) -> "Tuple[type, Tuple[str, Optional[bool]]]":
+        return self.__class__, (str(self), self._prereleases)
+
     def __str__(self) -> str:
         return self._operator + self._version
 
@@ -277,6 +280,10 @@ class SpecifierSet:
     @prereleases.setter
     def prereleases(self, value: Optional[bool]) -> None:
         self._prereleases = value
+
+    def __reduce__(self) -> "Tuple[type, Tuple[Union[str, FrozenSet[Specifier]], Optional[bool]]]":
+        # (the members themselves, once there are some: of each it may be set whether it lets pre-releases in)
+        return self.__class__, (getattr(self, "_made", self._given), self._prereleases)
 
     def __str__(self) -> str:
         return ",".join(sorted(map(str, self._specs)))

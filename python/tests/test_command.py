@@ -149,3 +149,44 @@ class Process(unittest.TestCase):
             ran = self.run_module("normal", "-", input=b"foo\n", stdout=full)
         self.assertEqual(ran.returncode, 3)
         self.assertIn(b"No space left", ran.stderr)
+
+
+@unittest.skipUnless(os.name == "posix", "streams are closed by a shell")
+class Closed(unittest.TestCase):
+    """Standard streams that the process is started without."""
+
+    REQUIREMENTS, ENVIRONMENT, CANDIDATES = (str(FIRST / it) for it in ("requirements.txt", "environment.json", "candidates.txt"))
+    COMMANDS = (
+        ["check", REQUIREMENTS, "--environment", ENVIRONMENT, "--candidates", CANDIDATES],
+        ["matrix", REQUIREMENTS, str(FIRST / "environments.json"), "--candidates", CANDIDATES],
+        ["same", str(EXAMPLES / "lock" / "before.txt"), str(EXAMPLES / "lock" / "rewritten.txt")],
+        ["conflicts", str(EXAMPLES / "apart" / "requirements.txt")],
+        ["normal", REQUIREMENTS.replace("first", "spelling")],
+    )
+
+    def run_without(self, streams, *words):
+        closed = "".join(f" {it}>&-" for it in streams)
+        command = ["sh", "-c", f'exec "$@"{closed}', "sh", sys.executable, "-m", "fowlyore", *words]
+        ran = subprocess.run(command, stdin=subprocess.DEVNULL, stdout=subprocess.PIPE, stderr=subprocess.PIPE)
+        return ran.returncode, ran.stdout.decode(), ran.stderr.decode()
+
+    def test_standard_input(self):
+        for words in self.COMMANDS:
+            open_one = self.run_without("", *words)
+            self.assertEqual((open_one[0], open_one[2]), (0, ""), words)
+            self.assertEqual(self.run_without("0", *words), open_one, words)
+            for at, word in enumerate(words):
+                if os.path.isabs(word):
+                    given = [*words[:at], "-", *words[at + 1 :]]
+                    self.assertEqual(self.run_without("0", *given), (3, "", "fowlyore: standard input is closed\n"), given)
+
+    def test_standard_output(self):
+        for words in self.COMMANDS:
+            self.assertEqual(self.run_without("1", *words), (3, "", "fowlyore: standard output is closed\n"), words)
+            self.assertEqual(self.run_without("01", *words), (3, "", "fowlyore: standard output is closed\n"), words)
+        self.assertEqual(self.run_without("1", "conflicts", self.REQUIREMENTS), (0, "", ""))
+
+    def test_standard_error(self):
+        """Nothing else is written to in its place."""
+        for words, status in ((["normal", "/no/such/file"], 3), (["conflicts", self.CANDIDATES], 2), (["same", "-", "-"], 2)):
+            self.assertEqual(self.run_without("2", *words), (status, "", ""), words)

@@ -9,7 +9,7 @@ from unittest import mock
 
 import fowlyore
 from fowlyore import Requirement, Version, _native, check
-from fowlyore.explanations import Explanation, Line, Refusal, check_explained, explain
+from fowlyore.explanations import Explanation, Line, Refusal, _Asking, _within, check_explained, explain
 from fowlyore.lists import requirements_input
 
 ENVIRONMENT = {"os_name": "posix"}
@@ -115,6 +115,29 @@ class Calls(unittest.TestCase):
         # (each of 12, 13 and 14 is accepted by some line)
         self.assertLessEqual(len(sizes), 1 + 3 + 17)
 
+    def test_lines_that_accept_nothing(self):
+        """What is asked is about as long as lines and candidates together, however many there are."""
+        count = 400
+        candidates = [f"{it}.0" for it in range(1, count + 1)] + [f"{count}.0+local"]
+        above = ["=={}.5", "==={}.5", "=={}.5+local", "=={}.1.*", "~={}.1", ">1000.{}", ">=1000.{}", "==1000.{}", "<1.dev{}", "<=0.{}"]
+        for form in above:
+            lines = [f"a{form.format(it)}" for it in range(1, count + 1)]
+            found, sizes = self.asked(lines, ENVIRONMENT, {"a": candidates})
+            self.assertEqual([it.number for it in found[0].lines_without_candidate], list(range(1, count + 1)), form)
+            self.assertLessEqual(len(sizes), 1 + 3 + 1, form)
+            whole = len("\n".join(lines)) + sum(len(f"a {it}\n") for it in candidates)
+            self.assertLessEqual(sum(sizes), 30 * whole, form)
+
+    def test_lines_that_accept_one(self):
+        """Rounds of calls, in each of which all lines are asked that accepted nothing before."""
+        count = 400
+        others = [",".join(f"!={it}" for it in range(360, count + 2)), "==1.*", ">0,!=1.*,<9", "<1"]
+        lines = [f"a=={it}" for it in range(1, count)] + [f"a{it}" for it in others]
+        found, sizes = self.asked(lines, ENVIRONMENT, {"a": [str(it) for it in range(1, count + 2)]})
+        self.assertEqual([it.text for it in found[0].lines_without_candidate], ["a<1"])
+        self.assertLessEqual(len(sizes), 1 + 3 + 4)
+        self.assertLessEqual(sum(sizes), 60 * len("\n".join(lines)))
+
     def test_large_texts(self):
         """Of the lines no more is asked at once than a call reads, though each is asked with another name."""
         lines = [f"a!={it:03}{' ' * 5000}" for it in range(999)]
@@ -122,6 +145,44 @@ class Calls(unittest.TestCase):
         self.assertEqual([str(it.version) for it in found[0].refusals], ["998", "997", "996"])
         self.assertEqual([[at.number for at in it.lines] for it in found[0].refusals], [[999], [998], [997]])
         self.assertGreater(len(sizes), 6)
+
+
+class Bounds(unittest.TestCase):
+    """A line is asked about no more candidates than it may accept, and about each that it accepts."""
+
+    GREATEST = ["9!1.0", "9!1.1", "9!1.2"]
+    OFFERED = [*VERSIONS, *OTHERS, "0", "0.dev0", "1.0.post1.dev0", "1.0.post1+a", "1.0rc1.post2", "2.0b1.dev1", "1.0a1+b.1",
+               "1!0.1.dev0", f"{2**64 - 1}", f"1.{2**64 - 1}"]  # fmt: skip
+    NAMED = EACH + [
+        "==1.0+y", "==1.0.post1", "<=1.0.post1", "<1.0.post1", ">1.0.post1", ">1.0.dev2", "~=1.0.post1", "~=1!0.1", "==1!0.*", ">1!0",
+        "===1.0.post1+a", "==1.0.post1+a", "!=1.0+x", f"==1.{2**64 - 1}.*", f"=={2**64 - 1}.*", f"~=1.{2**64 - 1}", "~=0.9.0", ">=2,<1",
+        f"~={2**64 - 1}.0", "==1.0.0.0.*", "~=1.0.0.dev1", "<0.dev1", "== v1.0", "~=1", "", ">= 1.0 , < 2",
+    ]  # fmt: skip
+
+    def test_each_specifier(self):
+        choose = random.Random(7)
+        valid = [it for it in self.NAMED if it != "~=1"]
+        pairs = [",".join(filter(None, choose.sample(valid, 2))) for _ in range(150)]
+        lines = [f"{choose.choice(['a', 'A[x]', 'a '])}{it}" for it in valid + pairs]
+        # (so that no line accepts the three greatest)
+        lines = [f"{it}{'' if it.rstrip(' ]x[').lower() == 'a' else ','}!=9!1.*" for it in lines]
+        for _ in range(6):
+            offered = choose.sample(self.OFFERED, choose.choice([1, 2, 5, len(self.OFFERED)]))
+            (found,) = explain(lines, ENVIRONMENT, {"a": [*offered, *self.GREATEST]})
+            wanted = [number for number, it in enumerate(lines, 1) if self.accepts_none(it, offered)]
+            self.assertEqual([it.number for it in found.lines_without_candidate], wanted, offered)
+            self.assertTrue(wanted)
+
+    def test_lines_without_bounds(self):
+        """They may accept each candidate, also what can't be read as specifiers."""
+        public = [Version(str(it)) for it in range(9)]
+        for rest in ("", " [x]", "[x] ; os_name == 'nt'", "!=3", " (!=1.*, !=2) # >1", "@ https://example.org", "=1", "~=1"):
+            self.assertEqual(_within(_Asking(Line(1, f"a{rest}"), rest), public), range(9), rest)
+        self.assertEqual(_within(_Asking(Line(1, "a"), " [x,y] (>2 ,<= 5.0) ; os_name == 'nt'  # <1"), public), range(2, 6))
+
+    def accepts_none(self, line, offered):
+        (row,) = check([line, "a>=0.dev0"], ENVIRONMENT, {"a": offered})
+        return row.is_none
 
 
 class Made:

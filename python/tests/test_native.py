@@ -57,3 +57,20 @@ class Loading(unittest.TestCase):
             ran = subprocess.run([sys.executable, "-c", "import fowlyore"], env=environment, stderr=subprocess.PIPE)
             self.assertNotEqual(ran.returncode, 0)
             self.assertIn(f"ImportError: fowlyore {said}".encode(), ran.stderr)
+
+    def test_an_isolated_interpreter(self):
+        """It takes the library beside the package's modules, or says that there is none, whatever the variable names."""
+        package = pathlib.Path(_native.__file__).resolve().parent
+        code = f"""
+import sys
+sys.path.insert(0, {str(package.parent)!r})
+try:
+    from fowlyore import _native
+    print(_native.path())
+except ImportError as error:
+    print(error.path)
+"""
+        environment = {**os.environ, "FOWLYORE_LIBRARY": "/no/such/library.so", "PYTHONDONTWRITEBYTECODE": "1"}
+        for words, wanted in ((["-I"], package / "libreqs.so"), (["-E"], package / "libreqs.so"), ([], "/no/such/library.so")):
+            ran = subprocess.run([sys.executable, *words, "-B", "-c", code], env=environment, stdout=subprocess.PIPE)
+            self.assertEqual((ran.returncode, ran.stdout.decode()), (0, f"{wanted}\n"), words)

@@ -100,12 +100,13 @@ class Requirements(unittest.TestCase):
             ("foo @ https://example.org/\u00e9;\u00e9 ;  platform_version == '\u00e9;' ", "platform_version == '\u00e9;'"),
             ("foo\u2003>=1 ;\u00a0os_name == 'b'", "os_name == 'b'"),
             ("foo;os_name == ';'", "os_name == ';'"),
-            ("foo @ https://example.org/;os_name=='a'", None),
         ]
         for text, marker in rows:
             given = Requirement(text).marker
             self.assertEqual(given and given._given, marker, text)
             self.assertEqual(given, marker and Marker(marker), text)
+        with self.assertWarns(fowlyore.MarkerInURLWarning):
+            self.assertIsNone(Requirement("foo @ https://example.org/;os_name=='a'").marker)
 
     def test_nothing_is_printed_before_somebody_prints(self):
         """The normal text of such a marker is exponentially long."""

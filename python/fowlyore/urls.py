@@ -1,0 +1,52 @@
+"""The warning of a URL that ends in what was meant as a marker."""
+
+import sys
+import warnings
+from typing import Optional
+
+from . import _native
+
+__all__ = ["MarkerInURLWarning"]
+
+
+class MarkerInURLWarning(UserWarning):
+    """A requirement's URL has a `;` in it and a marker after that, as in `foo @ https://e.org/x.whl;os_name == 'nt'`. The
+    requirement is read with this URL and without a marker, and so it applies everywhere. To have the marker, write white
+    space before its `;` (PEP 508, Grammar: `url_req`)."""
+
+
+def marker_in(url: str) -> Optional[str]:
+    """The text after the first `;` of a URL, or else after the last one, where the library reads a marker there.
+
+    >>> marker_in("https://e.org/x.whl;os_name == 'nt'"), marker_in("https://e.org/x;v=1")
+    ("os_name == 'nt'", None)
+    """
+    if ";" not in url:
+        return None
+    texts = (url.partition(";")[2], url.rpartition(";")[2])
+    return next((it for it in texts if _is_marker(it)), None)
+
+
+def _is_marker(text: str) -> bool:
+    try:
+        _native.marker_truth(_native.encoded(text))
+    except _native.Fault:
+        return False
+    return True
+
+
+def warn_of_marker_in(url: str, place: str = "") -> None:
+    """Warns where the URL of a requirement without a marker ends in one. The warning is that of the code that called this
+    package."""
+    marker = marker_in(url)
+    if marker is not None:
+        said = f"{place}{url!r} is a URL without a marker after it: write ' ;{marker}', with white space before the ';'"
+        warnings.warn(said, MarkerInURLWarning, stacklevel=_calls_within() + 1)
+
+
+def _calls_within() -> int:
+    """How many of the calls that lead to this function's caller are of this package, with that one."""
+    count, frame = 1, sys._getframe(1).f_back
+    while frame is not None and str(frame.f_globals.get("__name__", "")).startswith(f"{__package__}."):
+        count, frame = count + 1, frame.f_back
+    return count

@@ -1,0 +1,125 @@
+"""Values that are pickled, by each protocol, and copied."""
+
+import copy
+import pickle
+import unittest
+
+import fowlyore
+from fowlyore import InvalidInput, Marker, Refused, Requirement, Specifier, SpecifierSet, Version
+from fowlyore.explanations import explain
+
+
+def error_of(call, *given):
+    try:
+        call(*given)
+    except Refused as error:
+        return error
+    raise AssertionError(f"{given!r} is refused by nothing")
+
+
+def set_of_members():
+    """One of whose members it was set that it lets pre-releases in."""
+    return SpecifierSet([Specifier(">=1.0", prereleases=True), "<3"])
+
+
+def changed():
+    requirement = Requirement("Foo [b , a] >= 1.0 ; os_name == 'nt'")
+    requirement.marker, requirement.specifier.prereleases = Marker("os.name == 'nt'"), True
+    requirement.extras.add("c")
+    return requirement
+
+
+# How values of each class are made.
+MADE = {
+    "Comparison": [lambda: fowlyore.same("a", "a"), lambda: fowlyore.same("a", "a ; os_name == 'nt'")],
+    "Conflict": [lambda: fowlyore.conflicts("a<1\na>2.0rc1")[0]],
+    "InvalidInput": [lambda: error_of(fowlyore.normal, "a\nb=1"), lambda: error_of(fowlyore.check, "a", "{}", "")],
+    "InvalidMarker": [lambda: error_of(Marker, "os_name")],
+    "InvalidRequirement": [lambda: error_of(Requirement, "a=1")],
+    "InvalidSpecifier": [lambda: error_of(Specifier, "=1"), lambda: error_of(SpecifierSet, ">=1,=2")],
+    "InvalidVersion": [lambda: error_of(Version, "1.x")],
+    "Marker": [lambda: Marker("os_name == 'nt' and extra == 'x'"), lambda: Marker("'x' in os.name") | Marker("extra == 'a'")],
+    "MarkerInURLWarning": [lambda: fowlyore.MarkerInURLWarning("why")],
+    "Refused": [lambda: Refused("why", text="a=1", line=1, start=1, end=2)],
+    "Requirement": [lambda: Requirement("Foo [b , a] >= 1.0 ; os_name == 'nt'"), lambda: Requirement("a @ https://e.org/x"), changed],
+    "Row": [lambda: fowlyore.check("a[x]", candidates="a 1")[0]],
+    "Specifier": [
+        lambda: Specifier(" ~=  1.4-Alpha "), lambda: Specifier("== 1.0.*"), lambda: Specifier(">=1", prereleases=True),
+        lambda: Specifier(">=1.0a1", prereleases=False), lambda: Specifier("===1.0"),
+    ],
+    "SpecifierSet": [
+        SpecifierSet, lambda: SpecifierSet(">=1,<2,"), lambda: SpecifierSet(">=1", prereleases=True),
+        lambda: SpecifierSet(prereleases=False), set_of_members, lambda: set_of_members() & "!=2",
+    ],
+    "UndefinedComparison": [lambda: fowlyore.UndefinedComparison("why")],
+    "UndefinedEnvironmentName": [lambda: error_of(Marker("extra == 'x'").evaluate, {"extra": "-"})],
+    "Version": [lambda: Version(" 1!2.0-RC.1+Local_1\n")],
+    "Explanation": [lambda: explain("a>1\na<1", candidates="a 1\na 2")[0], lambda: explain("a", candidates="a 1rc1")[0]],
+}  # fmt: skip
+
+
+def parts_of(value):
+    """What a value says of itself: its class, its texts, and its parts."""
+    parts = {"class": type(value), "str": str(value), "repr": repr(value)}
+    for name in ("prereleases", "specifier", "marker", "operator", "version", "public", "is_none", "sentences"):
+        parts[name] = str(getattr(value, name, None))
+    parts["extras"] = sorted(getattr(value, "extras", ()))
+    if isinstance(value, Exception):
+        parts.update(vars(value))
+    if isinstance(value, SpecifierSet):
+        parts["members"] = sorted((str(it), it.prereleases) for it in value)
+    if isinstance(value, Requirement):
+        parts["line"] = value._line()
+    return parts
+
+
+def used(value):
+    """The value once each part of it was asked for."""
+    parts_of(value)
+    if not isinstance(value, (Exception, fowlyore.Comparison)):
+        hash(value)
+    return value
+
+
+def values():
+    """Each value, as it is made and after its parts were asked for, with a name for it."""
+    for name, makes in MADE.items():
+        for number, make in enumerate(makes):
+            yield (name, number, "made"), make()
+            yield (name, number, "used"), used(make())
+
+
+class Pickled(unittest.TestCase):
+    def assert_alike(self, back, value, said):
+        self.assertEqual(parts_of(back), parts_of(value), said)
+        if not isinstance(value, Exception):
+            self.assertEqual((back, hash(back)), (value, hash(value)), said)
+
+    def test_each_class_has_values(self):
+        classes = {it for it in fowlyore.__all__ if isinstance(getattr(fowlyore, it), type)}
+        self.assertEqual(classes - set(MADE), set())
+        self.assertEqual({name: {type(it()).__name__ for it in makes} for name, makes in MADE.items()}, {it: {it} for it in MADE})
+
+    def test_each_protocol(self):
+        for protocol in range(pickle.HIGHEST_PROTOCOL + 1):
+            for name, value in values():
+                self.assert_alike(pickle.loads(pickle.dumps(value, protocol)), value, (name, protocol))
+
+    def test_copies(self):
+        for name, value in values():
+            self.assert_alike(copy.copy(value), value, name)
+            self.assert_alike(copy.deepcopy(value), value, name)
+
+    def test_a_set_is_no_other_one(self):
+        """What is set on a copy isn't set on the value."""
+        for value in (Specifier(">=1"), SpecifierSet(">=1")):
+            back = pickle.loads(pickle.dumps(value, 0))
+            back.prereleases = True
+            self.assertEqual((bool(value.prereleases), back.prereleases), (False, True))
+
+    def test_what_the_errors_say(self):
+        """Of an input that was refused its name, too."""
+        error = error_of(fowlyore.normal, "a\nb=1")
+        back = pickle.loads(pickle.dumps(error, 0))
+        self.assertIsInstance(back, InvalidInput)
+        self.assertEqual((back.input, back.line, back.text, back.start), ("requirements", 2, "b=1", error.start))
