@@ -8,6 +8,9 @@ from . import _native
 
 __all__ = ["MarkerInURLWarning"]
 
+# What is longer isn't looked at: reading a long marker may take long, and one at the end of a URL by mistake is short.
+_LONGEST = 256
+
 
 class MarkerInURLWarning(UserWarning):
     """A requirement's URL has a `;` in it and a marker after that, as in `foo @ https://e.org/x.whl;os_name == 'nt'`. The
@@ -16,7 +19,8 @@ class MarkerInURLWarning(UserWarning):
 
 
 def marker_in(url: str) -> Optional[str]:
-    """The text after the first `;` of a URL, or else after the last one, where the library reads a marker there.
+    """The text after the first `;` of a URL, or else after the last one, where the library reads a marker of at most 256
+    characters there.
 
     >>> marker_in("https://e.org/x.whl;os_name == 'nt'"), marker_in("https://e.org/x;v=1")
     ("os_name == 'nt'", None)
@@ -24,7 +28,7 @@ def marker_in(url: str) -> Optional[str]:
     if ";" not in url:
         return None
     texts = (url.partition(";")[2], url.rpartition(";")[2])
-    return next((it for it in texts if _is_marker(it)), None)
+    return next((it for it in texts if len(it) <= _LONGEST and _is_marker(it)), None)
 
 
 def _is_marker(text: str) -> bool:
