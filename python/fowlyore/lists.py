@@ -43,7 +43,7 @@ Answer = TypeVar("Answer")
 _PATH = re.compile(r"\S+\.(txt|in|json|toml)")
 _ROW = re.compile(r"([^ \[]+)(?:\[([^\]]*)\])? (.*)")
 # A line in which a `;` stands at the end of something that may be a URL, and where a comment begins.
-_WITH_URL = re.compile(rb"@[^;\n]*[^;\s];")
+_WITH_URL = re.compile(rb"@[^@;\n]*(?<!\s);")
 _COMMENT = re.compile(r"(?:^|\s)#.*")
 # A candidate's line that the library reads as one name and one version, or refuses.
 _CANDIDATE = re.compile(r"[^ #\n][^#\n]*")

@@ -107,6 +107,13 @@ class Lists(unittest.TestCase):
             self.assertEqual([str(it) for it in rows], ["a direct"], url)
             self.assertEqual(len(found), url in SWALLOWED, url)
 
+    def test_a_long_line(self):
+        """It is looked at once, however many URLs may begin in it."""
+        url = "https://e.org/" + 500_000 * "@" + "x"
+        for end, count in (("", 0), (f";{MARKER}", 1), (f" ;{MARKER}", 0)):
+            rows, found = warned(fowlyore.check, [f"a @ {url}{end}"], {"python_version": "3.7"}, "")
+            self.assertEqual(([str(it) for it in rows], len(found)), (["a direct"], count))
+
     def test_what_is_refused(self):
         for line in ("a @", "a=@b;c", "@b;"):
             with self.assertRaises(fowlyore.InvalidInput):
