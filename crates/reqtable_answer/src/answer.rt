@@ -150,10 +150,7 @@ fn push_outcome(
         string_bytes text.old ++ (codes " " ++ (outcome_text candidates.now outcome ++ codes "\n"))) }
 {
     match outcome {
-        Outcome::Taken(place) => {
-            let version = &candidates[place].version;
-            writeln!(text, " {version}")
-        }
+        Outcome::Taken(place) => writeln!(text, " {}", candidates[place].version),
         Outcome::Nothing => writeln!(text, " none"),
         Outcome::Direct => writeln!(text, " direct"),
     }
