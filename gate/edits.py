@@ -12,6 +12,7 @@ import hashlib
 import os
 import re
 
+import seen
 from crates import PARTS, TOP
 
 FOLDER = os.path.join(TOP, "tests", "wrong")
@@ -201,8 +202,8 @@ def read_gate():
 
 
 def judged_sum(crate, edits):
-    """The sum of a crate's texts and of its edits, which are given by name."""
-    total = hashlib.sha256(crate.own_sum().encode())
+    """The sum of a crate's texts without comments and of its edits, which are given by name."""
+    total = hashlib.sha256(seen.code_sum(crate).encode())
     for name in sorted(edits):
         total.update(repr((name, edits[name].content)).encode())
     return total.hexdigest()[:16]

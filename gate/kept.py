@@ -6,11 +6,11 @@ after a change of bodies alone the crate itself is proved, and what is linked wi
 
 Where more changed, a crate whose own texts are the same is proved through its kept work, the folder of `rattle
 --incremental`: its modules as they were checked. The prover judges of each module whether it still holds over the crates
-below as they are now, and checks the others anew. A crate whose own texts are new has no kept work, and is proved as by a
-run from nothing; so is each where the store is empty.
+below as they are now, and checks the others anew. A crate whose own texts are new has no kept work, so that each of its
+modules is checked; so has none where the store is empty.
 
-None is made before those below are there, and what lay in out/ is removed first. A crate is taken as proved from nothing
-only where all below it are.
+None is made before those below are there, and what lay in out/ is removed first. What a run from nothing proved is taken
+only where all below it are, since its libraries hold statements alone, which fit just those over which they were made.
 """
 
 import copy
@@ -30,9 +30,9 @@ from store import Store
 WORK = "work"
 # The scripts that say so of a library by what its check sees.
 OF_SEEN = (*keys.OF_KEPT, "gate/clauses.py", "gate/seen.py", "gate/statements.py")
-# The forms of what is proved, and which those of the libraries below may have.
-NOTHING, STATEMENTS, WHOLE = "nothing", "statements", "whole"
-FITS = {NOTHING: {NOTHING}, STATEMENTS: {NOTHING, STATEMENTS}, WHOLE: {NOTHING, STATEMENTS, WHOLE}}
+# The forms of what is proved, by a run from nothing and by one of every day, and which those of the libraries below may have.
+NOTHING, WHOLE = "nothing", "whole"
+FITS = {NOTHING: {NOTHING}, WHOLE: {NOTHING, WHOLE}}
 # The word of a verdict that rests on kept work. All other words are held to `rt`'s rules as they are.
 TRUSTED = re.compile(r" incremental=trusted\n\Z")
 CHECKED = re.compile(r"^crate (\w+): modules loaded=\d+ checked=(\d+)$", re.M)
@@ -67,8 +67,7 @@ class KeptProver(Prover):
         self.pool, self.packed = ThreadPoolExecutor(1), []
 
     def form(self, name, tests=False):
-        """In which form a crate or its tests are taken, or else proved: as by a run from nothing (and perhaps by one), or whole,
-        with all of its proofs. Statements fit those libraries alone over which they were made, and so go with statements."""
+        """In which form a crate or its tests are taken, or else proved."""
         key = name, tests
         if key not in self.forms:
             self.forms[key] = self.form_in_tree(name, tests) or self.form_by_store(name, tests)
@@ -85,34 +84,33 @@ class KeptProver(Prover):
 
     def form_by_store(self, name, tests):
         below = {self.form(it) for it in self.crates[name].uses}
-        can = [it for it in FITS if below <= FITS[it]]
-        there = [it for it in can if self.store.has(self.entry_in(it, name, tests), self.parts(name, tests))]
-        made = STATEMENTS if STATEMENTS in can and not self.keeps_work(name, tests) else WHOLE
-        return there[0] if there else made
-
-    def keeps_work(self, name, tests):
-        """Whether a proof goes through kept work: there is some, or the crate's own texts were proved before, over others, and
-        so may be again."""
-        return self.store.has(self.work_entry(name, tests), ()) or self.was_proved_before(name, tests)
+        fits = below <= FITS[NOTHING]
+        return NOTHING if fits and self.store.has(self.entry_in(NOTHING, name, tests), self.parts(name, tests)) else WHOLE
 
     def entry_in(self, form, name, tests):
         kind = self.kind(name, tests)
         if form == NOTHING:
             return super().entry(name, tests)
-        if form == WHOLE and kind == LIBRARY:
+        if kind == LIBRARY:
             return f"{keys.summed((seen.by(self.crates, name), keys.scripts_sum(OF_SEEN)))}.{kind}.whole"
-        return f"{keys.of_everyday_proof(self.crates, name)}.{kind}{'.whole' if form == WHOLE else ''}"
+        return f"{keys.of_everyday_proof(self.crates, name)}.{kind}.whole"
 
     def entry(self, name, tests=False):
         return self.entry_in(self.form(name, tests), name, tests)
 
     def work_entry(self, name, tests):
-        return f"{keys.of_kept_work(self.crates, name)}.{self.kind(name, tests)}.{WORK}"
+        """The name of a crate's kept work, which is its own as long as its texts are; what else it rests on the prover looks at."""
+        own = keys.summed((seen.code_sum(self.crates[name]), self.crates.around(), keys.scripts_sum(OF_SEEN)))
+        return f"{own}.{self.kind(name, tests)}.{WORK}"
 
     def seconds(self, name, tests, lines):
         if self.store.has(self.work_entry(name, tests), ()):
             return SECONDS + SECONDS_A_LINE * lines
         return super().seconds(name, tests, lines)
+
+    def most_jobs(self, name, tests):
+        # (most of it is loading then, which is done by one)
+        return 2 if self.store.has(self.work_entry(name, tests), ()) else super().most_jobs(name, tests)
 
     def prove(self, crate, flags, tests):
         form = self.form(crate.name, tests)

@@ -3,12 +3,13 @@
 So a slip in a script leaves nothing that the mended script takes. verdicts.py has the names of all other verdicts.
 """
 
+import ast
 import functools
 import hashlib
 import os
 import sys
 
-from crates import TOP, sum_of_files, toolchain_sum
+from crates import TOP, sum_of_file, toolchain_sum
 
 # The scripts that say whether a crate is proved from nothing, and those that say so of an everyday run.
 OF_PROOFS = tuple(f"gate/{it}.py" for it in ("crates", "keys", "lanes", "prove", "prover", "store", "together", "toolchain"))
@@ -21,8 +22,16 @@ def summed(said):
 
 @functools.lru_cache(maxsize=None)
 def scripts_sum(scripts):
-    """The sum of scripts, and of the kind of interpreter that runs them."""
-    return summed((sys.implementation.name, sys.version_info[:2], sum_of_files(os.path.join(TOP, it) for it in scripts)))
+    """The sum of scripts, without their comments, and of the kind of interpreter that runs them."""
+    return summed((sys.implementation.name, sys.version_info[:2], [(it, code_of(os.path.join(TOP, it))) for it in scripts]))
+
+
+def code_of(script):
+    """What a script of Python says without its comments; of another file the sum."""
+    if not script.endswith(".py"):
+        return sum_of_file(script)
+    with open(script, encoding="utf-8") as file:
+        return ast.dump(ast.parse(file.read()))
 
 
 def of_proof(crates, name):
@@ -33,13 +42,3 @@ def of_proof(crates, name):
 def of_everyday_proof(crates, name):
     """The same of a proof for which the store's kept work was looked at, whether there was any or not."""
     return summed((crates.sum(name), scripts_sum(OF_KEPT), "everyday"))
-
-
-def of_own_texts(crates, name):
-    """The sum of a crate's own texts, and of the scripts that prove it."""
-    return summed((toolchain_sum(), crates[name].own_sum(), scripts_sum(OF_KEPT)))
-
-
-def of_kept_work(crates, name):
-    """The sum under which kept work is a crate's. What else that rests on the prover looks at."""
-    return summed((of_own_texts(crates, name), "work"))

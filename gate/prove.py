@@ -42,10 +42,8 @@ def program(prover, name):
 
 
 def libraries(prover, names):
-    if not Chain(prover, names).run():
-        return 1
-    wanted = {low.name for it in names for low in [*prover.crates.below(it), prover.crates[it]]}
-    return 0 if all(prover.lay_out(it) for it in wanted if prover.kind(it) == LIBRARY) else 1
+    chain = Chain(prover, names)
+    return 0 if chain.run() and all(prover.lay_out_for_rt(it) for it in chain.crates if prover.kind(it.name) == LIBRARY) else 1
 
 
 def main(words):

@@ -10,7 +10,7 @@ import threading
 import keys
 import toolchain
 from crates import TOP, Crates, kit_folder
-from lanes import Lanes, Task
+from lanes import GAIN, Lanes, Task
 from store import remove
 
 # The library for C runs on each processor of its kind, as wheels and Debian's packages say of what they hold.
@@ -43,13 +43,6 @@ class Prover:
     def entry(self, name, tests=False):
         """The name in the store of what was proved of a crate or of its tests."""
         return f"{keys.of_proof(self.crates, name)}.{self.kind(name, tests)}"
-
-    def own_entry(self, name, tests):
-        """The name of the verdict that a crate's own texts were proved, over whatever crates below."""
-        return f"{keys.of_own_texts(self.crates, name)}.{self.kind(name, tests)}"
-
-    def was_proved_before(self, name, tests):
-        return self.store.verdict(self.own_entry(name, tests)) == "proved"
 
     def parts(self, name, tests=False):
         """What lies in out/ once a crate or its tests are proved. An entry that lacks any of it is none."""
@@ -95,11 +88,8 @@ class Prover:
             return
         out, is_library = os.path.join(crate.folder, "out"), self.kind(crate.name, tests) == LIBRARY
         if is_library:
-            # (by its stamp `rt check` knows a library for its own)
-            write(os.path.join(out, "rlib", "stamp"), crate.stamp())
             write(os.path.join(out, "rlib", MARK), entry)
         self.store.keep(entry, out, ["rlib"] if is_library else self.parts(crate.name, tests))
-        self.store.keep_verdict(self.own_entry(crate.name, tests), "proved")
 
     def lay_out(self, name):
         """Has a library that was proved or kept in its crate's out/, and says whether it is there."""
@@ -111,19 +101,31 @@ class Prover:
             os.makedirs(out, exist_ok=True)
             return self.store.take(entry, out, self.parts(name)) and is_there()
 
+    def lay_out_for_rt(self, crate):
+        """Does the same with the stamp by which `rt check` knows a library for its own."""
+        is_there = self.lay_out(crate.name)
+        if is_there:
+            write(os.path.join(crate.folder, "out", "rlib", "stamp"), crate.stamp())
+        return is_there
+
     def in_lanes(self, tasks):
         """Stands in place of `rt`'s way to run tasks side by side, and takes them in its form."""
         made = {}
         for key, (waits, lines, memory, call) in tasks.items():
             name, tests = (key, False) if isinstance(key, str) else (key[0], key[1] == TESTS)
             is_kept = self.store.has(self.entry(name, tests), ())
-            made[key] = Task(waits, 1 if is_kept or not lines else self.seconds(name, tests, lines), memory, call)
+            takes = 1 if is_kept or not lines else self.seconds(name, tests, lines)
+            made[key] = Task(waits, takes, memory, call, self.most_jobs(name, tests))
         made.update(self.more_tasks())
         return self.run(made)
 
     def seconds(self, name, tests, lines):
         """What the proof of a crate of so many lines, or of its tests, takes by one job, about."""
         return SECONDS + SECONDS_A_LINE[self.kind(name, tests)] * lines
+
+    def most_jobs(self, _name, _tests):
+        """How many jobs are of use to a proof."""
+        return max(GAIN)
 
     def run(self, tasks):
         """Runs tasks, as many side by side as processors and memory allow."""

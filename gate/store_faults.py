@@ -159,9 +159,7 @@ def through_kept_work():
     """What isn't as it has to be of proofs over what was proved before."""
     with tempfile.TemporaryDirectory() as folder, tempfile.TemporaryDirectory(prefix="reqs-faults-") as room:
         tree = TwoCrates(room, folder)
-        # (the second proof of `high` is the first that keeps its work)
         tree.proved(LOW)
-        tree.proved(LOW.replace(BODY, "    2 * x\n"))
         low = LOW.replace(BODY, "    (x + x)\n")
         yield Tried("a private body below", tree.amiss(low, lambda status, said: status == 0 and not said))
         low = LOW.replace(BODY, "    x + x + 1\n")
@@ -187,9 +185,16 @@ def what_a_check_sees():
         "a private contract": (LOW.replace("requires { x ≤ 1000 }\n    ensures { result ≡ 2 * x }\n{\n    x", "{\n    x"), False),
         "a signature": (LOW.replace("double(x: u32) -> u32", "double(x: u64) -> u64"), False),
         "a constant": (LOW + "\npub const MOST: u32 = 1000;\n", False),
+        "a text that holds no comment": (LOW + '\npub const AT: &str = "//";\n', False),
+        "a docstring and a comment": (LOW.replace("/// Twice.\n", "/// Two times.\n\n// As said.\n"), True),
         "a function that a constant may call": (LOW + "\npub const fn most() -> u32 {\n    1000\n}\n", False),
     }
-    files = {"proofs/double/Answers.antt": True, "proofs/Lemmas.antt": False, "specs/Limits.antt": False}
+    definition = "limit : Nat := 1\n"
+    files = {
+        "proofs/double/Answers.antt": (definition, True),
+        "proofs/Lemmas.antt": (definition, False),
+        "specs/Limits.antt": (definition, False),
+    }
     with tempfile.TemporaryDirectory() as folder, tempfile.TemporaryDirectory(prefix="reqs-faults-") as room:
         tree = TwoCrates(room, folder)
         before = tree.seen()
@@ -198,10 +203,14 @@ def what_a_check_sees():
             if text == LOW or (tree.seen() == before) != is_same:
                 return f"{name}: {'another' if is_same else 'the same'} sum"
         tree.write("crates/low/src/lib.rt", LOW)
-        for path, is_same in files.items():
-            tree.write(f"crates/low/{path}", "-- changed\n")
+        for path, (text, is_same) in files.items():
+            tree.write(f"crates/low/{path}", text)
             if (tree.seen() == before) != is_same:
                 return f"{path}: {'another' if is_same else 'the same'} sum"
+            with_file = tree.seen()
+            tree.write(f"crates/low/{path}", f"-- Remarks.\n{text}")
+            if tree.seen() != with_file:
+                return f"{path} with a comment: another sum"
             os.remove(os.path.join(room, "crates", "low", path))
     return None
 
