@@ -1,0 +1,4 @@
+pub mod Building
+pub mod Tokens
+pub mod Telling
+pub mod Levels

@@ -1,0 +1,48 @@
+-- Formulas that were begun, each but the last waiting for the end of the next: `and` binds before `or`.
+use Rattle.std.specs.Prelude.{◌≡◌, List, [], ◌∷◌, ◌++◌, reverse, Option, Some, None, is_some}
+use Rattle.pep508_marker.specs.Expression.{ExpressionRecord}
+use Rattle.pep508_formula.specs.declared.builder.Level.{Level}
+use Rattle.pep508_formula.specs.declared.builder.FormulaBuilder.{FormulaBuilder}
+use Rattle.pep508_formula.specs.Formula.{Formula}
+use Rattle.pep508_formula.specs.Postfix.{built}
+
+abbrev pub Said : Type 0
+Said = Formula ExpressionRecord
+
+-- what a formula said so far: its chains of `and` that are over, and the pieces of the one that isn't
+pub record Begun : Type 0 where
+  pub either : Option Said
+  pub both : Option Said
+
+abbrev pub nothing : Begun
+nothing = record { either = None; both = None }
+
+abbrev pub join_on : (Said → Said → Said) → Option Said → Said → Said
+join_on join None f = f
+join_on join (Some g) f = join g f
+
+abbrev pub listed : Option Said → List Said
+listed None = []
+listed (Some f) = f ∷ []
+
+-- the formulas of which none is part of another yet, the last first
+abbrev pub stack_of : List Begun → List Said
+stack_of [] = []
+stack_of (begun ∷ waiting) = listed begun.both ++ (listed begun.either ++ stack_of waiting)
+
+-- the level tells what there is
+pub record IsLevel (level : Level) (begun : Begun) : Type 0 where
+  pub either_is : level.either ≡ is_some begun.either
+  pub both_is : level.both ≡ is_some begun.both
+
+abbrev pub AreLevels : List Level → List Begun → Type 0
+AreLevels [] [] = Unit {0}
+AreLevels [] (begun ∷ waiting) = ⊥
+AreLevels (level ∷ levels) [] = ⊥
+AreLevels (level ∷ levels) (begun ∷ waiting) = IsLevel level begun × AreLevels levels waiting
+
+-- so much was said, and then a piece that is joined with none of it yet, or none
+pub record Stands (b : FormulaBuilder) (piece : Option Said) (begun : Begun) (waiting : List Begun) : Type 0 where
+  pub stack : built [] b.formula ≡ listed piece ++ stack_of (begun ∷ waiting)
+  pub here : IsLevel b.here begun
+  pub others : AreLevels (reverse b.waiting.items) waiting

@@ -1,0 +1,123 @@
+//! Building formulas: `and` binds before `or`.
+
+ghost use Rattle.std.specs.Prelude.{◌≡◌, [], ◌∷◌, List, Some, None, OnOk, true};
+ghost use Rattle.pep508_marker.specs.Expression.{expression_of};
+ghost use Rattle.pep508_formula.specs.Formula.{Says, LeftOut, Both, Either};
+ghost use Rattle.pep508_formula.specs.Postfix.{formula_of};
+ghost use Rattle.pep508_formula.specs.Building.{Begun, Said, nothing, join_on, Stands};
+
+use crate::MarkerFormula;
+use pep508_marker::MarkerExpression;
+use std::alloc::{AllocError, Global};
+
+/// What a formula has said so far: whether a chain of `and` is over, and whether one has begun.
+#[derive(Clone, Copy, Drop)]
+pub(crate) struct Level {
+    pub either: bool,
+    pub both: bool,
+}
+
+/// A formula that is being read: its parts so far, and where brackets stand open.
+#[derive(Drop)]
+pub struct FormulaBuilder {
+    pub(crate) formula: MarkerFormula,
+    pub(crate) waiting: Vec<Level>,
+    pub(crate) here: Level,
+}
+
+impl FormulaBuilder {
+    /// Nothing is said.
+    pub fn new(alloc: Global) -> FormulaBuilder
+        ensures { Stands result None nothing [] }
+    {
+        FormulaBuilder {
+            formula: MarkerFormula::new(alloc),
+            waiting: Vec::new(alloc),
+            here: Level {
+                either: false,
+                both: false,
+            },
+        }
+    }
+
+    /// A comparison is the next piece.
+    pub fn say(&mut self, alloc: Global, expression: MarkerExpression) -> Result<(), AllocError>
+        ensures { OnOk result ((begun : Begun) (waiting : List Begun) → Stands self.old None begun waiting →
+            Stands self.new (Some (Says (expression_of expression))) begun waiting) }
+    {
+        self.formula.say(alloc, expression)
+    }
+
+    /// The next piece is left out.
+    pub fn leave_out(&mut self) -> Result<(), AllocError>
+        ensures { OnOk result ((begun : Begun) (waiting : List Begun) → Stands self.old None begun waiting →
+            Stands self.new (Some LeftOut) begun waiting) }
+    {
+        self.formula.leave_out()
+    }
+
+    /// A bracket opens: a formula begins, and the one before it waits.
+    pub fn open(&mut self) -> Result<(), AllocError>
+        ensures { OnOk result ((begun : Begun) (waiting : List Begun) → Stands self.old None begun waiting →
+            Stands self.new None nothing (begun ∷ waiting)) }
+    {
+        self.waiting.push(self.here)?;
+        self.here = Level {
+            either: false,
+            both: false,
+        };
+        Ok(())
+    }
+
+    /// The piece goes on the chain of `and`.
+    pub fn take(&mut self) -> Result<(), AllocError>
+        ensures { OnOk result ((piece : Said) (begun : Begun) (waiting : List Begun) →
+            Stands self.old (Some piece) begun waiting →
+            Stands self.new None (record begun { both = Some (join_on Both begun.both piece) }) waiting) }
+    {
+        if self.here.both {
+            self.formula.and()?;
+        }
+        self.here.both = true;
+        Ok(())
+    }
+
+    /// The chain of `and` is over, and goes on that of `or`.
+    pub fn end_chain(&mut self) -> Result<(), AllocError>
+        ensures { OnOk result ((chain : Said) (begun : Begun) (waiting : List Begun) →
+            Stands self.old None (record begun { both = Some chain }) waiting →
+            Stands self.new None (record { either = Some (join_on Either begun.either chain); both = None }) waiting) }
+    {
+        if self.here.either {
+            self.formula.or()?;
+        }
+        self.here = Level {
+            either: true,
+            both: false,
+        };
+        Ok(())
+    }
+
+    /// A bracket closes: its formula is the next piece of the one that waits. Nothing where none does.
+    pub fn close(&mut self) -> bool
+        ensures { (whole : Said) (begun : Begun) (waiting : List Begun) →
+            Stands self.old None (record { either = Some whole; both = None }) (begun ∷ waiting) →
+            (result ≡ true) × Stands self.new (Some whole) begun waiting }
+    {
+        match self.waiting.pop() {
+            Some(level) => {
+                self.here = level;
+                true
+            }
+            None => false,
+        }
+    }
+
+    /// The formula.
+    pub fn finish(self) -> MarkerFormula
+        ensures { (whole : Said) → Stands self None (record { either = Some whole; both = None }) [] →
+            formula_of result ≡ whole }
+    {
+        self.formula
+    }
+}
