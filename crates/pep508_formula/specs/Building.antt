@@ -17,6 +17,10 @@ pub record Begun : Type 0 where
 abbrev pub nothing : Begun
 nothing = record { either = None; both = None }
 
+-- chains of `and` that are over, and nothing behind them
+abbrev pub whole_of : Said → Begun
+whole_of f = record { either = Some f; both = None }
+
 abbrev pub join_on : (Said → Said → Said) → Option Said → Said → Said
 join_on join None f = f
 join_on join (Some g) f = join g f
@@ -42,7 +46,8 @@ AreLevels (level ∷ levels) [] = ⊥
 AreLevels (level ∷ levels) (begun ∷ waiting) = IsLevel level begun × AreLevels levels waiting
 
 -- so much was said, and then a piece that is joined with none of it yet, or none
-pub record Stands (b : FormulaBuilder) (piece : Option Said) (begun : Begun) (waiting : List Begun) : Type 0 where
+pub record Stands (b : FormulaBuilder) (piece : Option Said) (begun : Begun) (waiting : List Begun)
+    : Type 0 where
   pub stack : built [] b.formula ≡ listed piece ++ stack_of (begun ∷ waiting)
   pub here : IsLevel b.here begun
   pub others : AreLevels (reverse b.waiting.items) waiting

@@ -4,7 +4,7 @@ ghost use Rattle.std.specs.Prelude.{◌≡◌, [], ◌∷◌, List, Some, None, 
 ghost use Rattle.pep508_marker.specs.Expression.{expression_of};
 ghost use Rattle.pep508_formula.specs.Formula.{Says, LeftOut, Both, Either};
 ghost use Rattle.pep508_formula.specs.Postfix.{formula_of};
-ghost use Rattle.pep508_formula.specs.Building.{Begun, Said, nothing, join_on, Stands};
+ghost use Rattle.pep508_formula.specs.Building.{Begun, Said, nothing, whole_of, join_on, Stands};
 
 use crate::MarkerFormula;
 use pep508_marker::MarkerExpression;
@@ -86,7 +86,7 @@ impl FormulaBuilder {
     pub fn end_chain(&mut self) -> Result<(), AllocError>
         ensures { OnOk result ((chain : Said) (begun : Begun) (waiting : List Begun) →
             Stands self.old None (record begun { both = Some chain }) waiting →
-            Stands self.new None (record { either = Some (join_on Either begun.either chain); both = None }) waiting) }
+            Stands self.new None (whole_of (join_on Either begun.either chain)) waiting) }
     {
         if self.here.either {
             self.formula.or()?;
@@ -101,7 +101,7 @@ impl FormulaBuilder {
     /// A bracket closes: its formula is the next piece of the one that waits. Nothing where none does.
     pub fn close(&mut self) -> bool
         ensures { (whole : Said) (begun : Begun) (waiting : List Begun) →
-            Stands self.old None (record { either = Some whole; both = None }) (begun ∷ waiting) →
+            Stands self.old None (whole_of whole) (begun ∷ waiting) →
             (result ≡ true) × Stands self.new (Some whole) begun waiting }
     {
         match self.waiting.pop() {
@@ -115,7 +115,7 @@ impl FormulaBuilder {
 
     /// The formula.
     pub fn finish(self) -> MarkerFormula
-        ensures { (whole : Said) → Stands self None (record { either = Some whole; both = None }) [] →
+        ensures { (whole : Said) → Stands self None (whole_of whole) [] →
             formula_of result ≡ whole }
     {
         self.formula

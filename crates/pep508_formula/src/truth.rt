@@ -87,8 +87,8 @@ fn tell<T: ExpressionTruth>(
     Ok(())
 }
 
-/// Whether a formula holds. Asks for the truth of each comparison once, in their order, and takes no stack: as
-/// many truths wait as formulas are begun and not yet joined with another, two bytes each.
+/// Whether a formula holds. Asks for the truth of each comparison once, in their order, and takes no stack:
+/// as many truths wait, two bytes each, as formulas are begun and not yet joined with another.
 #[tactic(auto, using(crate::proofs::Building::formula_told))]
 pub fn formula_holds<T: ExpressionTruth>(
     alloc: Global,
