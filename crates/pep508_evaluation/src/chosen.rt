@@ -74,9 +74,9 @@ fn variable_in(environment: &MarkerEnvironment, key: VersionVariable) -> &Versio
     }
 }
 
-/// Whether a text stands somewhere in another one.
+/// Whether a text stands somewhere in another one, by their bytes.
 #[tactic(auto, using(crate::proofs::Standing::contains_is))]
-fn stands_in(text: &str, whole: &str) -> bool
+pub fn stands_in(text: &str, whole: &str) -> bool
     ensures { result ≡ stands_in text.now whole.now }
 {
     whole.contains(text)

@@ -8,4 +8,5 @@ mod holding;
 pub mod laws;
 mod warned;
 
+pub use chosen::stands_in;
 pub use evaluation::MarkerTreeEvaluation;

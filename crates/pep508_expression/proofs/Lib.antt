@@ -1,3 +1,4 @@
 pub mod Points
 pub mod TextPoints
 pub mod MadeTrees
+pub mod Nowhere

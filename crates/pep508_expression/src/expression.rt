@@ -1,17 +1,19 @@
 //! Trees of comparisons.
 
-ghost use Rattle.std.specs.Prelude.{◌≡◌, List, Result};
+ghost use Rattle.std.specs.Prelude.{◌≡◌, List, Result, Ok, IfOk};
 ghost use Rattle.pep440_range.specs.declared.RangeError.{RangeError};
 ghost use Rattle.pep508_marker.specs.Expression.{ExpressionRecord, expression_of};
 ghost use Rattle.pep508_tree.specs.Meaning.{NodeRecord, Extends};
+ghost use Rattle.pep508_tree.specs.Truths.{IsTreeOf};
+ghost use Rattle.pep508_expression.specs.Expressions.{expression_holds, text_holds};
 ghost use Rattle.pep508_expression.specs.Trees.{IsComparison, GivesTree};
 
 use crate::texts::{extra_tree, text_tree};
 use crate::versions::{listed_tree, version_tree};
 use pep440_range::RangeError;
-use pep508_marker::MarkerExpression;
+use pep508_marker::{MarkerExpression, MarkerOperator, MarkerValueString};
 use pep508_tree::{Interner, MarkerTree};
-use std::alloc::Global;
+use std::alloc::{AllocError, Global};
 
 /// What makes trees of comparisons.
 pub trait MarkerTreeExpression {
@@ -60,6 +62,69 @@ impl MarkerTreeExpression for MarkerTree {
             MarkerExpression::Extra { operator, name } => {
                 Ok(extra_tree(alloc, interner, operator, &name)?)
             }
+        }
+    }
+}
+
+/// The tree that was made; the one that never holds where there is none since a number can't be raised.
+fn or_never(made: Result<MarkerTree, RangeError>) -> Result<MarkerTree, AllocError>
+    ensures { (nodes : List NodeRecord) (expression : ExpressionRecord) → GivesTree nodes made expression
+        → IfOk result (IsTreeOf nodes (expression_holds expression)) }
+{
+    match made {
+        Ok(tree) => Ok(tree),
+        Err(RangeError::NumberAtEnd) => Ok(MarkerTree::FALSE),
+        Err(RangeError::Memory) => Err(AllocError),
+    }
+}
+
+/// The tree of a key and a text; the one that never holds for `~=`, which compares no texts.
+fn any_text_tree(
+    alloc: Global,
+    interner: &mut Interner,
+    key: MarkerValueString,
+    operator: MarkerOperator,
+    value: &str,
+) -> Result<MarkerTree, AllocError>
+    ensures made { IfOk result (IsTreeOf interner.new.nodes (text_holds key operator value.now)) }
+    ensures keeps { Extends interner.old.nodes interner.new.nodes }
+    ensures counts { interner.new.conjunctions ≡ interner.old.conjunctions }
+{
+    match operator {
+        MarkerOperator::TildeEqual => Ok(MarkerTree::FALSE),
+        _ => text_tree(alloc, interner, key, operator, value),
+    }
+}
+
+/// The tree of any comparison, which holds where that does: nowhere where a number that has to be raised is the
+/// greatest of 64 bits, or where texts are compared by `~=`. Isn't counted, and costs what `expression` does.
+#[tactic(auto, unfolding(crate::specs::Expressions::expression_holds))]
+pub fn comparison_tree(
+    alloc: Global,
+    interner: &mut Interner,
+    expression: &MarkerExpression,
+) -> Result<MarkerTree, AllocError>
+    ensures made { IfOk result (IsTreeOf interner.new.nodes
+        (expression_holds (expression_of expression.now))) }
+    ensures keeps { Extends interner.old.nodes interner.new.nodes }
+    ensures counts { interner.new.conjunctions ≡ interner.old.conjunctions }
+{
+    match expression {
+        MarkerExpression::Version { key, specifier } => {
+            or_never(version_tree(alloc, interner, *key, specifier))
+        }
+        MarkerExpression::VersionIn {
+            key,
+            versions,
+            negated,
+        } => or_never(listed_tree(alloc, interner, *key, versions, *negated)),
+        MarkerExpression::String {
+            key,
+            operator,
+            value,
+        } => any_text_tree(alloc, interner, *key, *operator, value),
+        MarkerExpression::Extra { operator, name } => {
+            extra_tree(alloc, interner, *operator, name)
         }
     }
 }

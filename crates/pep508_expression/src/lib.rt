@@ -2,7 +2,10 @@
 #![tactic(auto)]
 
 mod expression;
+mod raised;
 mod texts;
 mod versions;
 
-pub use expression::MarkerTreeExpression;
+pub use expression::{MarkerTreeExpression, comparison_tree};
+pub use raised::has_points;
+pub use versions::{compared_range, listed_by};

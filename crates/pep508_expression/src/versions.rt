@@ -29,8 +29,9 @@ fn variable_of(key: MarkerValueVersion) -> VersionVariable
     }
 }
 
-/// The versions of the key's variable for which the key compares so.
-fn compared_range(
+/// The versions of the key's variable for which the key compares so. Costs what `release_specifier_to_range`
+/// or `python_version_range` does.
+pub fn compared_range(
     alloc: Global,
     key: MarkerValueVersion,
     specifier: &VersionSpecifier,
@@ -45,8 +46,9 @@ fn compared_range(
     }
 }
 
-/// The versions of the key's variable for which the key is listed, or is not.
-fn listed_by(
+/// The versions of the key's variable for which the key is listed, or is not. n versions take O(n log n)
+/// comparisons.
+pub fn listed_by(
     alloc: Global,
     key: MarkerValueVersion,
     versions: &[Version],
