@@ -4,7 +4,6 @@ use Rattle.std.proofs.Common.{◌∷◌}
 use Rattle.std.proofs.Common.{◌++◌, map, Some, None, refl, ap, sym, subst, ◌∙◌}
 use Rattle.std.specs.Prelude.{Option, option_map, IfSome}
 use Rattle.std.specs.List.{AllByRecursion}
-use Rattle.pep508_marker.specs.Expression.{ExpressionRecord}
 use Rattle.pep508_diagram.specs.Question.{Valuation}
 use Rattle.pep508_tree.specs.Tree.{Tree}
 use Rattle.pep508_tree.specs.Meaning.{NodeRecord, IsTree, Extends, holds}
@@ -13,11 +12,12 @@ use Rattle.pep508_tree.proofs.Diagrams.{holds_kept}
 use Rattle.pep508_conjunctions.specs.Meets.{all_true}
 use Rattle.pep508_conjunctions.specs.Sources.{all_hold}
 use Rattle.pep508_conjunctions.proofs.Meets.{and_true}
-use Rattle.pep508_expression.specs.Expressions.{expression_holds}
-use Rattle.pep508_marker_read.specs.Formula.{Formula, joined, truth_in}
-use Rattle.pep508_marker_read.specs.MarkerReading.{Marker, Connective, And, Or, made_of}
-use Rattle.pep508_marker_read.specs.TreeReading.{joins, chain_truth, listed, IsPartTree}
-use Rattle.pep508_marker_read.specs.Levels.{join_on, truth_of, AreTreesOf}
+use Rattle.pep508_marker_read.specs.declared.word.Word.{Word}
+use Rattle.pep508_marker_read.specs.declared.tree.TreeChain.{TreeChain}
+use Rattle.pep508_marker_read.specs.Formula.{joined}
+use Rattle.pep508_marker_read.specs.MarkerReading.{Connective, And, Or}
+use Rattle.pep508_marker_read.specs.TreeReading.{connective, joins, chain_truth, listed}
+use Rattle.pep508_marker_read.specs.FormulaTrees.{IsChain, truth_of}
 
 -- ---- truths
 
@@ -44,11 +44,6 @@ chain_append word (x ∷ xs) ys =
 mapped : {A B : Type 0} (f : A → B) (xs ys : List A) → map f (xs ++ ys) ≡ map f xs ++ map f ys
 mapped f [] ys = refl
 mapped f (x ∷ xs) ys = ap (λ zs. f x ∷ zs) (mapped f xs ys)
-
-joined_by : (word : Connective) (truth : ExpressionRecord → Bool) (f g : Formula ExpressionRecord)
-    → truth_in truth (made_of word f g) ≡ joined (joins word) (truth_in truth f) (truth_in truth g)
-joined_by And truth f g = refl
-joined_by Or truth f g = refl
 
 part_truth : (word : Connective) (f : Tree → Bool) (tree : Option Tree)
     → chain_truth word (map f (listed tree)) ≡ option_map f tree
@@ -112,51 +107,53 @@ one_or nodes (t ∷ trees) v some =
     ap (λ bs. Some (not (all_true bs))) (negations (λ t. holds nodes t v) (t ∷ trees))
     ∙ or_chain (holds nodes t v) (map (λ t. holds nodes t v) trees)
 
--- ---- what was said
+-- ---- chains
 
-pub none_said : (word : Connective) (nodes : List NodeRecord) → AreTreesOf word nodes [] None
-none_said word nodes = record { made = tt; truth = λ v. refl }
+-- the trees of a chain that were joined to one
+pub one_made : (now : List NodeRecord) (chain : TreeChain) (tree : Option Tree) → chain.trees.items ≡ listed tree
+    → IfSome tree (IsTree now) → IsChain now chain
+one_made now chain tree e h = subst (AllByRecursion (IsTree now)) (sym e) (all_listed (IsTree now) tree h)
 
-pub trees_kept : (word : Connective) (old new : List NodeRecord) → Extends old new → (trees : List Tree)
-    (said : Option Marker) → AreTreesOf word old trees said → AreTreesOf word new trees said
-trees_kept word old new more trees said h = record {
-  made = all_kept old new more trees h.made;
-  truth = λ v. ap (chain_truth word) (truths_kept old new more trees h.made v) ∙ h.truth v;
-}
+pub one_truth : (now : List NodeRecord) (chain : TreeChain) (tree : Option Tree) (said : Valuation → Option Bool)
+    → chain.trees.items ≡ listed tree → ((v : Valuation) → option_map (λ t. holds now t v) tree ≡ said v)
+    → (v : Valuation) → truth_of now chain v ≡ said v
+one_truth now chain tree said e h v =
+    ap (λ ts. chain_truth (connective chain.word) (map (λ t. holds now t v) ts)) e
+    ∙ part_truth (connective chain.word) (λ t. holds now t v) tree ∙ h v
 
-said_on : (word : Connective) (said : Option Marker) (next : Marker) (v : Valuation)
-    → joined (joins word) (truth_of said v) (truth_in (λ e. expression_holds e v) next.formula)
-    ≡ truth_of (Some (join_on word said next)) v
-said_on word None next v = refl
-said_on word (Some first) next v = sym (joined_by word (λ e. expression_holds e v) first.formula next.formula)
+pub chain_kept : (old new : List NodeRecord) → Extends old new → (chain : TreeChain) → IsChain old chain
+    → IsChain new chain
+chain_kept old new more chain h = all_kept old new more chain.trees.items h
 
--- one more tree
-pub next_tree : (word : Connective) (nodes : List NodeRecord) (trees : List Tree) (said : Option Marker)
-    → AreTreesOf word nodes trees said → (tree : Option Tree) (next : Marker) → IsPartTree nodes tree next.formula
-    → AreTreesOf word nodes (trees ++ listed tree) (Some (join_on word said next))
-next_tree word nodes trees said h tree next k = record {
-  made = all_append (IsTree nodes) trees (listed tree) h.made (all_listed (IsTree nodes) tree k.made);
-  truth = λ v.
-      ap (chain_truth word) (mapped (λ t. holds nodes t v) trees (listed tree))
-      ∙ chain_append word (map (λ t. holds nodes t v) trees) (map (λ t. holds nodes t v) (listed tree))
-      ∙ ap (λ x. joined (joins word) x (chain_truth word (map (λ t. holds nodes t v) (listed tree)))) (h.truth v)
-      ∙ ap (joined (joins word) (truth_of said v)) (part_truth word (λ t. holds nodes t v) tree ∙ k.truth v)
-      ∙ said_on word said next v;
-}
+pub truth_kept : (old new : List NodeRecord) → Extends old new → (chain : TreeChain) → IsChain old chain
+    → (v : Valuation) → truth_of new chain v ≡ truth_of old chain v
+truth_kept old new more chain h v =
+    ap (chain_truth (connective chain.word)) (truths_kept old new more chain.trees.items h v)
 
--- the tree of all
-pub joined_tree : (word : Connective) (nodes now : List NodeRecord) (trees : List Tree) (whole : Marker)
-    → AreTreesOf word nodes trees (Some whole) → (tree : Option Tree) → IfSome tree (IsTree now)
-    → ((v : Valuation) → option_map (λ t. holds now t v) tree ≡ chain_truth word (map (λ t. holds nodes t v) trees))
-    → IsPartTree now tree whole.formula
-joined_tree word nodes now trees whole h tree made truth = record {
-  made = made;
-  truth = λ v. truth v ∙ h.truth v;
-}
+-- a chain with one tree more
+module _ (old mid now : List NodeRecord) (kept : Extends old mid) (more : Extends mid now) (chain whole : TreeChain)
+    (next : TreeChain) (tree : Option Tree) (same : whole.word ≡ chain.word)
+    (pushed : whole.trees.items ≡ chain.trees.items ++ listed tree) (chain_made : IsChain mid chain)
+    (made : IfSome tree (IsTree now)) where
+  pub more_made : IsChain now whole
+  more_made =
+      subst (AllByRecursion (IsTree now)) (sym pushed)
+      (all_append (IsTree now) chain.trees.items (listed tree) (all_kept mid now more chain.trees.items chain_made)
+      (all_listed (IsTree now) tree made))
 
-pub all_made : (nodes now : List NodeRecord) → Extends nodes now → (trees after : List Tree) (tree : Option Tree)
-    → AllByRecursion (IsTree nodes) trees → IfSome tree (IsTree now) → after ≡ trees ++ listed tree
-    → AllByRecursion (IsTree now) after
-all_made nodes now more trees after tree h k e =
-    subst (AllByRecursion (IsTree now)) (sym e)
-    (all_append (IsTree now) trees (listed tree) (all_kept nodes now more trees h) (all_listed (IsTree now) tree k))
+  pub more_truth : (word : Word) → chain.word ≡ word → (first : TreeChain)
+      → ((v : Valuation) → truth_of mid chain v ≡ truth_of old first v) → IsChain old next
+      → ((v : Valuation) → option_map (λ t. holds now t v) tree ≡ truth_of mid next v) → (v : Valuation)
+      → truth_of now whole v ≡ joined (joins (connective word)) (truth_of old first v) (truth_of old next v)
+  more_truth word is first first_truth next_made next_truth v =
+      let w = connective word in
+      let hold : Tree → Bool = λ t. holds now t v in
+      ap (λ u. chain_truth (connective u) (map hold whole.trees.items)) (same ∙ is)
+      ∙ ap (λ ts. chain_truth w (map hold ts)) pushed
+      ∙ ap (chain_truth w) (mapped hold chain.trees.items (listed tree))
+      ∙ chain_append w (map hold chain.trees.items) (map hold (listed tree))
+      ∙ ap (λ x. joined (joins w) x (chain_truth w (map hold (listed tree))))
+      (ap (λ u. chain_truth (connective u) (map hold chain.trees.items)) (sym is)
+      ∙ truth_kept mid now more chain chain_made v ∙ first_truth v)
+      ∙ ap (joined (joins w) (truth_of old first v))
+      (part_truth w hold tree ∙ next_truth v ∙ truth_kept old mid kept next next_made v)

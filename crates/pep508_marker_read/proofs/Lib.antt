@@ -10,6 +10,7 @@ pub mod Kept
 pub mod ChainTrees
 pub mod Chains
 pub mod Steps
-pub mod ComparedTrees
+pub mod Pieces
+pub mod FormulaTrees
 pub mod MarkerTrees
 pub mod Words

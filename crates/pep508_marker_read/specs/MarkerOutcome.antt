@@ -9,6 +9,7 @@ use Rattle.pep508_expression.specs.Expressions.{expression_holds}
 use Rattle.pep508_error.specs.declared.refusal.Refusal.{Refusal}
 use Rattle.pep508_marker_comparison.specs.SideReading.{Refused}
 use Rattle.pep508_marker_comparison.specs.Outcome.{Tells, IsWarned}
+use Rattle.pep508_formula.specs.Postfix.{Part, formula_of}
 use Rattle.pep508_marker_read.specs.Formula.{Formula, formula_holds}
 use Rattle.pep508_marker_read.specs.MarkerReading.{Marker}
 
@@ -24,3 +25,11 @@ ReadsMarker takes old new nodes (Ok tree) reading =
     (marker : Marker) × (reading ≡ Ok marker) × IsTreeOf nodes tree marker.formula
     × IsWarned takes old new marker.warned
 ReadsMarker takes old new nodes (Err refusal) reading = Tells refusal.kind reading
+
+-- the same of its formula alone
+abbrev pub SaysMarker : {R : Type 0} → (R → Warning → R → Type 0) → R → R
+    → Result (List (Part ExpressionRecord)) Refusal → Result Marker Refused → Type 0
+SaysMarker takes old new (Ok parts) reading =
+    (marker : Marker) × (reading ≡ Ok marker) × (formula_of parts ≡ marker.formula)
+    × IsWarned takes old new marker.warned
+SaysMarker takes old new (Err refusal) reading = Tells refusal.kind reading

@@ -1,6 +1,8 @@
 -- What is returned of a text that is to be a marker.
 use Rattle.std.specs.Prelude.{◌≡◌, ℕ, List, Result, Ok, Err}
 use Rattle.pep508_marker.specs.Warnings.{Warning}
+use Rattle.pep508_marker.specs.Expression.{ExpressionRecord}
+use Rattle.pep508_formula.specs.Postfix.{Part, formula_of}
 use Rattle.pep508_tree.specs.Tree.{Tree}
 use Rattle.pep508_tree.specs.Meaning.{NodeRecord}
 use Rattle.pep508_error.specs.declared.error.Pep508Error.{Pep508Error}
@@ -18,3 +20,11 @@ ReadsMarkerText named takes old new nodes text (Ok tree) reading =
     (marker : Marker) × (reading ≡ Ok marker) × IsTreeOf nodes (named tree) marker.formula
     × IsWarned takes old new marker.warned
 ReadsMarkerText named takes old new nodes text (Err error) reading = Shows text (told_error error) reading
+
+-- the same of its formula alone
+abbrev pub SaysMarkerText : {R T E : Type 0} → (R → Warning → R → Type 0) → R → R → List ℕ
+    → Result (List (Part ExpressionRecord)) (Pep508Error T E) → Result Marker Refused → Type 0
+SaysMarkerText takes old new text (Ok parts) reading =
+    (marker : Marker) × (reading ≡ Ok marker) × (formula_of parts ≡ marker.formula)
+    × IsWarned takes old new marker.warned
+SaysMarkerText takes old new text (Err error) reading = Shows text (told_error error) reading

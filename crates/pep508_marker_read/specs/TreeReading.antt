@@ -1,20 +1,9 @@
--- What the readers of a marker's pieces return, by what there is to read: trees of what is not left out.
-use Rattle.std.specs.Prelude.{◌≡◌, ℕ, suc, zero, Bool, ◌&&◌, ◌||◌, List, [], ◌∷◌, option_map}
-use Rattle.std.specs.Prelude.{Option, Some, None, IfSome, Result, Ok, Err}
-use Rattle.pep508_marker.specs.Warnings.{Warning}
-use Rattle.pep508_marker.specs.Expression.{ExpressionRecord}
-use Rattle.pep508_diagram.specs.Question.{Valuation}
-use Rattle.pep508_tree.specs.Tree.{Tree}
-use Rattle.pep508_tree.specs.Meaning.{NodeRecord, IsTree, holds}
-use Rattle.pep508_expression.specs.Expressions.{expression_holds}
-use Rattle.pep508_error.specs.Cursors.{behind}
-use Rattle.pep508_error.specs.declared.cursor.Cursor.{Cursor}
-use Rattle.pep508_error.specs.declared.refusal.Refusal.{Refusal}
+-- What there is to read where brackets nest so deep, and the truth of what words join.
+use Rattle.std.specs.Prelude.{ℕ, suc, zero, Bool, ◌&&◌, ◌||◌, List, [], ◌∷◌, Option, Some, None, Err}
 use Rattle.pep508_marker_comparison.specs.SideReading.{Reading, TooDeep}
-use Rattle.pep508_marker_comparison.specs.Outcome.{Tells, IsWarned}
 use Rattle.pep508_marker_read.specs.declared.word.Word.{Word}
 use Rattle.pep508_marker_read.specs.declared.word.Word.TheVariants as words
-use Rattle.pep508_marker_read.specs.Formula.{Formula, joined, truth_in}
+use Rattle.pep508_marker_read.specs.Formula.{joined}
 use Rattle.pep508_marker_read.specs.MarkerReading.{Marker, Connective, And, Or, part_at, joined_at}
 use Rattle.pep508_marker_read.specs.MarkerReading.{formula_at}
 
@@ -38,7 +27,7 @@ abbrev pub connective : Word → Connective
 connective words.And = And
 connective words.Or = Or
 
--- ---- trees
+-- ---- truths
 
 abbrev pub joins : Connective → Bool → Bool → Bool
 joins And = λ a b. a && b
@@ -48,24 +37,6 @@ joins Or = λ a b. a || b
 abbrev pub chain_truth : Connective → List Bool → Option Bool
 chain_truth word [] = None
 chain_truth word (b ∷ bs) = joined (joins word) (Some b) (chain_truth word bs)
-
--- a tree that holds where the formula does, and none where all of it is left out
-pub record IsPartTree (nodes : List NodeRecord) (tree : Option Tree) (formula : Formula ExpressionRecord)
-    : Type 0 where
-  pub made : IfSome tree (IsTree nodes)
-  pub truth : (v : Valuation)
-      → option_map (λ t. holds nodes t v) tree ≡ truth_in (λ e. expression_holds e v) formula
-
--- ---- what is returned
-
--- what was returned is the reading: a tree of what is said, and the place behind it; or a refusal for its
--- reason
-abbrev pub ReadsPart : {R : Type 0} → (R → Warning → R → Type 0) → R → R → List NodeRecord
-    → Result (Option Tree × Cursor) Refusal → Reading Marker → Type 0
-ReadsPart takes old new nodes (Ok found) reading =
-    (marker : Marker) × (reading ≡ Ok (marker, behind found.1)) × IsPartTree nodes found.0 marker.formula
-    × IsWarned takes old new marker.warned
-ReadsPart takes old new nodes (Err refusal) reading = Tells refusal.kind reading
 
 abbrev pub listed : {A : Type 0} → Option A → List A
 listed None = []

@@ -1,28 +1,26 @@
 //! Reading chains of comparisons, and brackets.
 
 ghost use Rattle.std.specs.Prelude.{◌≡◌, ℕ, ◌*◌, ◌<◌, ◌≤◌, List, length, Ok};
-ghost use Rattle.std.specs.Prelude.{IfOk, IfErr, IfSome, MatchResult};
-ghost use Rattle.std.specs.List.{AllByRecursion};
+ghost use Rattle.std.specs.Prelude.{IfOk, IfErr, MatchResult};
 ghost use Rattle.pep508_error.specs.Cursors.{IsBehind, behind};
 ghost use Rattle.pep508_error.specs.declared.cursor.Cursor.{Cursor};
 ghost use Rattle.pep508_error.specs.Refusals.{IsOf, StaysIn};
 ghost use Rattle.pep508_marker.specs.declared.warnings.MarkerWarningKind.{MarkerWarningKind};
-ghost use Rattle.pep508_tree.specs.Meaning.{IsTree, Extends};
 ghost use Rattle.pep508_marker_comparison.specs.SideReading.{Reading, TooDeep};
 ghost use Rattle.pep508_marker_comparison.specs.Outcome.{Fits, Tells};
 ghost use Rattle.pep508_marker_read.specs.MarkerReading.{Marker, Or, closed};
-ghost use Rattle.pep508_marker_read.specs.TreeReading.{chain_at, ReadsPart};
+ghost use Rattle.pep508_marker_read.specs.TreeReading.{chain_at};
+ghost use Rattle.pep508_marker_read.specs.FormulaReading.{ReadsFormula};
 ghost use Rattle.pep508_marker_read.specs.Levels.{IsAtPart, IsBehindPart, IsBehindFormula, StepsTo};
 ghost use Rattle.pep508_marker_read.specs.Levels.{WarnsAndStepsTo, left_at};
 
 use crate::compared::read_compared;
-use crate::join::{join_all, push_part};
 use crate::levels::Levels;
 use crate::word::Word;
 use pep508_error::{Cursor, Refusal};
+use pep508_formula::{FormulaBuilder, MarkerFormula};
 use pep508_marker::Reporter;
 use pep508_marker_comparison::{expect, malformed};
-use pep508_tree::{Interner, MarkerTree};
 use std::alloc::Global;
 
 /// What a place in a formula stands before.
@@ -30,36 +28,36 @@ use std::alloc::Global;
 pub(crate) enum Step<'a> {
     /// A piece of a chain of `and`.
     Part(Cursor<'a>),
-    /// What follows a piece, of which the tree is here, if it has one.
-    Read(Option<MarkerTree>, Cursor<'a>),
-    /// What follows the whole formula, of which the tree is here.
-    End(Option<MarkerTree>, Cursor<'a>),
+    /// What follows a piece.
+    Read(Cursor<'a>),
+    /// What follows the whole formula.
+    End(Cursor<'a>),
 }
 
-/// The tree of chains of `and` with `or` between each two, and the place behind them and white space.
-/// Brackets may nest so deep; they take memory and no stack.
-pub(crate) fn read_formula<'a, R: Reporter>(
+/// Chains of `and` with `or` between each two, and the place behind them and white space. Brackets may nest
+/// so deep; they take memory and no stack.
+pub(crate) fn read_chains<'a, R: Reporter>(
     alloc: Global,
-    interner: &mut Interner,
     deepest: usize,
     start: Cursor<'a>,
     reporter: &mut R,
-) -> Result<(Option<MarkerTree>, Cursor<'a>), Refusal<'a>>
+) -> Result<(MarkerFormula, Cursor<'a>), Refusal<'a>>
     requires { R.can_report reporter.old }
-    ensures read { ReadsPart R.takes reporter.old reporter.new interner.new.nodes result
+    ensures read { ReadsFormula R.takes reporter.old reporter.new result
         (chain_at Or deepest (behind start.entry)) }
     ensures stays { StaysIn start.entry result }
     ensures again { R.can_report reporter.new }
-    ensures keeps { Extends interner.old.nodes interner.new.nodes }
-    ensures counts { interner.new.conjunctions ≡ interner.old.conjunctions }
 {
-    let mut levels = Levels::new(alloc);
+    let mut levels = Levels {
+        builder: FormulaBuilder::new(alloc),
+        openings: Vec::new(alloc),
+    };
     let mut step = Step::Part(start);
     'steps: loop {
         step = match step {
-            Step::Part(place) => read_part(alloc, interner, deepest, &mut levels, place, reporter)?,
-            Step::Read(tree, place) => go_on(alloc, interner, &mut levels, tree, place)?,
-            Step::End(tree, place) => return Ok((tree, place)),
+            Step::Part(place) => read_part(alloc, deepest, &mut levels, place, reporter)?,
+            Step::Read(place) => go_on(alloc, &mut levels, place)?,
+            Step::End(place) => return Ok((levels.builder.finish(), place)),
         };
     }
 }
@@ -67,7 +65,6 @@ pub(crate) fn read_formula<'a, R: Reporter>(
 /// A comparison, or the beginning of a formula in brackets.
 fn read_part<'a, R: Reporter>(
     alloc: Global,
-    interner: &mut Interner,
     deepest: usize,
     levels: &mut Levels<'a>,
     place: Cursor<'a>,
@@ -75,81 +72,68 @@ fn read_part<'a, R: Reporter>(
 ) -> Result<Step<'a>, Refusal<'a>>
     requires { R.can_report reporter.old }
     ensures read { (start : Cursor) (reading : Reading Marker) (warned : List MarkerWarningKind)
-        → IsAtPart interner.old.nodes deepest start reading warned levels.old place.entry
-        → WarnsAndStepsTo R.takes reporter.old reporter.new interner.new.nodes deepest start reading warned
-        levels.new result }
+        → IsAtPart deepest start reading warned levels.old place.entry
+        → WarnsAndStepsTo R.takes reporter.old reporter.new deepest start reading warned levels.new result }
     ensures shorter { IfOk result (λ step. left_at step < left_at (Step.Part place.entry)) }
     ensures again { R.can_report reporter.new }
-    ensures keeps { Extends interner.old.nodes interner.new.nodes }
-    ensures counts { interner.new.conjunctions ≡ interner.old.conjunctions }
 {
     let place = place.after_whitespace();
     match place.strip('(') {
         Some(inner) => {
-            if levels.waiting.len() >= deepest {
+            if levels.openings.len() >= deepest {
                 return Err(refuse_depth(alloc, place));
             }
-            levels.open(alloc, place)?;
+            levels.builder.open()?;
+            levels.openings.push(place)?;
             Ok(Step::Part(inner))
         }
         None => {
-            let (tree, later) = read_compared(alloc, interner, place, reporter)?;
-            Ok(Step::Read(tree, later))
+            let later = read_compared(alloc, &mut levels.builder, place, reporter)?;
+            Ok(Step::Read(later))
         }
     }
 }
 
-/// Puts the tree of a piece to the others, and looks for the word that follows.
+/// Puts a piece to the others, and looks for the word that follows.
 fn go_on<'a>(
     alloc: Global,
-    interner: &mut Interner,
     levels: &mut Levels<'a>,
-    tree: Option<MarkerTree>,
     place: Cursor<'a>,
 ) -> Result<Step<'a>, Refusal<'a>>
-    requires either { AllByRecursion (IsTree interner.old.nodes) levels.old.either.items }
-    requires both { AllByRecursion (IsTree interner.old.nodes) levels.old.both.items }
-    requires tree { IfSome tree (IsTree interner.old.nodes) }
     ensures read { (deepest : ℕ) (start : Cursor) (reading : Reading Marker) (warned : List MarkerWarningKind)
-        → IsBehindPart interner.old.nodes deepest start reading warned levels.old tree place.entry
-        → StepsTo interner.new.nodes deepest start reading warned levels.new result }
-    ensures shorter { IfOk result (λ step. left_at step < left_at (Step.Read tree place.entry)) }
-    ensures keeps { Extends interner.old.nodes interner.new.nodes }
-    ensures counts { interner.new.conjunctions ≡ interner.old.conjunctions }
+        → IsBehindPart deepest start reading warned levels.old place.entry
+        → StepsTo deepest start reading warned levels.new result }
+    ensures shorter { IfOk result (λ step. left_at step < left_at (Step.Read place.entry)) }
 {
-    push_part(&mut levels.both, tree)?;
+    levels.builder.take()?;
     if let Some(later) = Word::And.pass(place) {
         return Ok(Step::Part(later));
     }
-    levels.end_chain(alloc, interner)?;
+    levels.builder.end_chain()?;
     let end = place.after_whitespace();
     match Word::Or.pass(end) {
         Some(later) => Ok(Step::Part(later)),
-        None => leave(alloc, interner, levels, end.after_whitespace()),
+        None => leave(alloc, levels, end.after_whitespace()),
     }
 }
 
-/// Joins the trees of a formula that is over, and leaves its brackets, if it stands in any.
+/// Leaves the brackets of a formula that is over, if it stands in any.
 fn leave<'a>(
     alloc: Global,
-    interner: &mut Interner,
     levels: &mut Levels<'a>,
     end: Cursor<'a>,
 ) -> Result<Step<'a>, Refusal<'a>>
-    requires { AllByRecursion (IsTree interner.old.nodes) levels.old.either.items }
     ensures read { (deepest : ℕ) (start : Cursor) (reading : Reading Marker) (warned : List MarkerWarningKind)
-        → IsBehindFormula interner.old.nodes deepest start reading warned levels.old end.entry
-        → StepsTo interner.new.nodes deepest start reading warned levels.new result }
+        → IsBehindFormula deepest start reading warned levels.old end.entry
+        → StepsTo deepest start reading warned levels.new result }
     ensures shorter { IfOk result (λ step. left_at step ≤ 2 * length (behind end.entry)) }
-    ensures keeps { Extends interner.old.nodes interner.new.nodes }
-    ensures counts { interner.new.conjunctions ≡ interner.old.conjunctions }
 {
-    let tree = join_all(alloc, interner, Word::Or, &levels.either)?;
-    match levels.close() {
-        None => Ok(Step::End(tree, end)),
+    match levels.openings.pop() {
+        None => Ok(Step::End(end)),
         Some(opening) => {
             let later = close(alloc, opening, end)?;
-            Ok(Step::Read(tree, later))
+            levels.builder.close();
+            Ok(Step::Read(later))
         }
     }
 }

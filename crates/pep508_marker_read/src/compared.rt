@@ -1,43 +1,42 @@
-//! Trees of comparisons.
+//! Comparisons as pieces of formulas.
 
-ghost use Rattle.std.specs.Prelude.{◌≡◌};
-ghost use Rattle.pep508_tree.specs.Meaning.{Extends};
-ghost use Rattle.pep508_error.specs.Cursors.{behind};
-ghost use Rattle.pep508_error.specs.Refusals.{StaysIn};
+ghost use Rattle.std.specs.Prelude.{IfOk, IfErr};
+ghost use Rattle.pep508_error.specs.Cursors.{IsBehind, behind};
+ghost use Rattle.pep508_error.specs.Refusals.{IsOf};
 ghost use Rattle.pep508_marker_read.specs.MarkerReading.{comparison_at};
-ghost use Rattle.pep508_marker_read.specs.TreeReading.{ReadsPart};
+ghost use Rattle.pep508_marker_read.specs.FormulaReading.{ReadsPiece};
 
-use pep440_range::RangeError;
 use pep508_error::{Cursor, Refusal, RefusalKind};
-use pep508_expression::MarkerTreeExpression;
+use pep508_expression::has_points;
+use pep508_formula::FormulaBuilder;
 use pep508_marker::Reporter;
 use pep508_marker_comparison::read_comparison;
-use pep508_tree::{Interner, MarkerTree};
 use std::alloc::Global;
 
-/// The tree of the comparison at a place, and the place behind it; no tree where it is left out.
+/// The comparison at a place, which is left out where it has no meaning, is the next piece; the place behind
+/// it. Refused where a number can't be raised.
 #[tactic(auto, unfolding(crate::specs::MarkerReading::comparison_at))]
 pub(crate) fn read_compared<'a, R: Reporter>(
     alloc: Global,
-    interner: &mut Interner,
+    builder: &mut FormulaBuilder,
     start: Cursor<'a>,
     reporter: &mut R,
-) -> Result<(Option<MarkerTree>, Cursor<'a>), Refusal<'a>>
+) -> Result<Cursor<'a>, Refusal<'a>>
     requires { R.can_report reporter.old }
-    ensures read { ReadsPart R.takes reporter.old reporter.new interner.new.nodes result
+    ensures read { ReadsPiece R.takes reporter.old reporter.new builder.old builder.new result
         (comparison_at (behind start.entry)) }
-    ensures stays { StaysIn start.entry result }
+    ensures stays { IfOk result (IsBehind start.entry) }
+    ensures of { IfErr result (IsOf start.entry) }
     ensures again { R.can_report reporter.new }
-    ensures keeps { Extends interner.old.nodes interner.new.nodes }
-    ensures counts { interner.new.conjunctions ≡ interner.old.conjunctions }
 {
     let (said, later) = read_comparison(alloc, start, reporter)?;
     let Some(expression) = said else {
-        return Ok((None, later));
+        builder.leave_out()?;
+        return Ok(later);
     };
-    match MarkerTree::expression(alloc, interner, expression) {
-        Ok(tree) => Ok((Some(tree), later)),
-        Err(RangeError::NumberAtEnd) => Err(start.refuse_to(later, RefusalKind::NumberAtEnd)),
-        Err(RangeError::Memory) => Err(Refusal::memory()),
+    if !has_points(alloc, &expression)? {
+        return Err(start.refuse_to(later, RefusalKind::NumberAtEnd));
     }
+    builder.say(alloc, expression)?;
+    Ok(later)
 }

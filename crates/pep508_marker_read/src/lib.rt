@@ -8,7 +8,9 @@ pub mod laws;
 mod levels;
 mod marker;
 mod parse;
+mod tree;
 mod word;
 
-pub use marker::read_marker;
-pub use parse::MarkerTreeReading;
+pub use marker::{read_formula, read_marker};
+pub use parse::{MarkerTreeReading, parse_formula};
+pub use tree::tree_of;

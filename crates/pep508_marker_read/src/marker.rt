@@ -5,10 +5,12 @@ ghost use Rattle.pep508_error.specs.Cursors.{rest_of};
 ghost use Rattle.pep508_tree.specs.Meaning.{Extends};
 ghost use Rattle.pep508_error.specs.Refusals.{IsOf};
 ghost use Rattle.pep508_marker_read.specs.MarkerReading.{marker_at};
-ghost use Rattle.pep508_marker_read.specs.MarkerOutcome.{ReadsMarker};
+ghost use Rattle.pep508_marker_read.specs.MarkerOutcome.{ReadsMarker, SaysMarker};
 
-use crate::chain::read_formula;
+use crate::chain::read_chains;
+use crate::tree::tree_of;
 use pep508_error::{Cursor, Refusal};
+use pep508_formula::MarkerFormula;
 use pep508_marker::Reporter;
 use pep508_marker_comparison::{malformed, refuse_rest};
 use pep508_tree::{Interner, MarkerTree};
@@ -16,6 +18,37 @@ use std::alloc::Global;
 
 /// How deep brackets may nest.
 const DEEPEST: usize = 256;
+
+/// The formula of the marker that stands at a place, up to the text's end (PEP 508, "Environment Markers"). A
+/// comparison without a meaning is left out. The warnings are reported in their order, those of a text that is
+/// refused behind them too.
+///
+/// Brackets nest at most 256 deep, and take no stack. Linear in the text. Takes memory for the formula, for the
+/// texts of the warnings that are wanted, and for a refusal, which shows the part at fault.
+#[tactic(auto, unfolding(crate::specs::MarkerReading::marker_at))]
+pub fn read_formula<'a, R: Reporter>(
+    alloc: Global,
+    start: Cursor<'a>,
+    reporter: &mut R,
+) -> Result<MarkerFormula, Refusal<'a>>
+    requires { R.can_report reporter.old }
+    ensures read { SaysMarker R.takes reporter.old reporter.new result
+        (marker_at (chars (rest_of start.entry))) }
+    ensures of { IfErr result (IsOf start.entry) }
+    ensures again { R.can_report reporter.new }
+{
+    let (formula, later) = read_chains(alloc, DEEPEST, start, reporter)?;
+    let end = later.after_whitespace();
+    match end.peek() {
+        None => Ok(formula),
+        Some(c) => Err(refuse_rest(
+            end,
+            malformed(format!(in alloc;
+                "Unexpected character '{c}', expected 'and', 'or' or end of input"
+            )),
+        )),
+    }
+}
 
 /// The tree of the marker that stands at a place, up to the text's end (PEP 508, "Environment Markers"). A
 /// comparison without a meaning is passed over; where all are, the marker holds. The warnings are reported in
@@ -25,7 +58,6 @@ const DEEPEST: usize = 256;
 /// comparisons: those of a chain of `and` or `or` cost what `conjunction_of_all` does. None of that counts as
 /// one of the interner's conjunctions. Takes memory for the trees, for the texts of the warnings that are
 /// wanted, and for a refusal, which shows the part at fault.
-#[tactic(auto, unfolding(crate::specs::MarkerReading::marker_at))]
 pub fn read_marker<'a, R: Reporter>(
     alloc: Global,
     interner: &mut Interner,
@@ -40,15 +72,6 @@ pub fn read_marker<'a, R: Reporter>(
     ensures keeps { Extends interner.old.nodes interner.new.nodes }
     ensures counts { interner.new.conjunctions ≡ interner.old.conjunctions }
 {
-    let (tree, later) = read_formula(alloc, interner, DEEPEST, start, reporter)?;
-    let end = later.after_whitespace();
-    match end.peek() {
-        None => Ok(tree.unwrap_or(MarkerTree::TRUE)),
-        Some(c) => Err(refuse_rest(
-            end,
-            malformed(format!(in alloc;
-                "Unexpected character '{c}', expected 'and', 'or' or end of input"
-            )),
-        )),
-    }
+    let formula = read_formula(alloc, start, reporter)?;
+    Ok(tree_of(alloc, interner, &formula)?)
 }

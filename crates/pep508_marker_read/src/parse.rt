@@ -7,16 +7,35 @@ ghost use Rattle.read_outcome.specs.Outcome.{ReadsText};
 ghost use Rattle.pep508_tree.specs.Tree.{Tree};
 ghost use Rattle.pep508_tree.specs.Meaning.{Extends};
 ghost use Rattle.pep508_marker_read.specs.MarkerReading.{marker_at};
-ghost use Rattle.pep508_marker_read.specs.TextOutcome.{ReadsMarkerText};
+ghost use Rattle.pep508_marker_read.specs.TextOutcome.{ReadsMarkerText, SaysMarkerText};
 
-use crate::marker::read_marker;
+use crate::marker::{read_formula, read_marker};
 use pep508_error::{Cursor, Pep508Error};
+use pep508_formula::MarkerFormula;
 use pep508_marker::{Reporter, Silent};
 use pep508_tree::{Interner, MarkerTree};
 use pep508_url::{Pep508Url, VerbatimUrl};
 use read_outcome::FromValueError;
 use serde_json::Value;
 use std::alloc::Global;
+
+/// Reads the formula of a marker, as `MarkerTree::parse_reporter` reads its tree. Linear in the text, and takes
+/// memory for the formula alone; an error takes it for a copy of the text.
+pub fn parse_formula<T: Pep508Url, R: Reporter>(
+    alloc: Global,
+    text: &str,
+    reporter: &mut R,
+) -> Result<MarkerFormula, Pep508Error<T>>
+    requires { R.can_report reporter.old }
+    ensures read { SaysMarkerText R.takes reporter.old reporter.new text.now result
+        (marker_at (chars text.now)) }
+    ensures again { R.can_report reporter.new }
+{
+    match read_formula(alloc, Cursor::new(text), reporter) {
+        Ok(formula) => Ok(formula),
+        Err(refusal) => Err(Pep508Error::of(alloc, refusal)),
+    }
+}
 
 /// What is read of the texts of markers.
 pub trait MarkerTreeReading {
