@@ -96,8 +96,9 @@ fn any_text_tree(
     }
 }
 
-/// The tree of any comparison, which holds where that does: nowhere where a number that has to be raised is the
-/// greatest of 64 bits, or where texts are compared by `~=`. Isn't counted, and costs what `expression` does.
+/// The tree of any comparison, which holds where that does: nowhere where a number that has to be raised is
+/// the greatest of 64 bits, or where texts are compared by `~=`. It isn't counted, and costs what
+/// `MarkerTreeExpression::expression` does; earlier trees mean what they meant, refused or not.
 #[tactic(auto, unfolding(crate::specs::Expressions::expression_holds))]
 pub fn comparison_tree(
     alloc: Global,

@@ -15,7 +15,8 @@ use version_ranges::Ranges;
 
 /// Whether there is such a set.
 fn is_made(set: Result<Ranges<Version>, RangeError>) -> Result<bool, AllocError>
-    ensures { (points : Option PointTest) → Gives set points → IfOk result (λ answer. answer ≡ is_some points) }
+    ensures { (points : Option PointTest) → Gives set points
+        → IfOk result (λ answer. answer ≡ is_some points) }
 {
     match set {
         Ok(_) => Ok(true),

@@ -45,7 +45,8 @@ pub(crate) fn version_holds(
     specifier: &VersionSpecifier,
     version: &Version,
 ) -> Result<bool, AllocError>
-    ensures { IfOk result (λ answer. answer ≡ or_nowhere (compared_points key specifier.now) (At version.now)) }
+    ensures { IfOk result (λ answer. answer
+        ≡ or_nowhere (compared_points key specifier.now) (At version.now)) }
 {
     at_version(compared_range(alloc, key, specifier), version)
 }
@@ -58,7 +59,8 @@ pub(crate) fn listed_holds(
     negated: bool,
     version: &Version,
 ) -> Result<bool, AllocError>
-    ensures { IfOk result (λ answer. answer ≡ or_nowhere (listed_points key negated versions.now) (At version.now)) }
+    ensures { IfOk result (λ answer. answer
+        ≡ or_nowhere (listed_points key negated versions.now) (At version.now)) }
 {
     at_version(listed_by(alloc, key, versions, negated), version)
 }

@@ -67,7 +67,11 @@ impl<'a> ExpressionTruth for InEnvironment<'a> {
     }
 }
 
-/// Whether a marker's formula holds in an environment with extras.
+/// Whether a marker's formula holds in an environment with extras (PEP 508, "Environment Markers").
+///
+/// Each comparison is evaluated once; one with n versions takes O(n log n) comparisons of versions, and one
+/// of an extra goes through the extras. Takes memory for the range of one comparison at a time, and two bytes
+/// for each formula that is begun and not yet joined with another; no stack.
 pub fn holds_in(
     alloc: Global,
     formula: &MarkerFormula,

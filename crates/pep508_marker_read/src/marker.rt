@@ -19,12 +19,13 @@ use std::alloc::Global;
 /// How deep brackets may nest.
 const DEEPEST: usize = 256;
 
-/// The formula of the marker that stands at a place, up to the text's end (PEP 508, "Environment Markers"). A
-/// comparison without a meaning is left out. The warnings are reported in their order, those of a text that is
-/// refused behind them too.
+/// The formula of the marker that stands at a place, up to the text's end (PEP 508, "Environment Markers").
+/// A comparison without a meaning is left out. The warnings are reported in their order, those of a text that
+/// is refused behind them too.
 ///
-/// Brackets nest at most 256 deep, and take no stack. Linear in the text. Takes memory for the formula, for the
-/// texts of the warnings that are wanted, and for a refusal, which shows the part at fault.
+/// Brackets nest at most 256 deep, and take no stack. Linear in the text but for the versions that a key is
+/// compared with at once, of which n take O(n log n). Takes memory for the formula, for the texts of the
+/// warnings that are wanted, and for a refusal, which shows the part at fault.
 #[tactic(auto, unfolding(crate::specs::MarkerReading::marker_at))]
 pub fn read_formula<'a, R: Reporter>(
     alloc: Global,

@@ -19,8 +19,9 @@ use read_outcome::FromValueError;
 use serde_json::Value;
 use std::alloc::Global;
 
-/// Reads the formula of a marker, as `MarkerTree::parse_reporter` reads its tree. Linear in the text, and takes
-/// memory for the formula alone; an error takes it for a copy of the text.
+/// Reads the formula of a marker, as `MarkerTree::parse_reporter` reads its tree; its warnings are reported
+/// in their order. Cost and depth are those of `read_formula`, and an error takes memory for a copy of the
+/// text.
 pub fn parse_formula<T: Pep508Url, R: Reporter>(
     alloc: Global,
     text: &str,

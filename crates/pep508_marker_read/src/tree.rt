@@ -38,7 +38,7 @@ fn taken(alloc: Global, stack: &mut Vec<TreeChain>) -> TreeChain
     }
 }
 
-/// A chain of this word that holds where the chain does: its trees are joined where its word is the other one.
+/// A chain of this word that holds where a chain does, whose trees are joined where it has the other word.
 fn with_word(
     alloc: Global,
     interner: &mut Interner,
@@ -149,8 +149,8 @@ fn put_part(
     }
 }
 
-/// The tree of a formula; one of which all is left out always holds. Takes no stack, and counts as none of the
-/// interner's conjunctions.
+/// The tree of a formula; that of one of which all is left out always holds. Takes no stack, and none of it
+/// counts as one of the interner's conjunctions.
 ///
 /// The trees of a chain of `and` or `or` are joined together, which costs what `conjunction_of_all` does.
 pub fn tree_of(
