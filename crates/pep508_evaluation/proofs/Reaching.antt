@@ -154,7 +154,8 @@ pub below_by_index : (bound : Tree) (xs : List Tree) → All (λ t. IsLtBy tree_
     AllByRecursion (λ t. code t < code bound) xs
 below_by_index bound [] all = tt
 below_by_index bound (x ∷ xs) all =
-    (less_code x bound (all 0 bound (omega arith)), below_by_index bound xs (λ k d inside. all (suc k) d (omega (arith, inside))))
+    let later = below_by_index bound xs (λ k d inside. all (suc k) d (omega (arith, inside))) in
+    (less_code x bound (all 0 bound (omega arith)), later)
 
 -- one more than the last of them
 abbrev pub top : List Tree → ℕ

@@ -22,10 +22,13 @@ put old new key tree is e = e ∙ ap (insert_key tree_cmp old) is
 pub loop-latest-smaller-in_ok-insert-in-Some-extra_child : goal.loop-latest-smaller-in_ok-insert-in-Some-extra_child
 loop-latest-smaller-in_ok-insert-in-Some-extra_child c =
     let left = c.pop_last.new.self.keys in
-    subst (λ keys. top keys < top c.loop-latest.reached.keys) (sym (put left _ c.new-in-Some-extra_child.result c.in-Some-extra_child.child c.new-in-Some-extra_child.ensures c.in_ok-insert-in-Some-extra_child.ensures.keys))
+    let is = put left c.insert-in-Some-extra_child.new.self.keys c.new-in-Some-extra_child.result
+    c.in-Some-extra_child.child c.new-in-Some-extra_child.ensures c.in_ok-insert-in-Some-extra_child.ensures.keys in
+    subst (λ keys. top keys < top c.loop-latest.reached.keys) (sym is)
     (past_falls c.args.interner.now.nodes c.args.extras.now c.args.tree c.loop-latest.reached.keys left
     c.tree-next.result
-    (removed c.loop-latest.reached.keys left c.in-Some.latest c.tree-next.result c.tree-next.ensures c.in-Some.ensures.removal)
+    (removed c.loop-latest.reached.keys left c.in-Some.latest c.tree-next.result c.tree-next.ensures
+    c.in-Some.ensures.removal)
     c.loop-latest.invariant
     (lower left c.in-Some.latest c.tree-next.result c.tree-next.ensures
     (below_by_index c.in-Some.latest left c.in-Some.ensures.all_below))
@@ -34,24 +37,29 @@ loop-latest-smaller-in_ok-insert-in-Some-extra_child c =
 pub loop-latest-preserved-in_ok-insert-in-Some-extra_child : goal.loop-latest-preserved-in_ok-insert-in-Some-extra_child
 loop-latest-preserved-in_ok-insert-in-Some-extra_child c =
     let left = c.pop_last.new.self.keys in
-    subst (AreReached c.args.interner.now.nodes c.args.extras.now c.args.tree) (sym (put left _ c.new-in-Some-extra_child.result c.in-Some-extra_child.child c.new-in-Some-extra_child.ensures c.in_ok-insert-in-Some-extra_child.ensures.keys))
+    let is = put left c.insert-in-Some-extra_child.new.self.keys c.new-in-Some-extra_child.result
+    c.in-Some-extra_child.child c.new-in-Some-extra_child.ensures c.in_ok-insert-in-Some-extra_child.ensures.keys in
+    subst (AreReached c.args.interner.now.nodes c.args.extras.now c.args.tree) (sym is)
     (reached_past c.args.interner.now.nodes c.args.extras.now c.args.tree c.loop-latest.reached.keys left
     c.tree-next.result
-    (removed c.loop-latest.reached.keys left c.in-Some.latest c.tree-next.result c.tree-next.ensures c.in-Some.ensures.removal)
+    (removed c.loop-latest.reached.keys left c.in-Some.latest c.tree-next.result c.tree-next.ensures
+    c.in-Some.ensures.removal)
     c.loop-latest.invariant c.in-Some-extra_child.child c.in-Some-extra_child.ensures)
 
 pub returns-then-is_true : goal.returns-then-is_true
 returns-then-is_true c =
     let left = c.pop_last.new.self.keys in
     last_holds c.args.interner.now.nodes c.args.extras.now c.args.tree c.loop-latest.reached.keys left c.tree-next.result
-    (removed c.loop-latest.reached.keys left c.in-Some.latest c.tree-next.result c.tree-next.ensures c.in-Some.ensures.removal)
+    (removed c.loop-latest.reached.keys left c.in-Some.latest c.tree-next.result c.tree-next.ensures
+    c.in-Some.ensures.removal)
     c.loop-latest.invariant (c.is_true.ensures.0 c.if-is_true.true)
 
 pub reach_children-requires : goal.reach_children-requires
 reach_children-requires c =
     let left = c.pop_last.new.self.keys in
     last_made c.args.interner.now.nodes c.args.extras.now c.args.tree c.loop-latest.reached.keys left c.tree-next.result
-    (removed c.loop-latest.reached.keys left c.in-Some.latest c.tree-next.result c.tree-next.ensures c.in-Some.ensures.removal)
+    (removed c.loop-latest.reached.keys left c.in-Some.latest c.tree-next.result c.tree-next.ensures
+    c.in-Some.ensures.removal)
     c.loop-latest.invariant
 
 pub loop-latest-smaller : goal.loop-latest-smaller
@@ -60,7 +68,8 @@ loop-latest-smaller c =
     subst (λ keys. top keys < top c.loop-latest.reached.keys) (sym c.in_ok-reach_children-in-None.ensures)
     (left_falls c.args.interner.now.nodes c.args.extras.now c.args.tree c.loop-latest.reached.keys left
     c.tree-next.result
-    (removed c.loop-latest.reached.keys left c.in-Some.latest c.tree-next.result c.tree-next.ensures c.in-Some.ensures.removal)
+    (removed c.loop-latest.reached.keys left c.in-Some.latest c.tree-next.result c.tree-next.ensures
+    c.in-Some.ensures.removal)
     c.loop-latest.invariant c.are_sound.ensures c.in-None.ensures
     (lower left c.in-Some.latest c.tree-next.result c.tree-next.ensures
     (below_by_index c.in-Some.latest left c.in-Some.ensures.all_below)))
@@ -72,6 +81,7 @@ loop-latest-preserved c =
     (sym c.in_ok-reach_children-in-None.ensures)
     (reached_on c.args.interner.now.nodes c.args.extras.now c.args.tree c.loop-latest.reached.keys left
     c.tree-next.result
-    (removed c.loop-latest.reached.keys left c.in-Some.latest c.tree-next.result c.tree-next.ensures c.in-Some.ensures.removal)
+    (removed c.loop-latest.reached.keys left c.in-Some.latest c.tree-next.result c.tree-next.ensures
+    c.in-Some.ensures.removal)
     c.loop-latest.invariant c.are_sound.ensures c.in-None.ensures
     (λ is. true≢false (sym (c.is_true.ensures.1 is) ∙ c.if-is_true.false)))

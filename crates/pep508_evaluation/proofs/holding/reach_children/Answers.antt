@@ -9,7 +9,8 @@ use Rattle.pep508_evaluation.proofs.holding.reach_children.Goals as goal
 pub loop-index-preserved : goal.loop-index-preserved
 loop-index-preserved c =
     let under = children_of (root_of c.args.interner.now.nodes c.args.tree) in
-    ap (λ keys. with_trees keys (drop (c.loop-index.index + 1) under)) (c.in_ok-insert.ensures.keys ∙ ap (insert_key tree_cmp c.loop-index.reached.keys) c.new.ensures)
+    let put = c.in_ok-insert.ensures.keys ∙ ap (insert_key tree_cmp c.loop-index.reached.keys) c.new.ensures in
+    ap (λ keys. with_trees keys (drop (c.loop-index.index + 1) under)) put
     ∙ sym (ap (with_trees c.loop-index.reached.keys)
     (behind_next under c.loop-index.index c.in-Some.child (sym c.in-Some.ensures.child)))
     ∙ c.loop-index.invariant
