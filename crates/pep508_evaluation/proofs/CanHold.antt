@@ -115,7 +115,7 @@ none_behind (c ∷ cs) zero e = absurd (cc)
 none_behind (c ∷ cs) (suc i) e = omega (arith, none_behind cs i e)
 
 -- a child stands at some place
-abbrev StandsIn : List Tree → Tree → Type 0
+abbrev pub StandsIn : List Tree → Tree → Type 0
 StandsIn cs c = (i : ℕ) × (i < length cs) × (slice_get cs i ≡ Some c)
 
 between_has : {T : Type 0} (first : Tree) (later : List (Branch T Tree)) (c : Tree) → IsChild c first later →
@@ -195,29 +195,27 @@ module _ (nodes : List NodeRecord) (sound : AreSound nodes) (tree : Tree) (made 
         at (Some n) known free f =
             holds_by_child nodes sound extras tree n known free c (child_of_place n i c f) can
 
-    -- no child that can hold: only the tree that always holds can
-    pub none_holds : ((i : ℕ) → i < length (children_of (root_of nodes tree)) → (c : Tree) →
-        slice_get (children_of (root_of nodes tree)) i ≡ Some c → CanHold nodes c extras → ⊥) →
-        (answer : Bool) → (IsTrue answer ↔ (tree ≡ always)) → IsTrue answer ↔ CanHold nodes tree extras
-    none_holds none answer is = at (root_of nodes tree) refl known_root none
+    -- a tree that can hold and doesn't always has a child that can
+    pub some_child : CanHold nodes tree extras → (tree ≡ always → ⊥) →
+        (c : Tree) × StandsIn (children_of (root_of nodes tree)) c × CanHold nodes c extras
+    some_child can other = at (root_of nodes tree) refl known_root
       where
         at : (root : Option NodeRecord) → root_of nodes tree ≡ root → IfSome root (IsRoot nodes tree) →
-            ((i : ℕ) → i < length (children_of root) → (c : Tree) →
-            slice_get (children_of root) i ≡ Some c → CanHold nodes c extras → ⊥) →
-            IsTrue answer ↔ CanHold nodes tree extras
-        at None e known none =
+            (c : Tree) × StandsIn (children_of root) c × CanHold nodes c extras
+        at None e known =
             let constant = known_constant e in
-            let holding = constant_holds nodes extras tree (not tree.negated) constant in (
-              λ up. holding.0 (ap (λ (t : Tree). not t.negated) (is.0 up)),
-              λ can. is.1 (tree_is tree always constant.place_is (not_true tree.negated (holding.1 can))),
-            )
-        at (Some n) e known none = (
-          λ up. absurd (none_some n (sym (ap (λ t. root_of nodes t) (is.0 up)) ∙ e)),
-          λ can.
-              let child = child_holds nodes sound extras tree n known can in
-              let place = place_of_child n child.0 child.1 in
-              absurd (none place.0 place.1 child.0 place.2 child.2),
-        )
+            let holding = constant_holds nodes extras tree (not tree.negated) constant in
+            absurd (other (tree_is tree always constant.place_is (not_true tree.negated (holding.1 can))))
+        at (Some n) e known =
+            let child = child_holds nodes sound extras tree n known can in
+            (child.0, place_of_child n child.0 child.1, child.2)
+
+-- the tree that always holds can
+pub always_can : (nodes : List NodeRecord) (extras : List (List ℕ)) (tree : Tree) → tree ≡ always →
+    CanHold nodes tree extras
+always_can nodes extras tree is =
+    subst (λ t. CanHold nodes t extras) (sym is)
+    ((constant_holds nodes extras always true (constant_is nodes always refl)).0 refl)
 
 -- ---- trees that ask first for an extra
 

@@ -1,6 +1,7 @@
 pub mod Standing
 pub mod Choosing
 pub mod CanHold
+pub mod Reaching
 pub mod Warning
 pub mod Rooted
 pub mod Edging

@@ -1,5 +1,6 @@
 -- Steps down a tree, and the children that are gone over.
-use Rattle.std.specs.Prelude.{◌≡◌, ℕ, ◌<◌, Bool, List, [], Option, Some, None}
+use Rattle.std.specs.Prelude.{◌≡◌, ℕ, ◌<◌, Bool, List, [], ◌∷◌, Option, Some, None}
+use Rattle.std.specs.BTreeSet.{insert_key}
 use Rattle.std.specs.declared.ops.ControlFlow.{ControlFlow}
 use Rattle.std.specs.declared.ops.ControlFlow.TheVariants.{Continue, Break}
 use Rattle.pep508_diagram.specs.declared.variable.Flag.TheVariants.{In, Contains, Extra, Arbitrary}
@@ -7,7 +8,7 @@ use Rattle.pep508_diagram.specs.Question.{Valuation}
 use Rattle.pep508_tree.specs.Tree.{Tree}
 use Rattle.pep508_tree.specs.Meaning.{NodeRecord, Versions, Texts, Flagged, holds, IsTree}
 use Rattle.pep508_tree.specs.Joining.{children}
-use Rattle.pep508_tree.specs.Nodes.{chosen}
+use Rattle.pep508_tree.specs.Nodes.{chosen, tree_cmp}
 use Rattle.pep508_tree.specs.Roots.{root_of, IsRoot}
 use Rattle.pep508_evaluation.specs.Valuations.{HasJust}
 
@@ -46,3 +47,8 @@ pub record GoesPast (nodes : List NodeRecord) (extras : List (List ℕ)) (tree n
 abbrev pub children_of : Option NodeRecord → List Tree
 children_of None = []
 children_of (Some node) = children node
+
+-- with further trees, in the order in which they were made
+abbrev pub with_trees : List Tree → List Tree → List Tree
+with_trees reached [] = reached
+with_trees reached (tree ∷ trees) = with_trees (insert_key tree_cmp reached tree) trees

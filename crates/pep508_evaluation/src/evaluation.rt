@@ -1,6 +1,6 @@
 //! What trees answer, as calls on them.
 
-ghost use Rattle.std.specs.Prelude.{◌≡◌, ◌↔◌, IsTrue, IfOk, OnOk, map, option_copied};
+ghost use Rattle.std.specs.Prelude.{◌≡◌, ◌↔◌, IsTrue, IfOk, IfErr, OnOk, map, option_copied, None};
 ghost use Rattle.std.specs.List.{FoldsTo};
 ghost use Rattle.pep508_tree.specs.Tree.{Tree};
 ghost use Rattle.pep508_tree.specs.Meaning.{IsTree, holds, diagram_of};
@@ -39,34 +39,44 @@ pub trait MarkerTreeEvaluation {
         requires { IsTree interner.now.nodes (tree self) }
         ensures { result ≡ holds interner.now.nodes (tree self) (valuation_of environment.now extras.now) };
 
-    /// `evaluate` where there is an environment, and else `evaluate_extras`.
+    /// `evaluate` where there is an environment, which takes no memory, and else `evaluate_extras`.
     fn evaluate_optional_environment(
         self,
+        alloc: Global,
         interner: &Interner,
         environment: Option<&MarkerEnvironment>,
         extras: &[ExtraName],
-    ) -> bool
+    ) -> Result<bool, AllocError>
         requires { IsTree interner.now.nodes (tree self) }
-        ensures { AnswersIn interner.now.nodes (tree self) (option_copied environment.entry) extras.now
-            result };
+        ensures answer { IfOk result
+            (AnswersIn interner.now.nodes (tree self) (option_copied environment.entry) extras.now) }
+        ensures grown { IfErr result (λ _. option_copied environment.entry ≡ None) };
 
     /// Whether versions and texts can be such that the tree holds with just these extras, whether or not an
-    /// environment has them all. Takes no memory. Goes at most once over each path from the root through
-    /// nodes of versions, texts and substrings, of which there can be many more than nodes; it ends at the
-    /// first that holds, and recurses as deep as a path is long.
-    fn evaluate_extras(self, interner: &Interner, extras: &[ExtraName]) -> bool
+    /// environment has them all. The only refusal is want of memory, for a list of trees to look at.
+    ///
+    /// Looks at each node below the root twice at most, for its tree and the negation, and at each boundary
+    /// as often; extras are looked through for each node that asks for one. No recursion, however deep the
+    /// tree is.
+    fn evaluate_extras(
+        self,
+        alloc: Global,
+        interner: &Interner,
+        extras: &[ExtraName],
+    ) -> Result<bool, AllocError>
         requires { IsTree interner.now.nodes (tree self) }
-        ensures { IsTrue result ↔ CanHold interner.now.nodes (tree self) extras.now };
+        ensures { IfOk result (λ yes. IsTrue yes ↔ CanHold interner.now.nodes (tree self) extras.now) };
 
-    /// The same; the versions are not looked at.
+    /// `evaluate_extras`; the versions are not looked at.
     fn evaluate_extras_and_python_version(
         self,
+        alloc: Global,
         interner: &Interner,
         extras: &[ExtraName],
         python_versions: &[Version],
-    ) -> bool
+    ) -> Result<bool, AllocError>
         requires { IsTree interner.now.nodes (tree self) }
-        ensures { IsTrue result ↔ CanHold interner.now.nodes (tree self) extras.now };
+        ensures { IfOk result (λ yes. IsTrue yes ↔ CanHold interner.now.nodes (tree self) extras.now) };
 
     /// `evaluate`, which tells a reporter first of each old name of PEP 345 in the tree, one warning for
     /// each path to a node of it, and then of each bound that a text is compared with on the way to the
@@ -120,27 +130,34 @@ impl MarkerTreeEvaluation for MarkerTree {
 
     fn evaluate_optional_environment(
         self,
+        alloc: Global,
         interner: &Interner,
         environment: Option<&MarkerEnvironment>,
         extras: &[ExtraName],
-    ) -> bool {
+    ) -> Result<bool, AllocError> {
         match environment {
-            Some(environment) => evaluate(self, interner, environment, extras),
-            None => can_hold(self, interner, extras),
+            Some(environment) => Ok(evaluate(self, interner, environment, extras)),
+            None => can_hold(alloc, self, interner, extras),
         }
     }
 
-    fn evaluate_extras(self, interner: &Interner, extras: &[ExtraName]) -> bool {
-        can_hold(self, interner, extras)
+    fn evaluate_extras(
+        self,
+        alloc: Global,
+        interner: &Interner,
+        extras: &[ExtraName],
+    ) -> Result<bool, AllocError> {
+        can_hold(alloc, self, interner, extras)
     }
 
     fn evaluate_extras_and_python_version(
         self,
+        alloc: Global,
         interner: &Interner,
         extras: &[ExtraName],
         _python_versions: &[Version],
-    ) -> bool {
-        can_hold(self, interner, extras)
+    ) -> Result<bool, AllocError> {
+        can_hold(alloc, self, interner, extras)
     }
 
     fn evaluate_reporter<R: Reporter>(

@@ -1,18 +1,21 @@
 //! Whether some valuation with just the listed extras makes a tree hold.
 
 ghost use Rattle.std.specs.Prelude.{◌≡◌, ◌≤◌, ◌<◌, ◌↔◌, IsTrue, IfSome, MatchOption, length, map, ◌∷◌};
-ghost use Rattle.std.specs.Prelude.{option_map};
+ghost use Rattle.std.specs.Prelude.{option_map, IfOk, OnOk};
 ghost use Rattle.std.specs.List.{slice_get};
 ghost use Rattle.pep508_diagram.specs.Question.{Valuation};
-ghost use Rattle.pep508_tree.specs.Meaning.{Flagged, IsTree, holds};
+ghost use Rattle.pep508_tree.specs.Meaning.{Flagged, IsTree};
 ghost use Rattle.pep508_tree.specs.Nodes.{chosen, turned};
 ghost use Rattle.pep508_tree.specs.Roots.{root_of};
-ghost use Rattle.pep508_evaluation.specs.Steps.{AsksNoExtra, GoesPast, children_of};
+ghost use Rattle.pep508_evaluation.specs.Steps.{AsksNoExtra, GoesPast, children_of, with_trees};
 ghost use Rattle.pep508_evaluation.specs.Valuations.{HasJust, CanHold};
 
+use crate::reached::Reached;
 use pep508_diagram::Flag;
 use pep508_name::ExtraName;
 use pep508_tree::{Children, Interner, MarkerTree, TreeNode};
+use std::alloc::{AllocError, Global};
+use std::collections::BTreeSet;
 
 /// What stands for the extras under a flag that asks for one.
 fn extra_side(
@@ -50,22 +53,6 @@ fn extra_child(tree: MarkerTree, interner: &Interner, extras: &[ExtraName]) -> O
         TreeNode::Texts(_, _) => None,
         TreeNode::Flagged(flag, set, unset) => extra_side(flag, set, unset, extras),
     }
-}
-
-/// What is left of a tree once the extras that it asks for first are known.
-fn past_extras(tree: MarkerTree, interner: &Interner, extras: &[ExtraName]) -> MarkerTree
-    requires { IsTree interner.now.nodes tree }
-    ensures made { IsTree interner.now.nodes result }
-    ensures falls { result.place ≤ tree.place }
-    ensures same { (v : Valuation) → HasJust extras.now v →
-        holds interner.now.nodes tree v ≡ holds interner.now.nodes result v }
-    ensures past { IfSome (root_of interner.now.nodes result) AsksNoExtra }
-{
-    let mut tree = tree;
-    while let Some(child) = extra_child(tree, interner, extras) {
-        tree = child;
-    }
-    tree
 }
 
 /// The child between two boundaries, by its place.
@@ -120,19 +107,52 @@ pub(crate) fn root_child_count(tree: MarkerTree, interner: &Interner) -> usize
     }
 }
 
-/// Whether some valuation with just the listed extras makes a tree hold.
-pub(crate) fn can_hold(tree: MarkerTree, interner: &Interner, extras: &[ExtraName]) -> bool
+/// Puts what stands in the node at a tree's root among the trees that are reached.
+fn reach_children(
+    reached: &mut BTreeSet<Reached>,
+    tree: MarkerTree,
+    interner: &Interner,
+) -> Result<(), AllocError>
     requires { IsTree interner.now.nodes tree }
-    ensures { IsTrue result ↔ CanHold interner.now.nodes tree extras.now }
+    ensures { OnOk result (reached.new.keys
+        ≡ with_trees reached.old.keys (children_of (root_of interner.now.nodes tree))) }
+{
+    for index in 0..root_child_count(tree, interner) {
+        let Some(child) = root_child(tree, interner, index) else {
+            unreachable!()
+        };
+        reached.insert(Reached::new(child))?;
+    }
+    Ok(())
+}
+
+/// Whether some valuation with just the listed extras makes a tree hold. Of the trees that are reached the one
+/// that was made last is looked at first, so that none comes again.
+pub(crate) fn can_hold(
+    alloc: Global,
+    tree: MarkerTree,
+    interner: &Interner,
+    extras: &[ExtraName],
+) -> Result<bool, AllocError>
+    requires { IsTree interner.now.nodes tree }
+    ensures { IfOk result (λ yes. IsTrue yes ↔ CanHold interner.now.nodes tree extras.now) }
 {
     interner.are_sound();
-    let rest = past_extras(tree, interner, extras);
-    for index in 0..root_child_count(rest, interner) {
-        if let Some(child) = root_child(rest, interner, index) {
-            if can_hold(child, interner, extras) {
-                return true;
+    let mut reached = BTreeSet::new(alloc);
+    reached.insert(Reached::new(tree))?;
+    while let Some(latest) = reached.pop_last() {
+        let next = latest.tree();
+        match extra_child(next, interner, extras) {
+            Some(child) => {
+                reached.insert(Reached::new(child))?;
+            }
+            None => {
+                if next.is_true() {
+                    return Ok(true);
+                }
+                reach_children(&mut reached, next, interner)?;
             }
         }
     }
-    rest.is_true()
+    Ok(false)
 }

@@ -6,6 +6,7 @@ mod chosen;
 mod evaluation;
 mod holding;
 pub mod laws;
+mod reached;
 mod warned;
 
 pub use chosen::stands_in;

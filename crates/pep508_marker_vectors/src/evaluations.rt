@@ -82,22 +82,28 @@ fn told(
     let holds = tree.evaluate_reporter(alloc, interner, environment, extras, &mut warnings)?;
     both(
         answer,
-        one_answer(interner, tree, place, holds),
+        one_answer(alloc, interner, tree, place, holds)?,
         &warnings.text,
     )
 }
 
 /// The answer that each call gives, where all give the same.
-fn one_answer(interner: &Interner, tree: MarkerTree, place: &Place, holds: bool) -> &'static str
+fn one_answer(
+    alloc: Global,
+    interner: &Interner,
+    tree: MarkerTree,
+    place: &Place,
+    holds: bool,
+) -> Result<&'static str, AllocError>
     requires { IsTree interner.now.nodes tree }
 {
     let (environment, extras) = (place.environment, place.extras);
     let alone = tree.evaluate(interner, environment, extras);
-    let there = tree.evaluate_optional_environment(interner, Some(environment), extras);
+    let there = tree.evaluate_optional_environment(alloc, interner, Some(environment), extras)?;
     if holds == alone && holds == there {
-        word(holds)
+        Ok(word(holds))
     } else {
-        "two answers"
+        Ok("two answers")
     }
 }
 
@@ -204,9 +210,9 @@ pub fn anywhere(
     extras: &[ExtraName],
 ) -> Told {
     let tree = read(alloc, answer, interner, text)?;
-    let holds = tree.evaluate_extras(interner, extras);
-    if holds != tree.evaluate_optional_environment(interner, None, extras)
-        || holds != tree.evaluate_extras_and_python_version(interner, extras, &[])
+    let holds = tree.evaluate_extras(alloc, interner, extras)?;
+    if holds != tree.evaluate_optional_environment(alloc, interner, None, extras)?
+        || holds != tree.evaluate_extras_and_python_version(alloc, interner, extras, &[])?
     {
         return said(answer, "two answers");
     }

@@ -1,6 +1,6 @@
 //! What requirements answer for environments and extras.
 
-ghost use Rattle.std.specs.Prelude.{◌≡◌, ◌↔◌, IsTrue, IfOk, map, option_copied};
+ghost use Rattle.std.specs.Prelude.{◌≡◌, ◌↔◌, IsTrue, IfOk, IfErr, map, option_copied, None};
 ghost use Rattle.pep508_tree.specs.Meaning.{IsTree, holds, diagram_of};
 ghost use Rattle.pep508_evaluation.specs.Valuations.{valuation_of, CanHold, AnswersIn};
 ghost use Rattle.pep508_evaluation.specs.Warned.{warned};
@@ -32,18 +32,20 @@ impl<T: Pep508Url> Requirement<T> {
     }
 
     /// Whether some environment has the requirement meant with just these extras; the versions are not looked
-    /// at. Takes no memory, and costs what `MarkerTree::evaluate_extras` does.
+    /// at. Costs what `MarkerTree::evaluate_extras` does, and may want memory as that does.
     pub fn evaluate_extras_and_python_version(
         &self,
+        alloc: Global,
         interner: &Interner,
         extras: &[ExtraName],
         python_versions: &[Version],
-    ) -> bool
+    ) -> Result<bool, AllocError>
         requires { IsTree interner.now.nodes self.now.marker }
-        ensures { IsTrue result ↔ CanHold interner.now.nodes self.now.marker extras.now }
+        ensures { IfOk result (λ yes.
+            IsTrue yes ↔ CanHold interner.now.nodes self.now.marker extras.now) }
     {
         self.marker
-            .evaluate_extras_and_python_version(interner, extras, python_versions)
+            .evaluate_extras_and_python_version(alloc, interner, extras, python_versions)
     }
 
     /// `evaluate_markers`, and the warnings of the evaluation in their order. Takes memory for them, and
@@ -83,19 +85,21 @@ impl<Url: UnnamedRequirementUrl> UnnamedRequirement<Url> {
         self.marker.evaluate(interner, environment, extras)
     }
 
-    /// The same where there is an environment, and else whether some environment has the requirement meant
-    /// with just these extras. Takes no memory.
+    /// `evaluate_markers` where there is an environment, and else whether some environment has the requirement
+    /// meant with just these extras, for which alone it may want memory.
     pub fn evaluate_optional_environment(
         &self,
+        alloc: Global,
         interner: &Interner,
         environment: Option<&MarkerEnvironment>,
         extras: &[ExtraName],
-    ) -> bool
+    ) -> Result<bool, AllocError>
         requires { IsTree interner.now.nodes self.now.marker }
-        ensures { AnswersIn interner.now.nodes self.now.marker (option_copied environment.entry) extras.now
-            result }
+        ensures answer { IfOk result
+            (AnswersIn interner.now.nodes self.now.marker (option_copied environment.entry) extras.now) }
+        ensures grown { IfErr result (λ _. option_copied environment.entry ≡ None) }
     {
         self.marker
-            .evaluate_optional_environment(interner, environment, extras)
+            .evaluate_optional_environment(alloc, interner, environment, extras)
     }
 }

@@ -72,7 +72,7 @@ fn evaluated(
     requires { IsTree interner.now.nodes read.now.marker }
 {
     let is_meant = read.evaluate_markers(interner, environment, extras);
-    let is_anywhere = read.evaluate_extras_and_python_version(interner, extras, &[]);
+    let is_anywhere = read.evaluate_extras_and_python_version(alloc, interner, extras, &[])?;
     let (holds, warnings) = read.evaluate_markers_and_report(alloc, interner, environment, extras)?;
     listed(alloc, (is_meant, holds), is_anywhere, &warnings)
 }
@@ -149,8 +149,8 @@ fn unnamed_evaluated(
     requires { IsTree interner.now.nodes read.now.marker }
 {
     let holds = read.evaluate_markers(interner, environment, extras);
-    let is_there = read.evaluate_optional_environment(interner, Some(environment), extras);
-    let is_anywhere = read.evaluate_optional_environment(interner, None, extras);
+    let is_there = read.evaluate_optional_environment(alloc, interner, Some(environment), extras)?;
+    let is_anywhere = read.evaluate_optional_environment(alloc, interner, None, extras)?;
     told(alloc, is_there, holds, is_anywhere)
 }
 
