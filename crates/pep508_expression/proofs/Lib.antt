@@ -2,3 +2,4 @@ pub mod Points
 pub mod TextPoints
 pub mod MadeTrees
 pub mod Nowhere
+pub mod Raising

@@ -1,2 +1,3 @@
 pub mod Expressions
 pub mod Trees
+pub mod Raising
