@@ -1,0 +1,156 @@
+//! Two diagrams as one.
+
+use crate::child::{Child, Pair};
+use crate::diagram::Diagram;
+use crate::form::Form;
+use crate::node::opened;
+use crate::pairing::pairs_of;
+use crate::walk::Walk;
+use pep508_tree::Interner;
+use std::alloc::{AllocError, Global};
+
+/// Two diagrams as one, and for each of its leaves those of the two.
+#[derive(Drop)]
+pub struct Merged {
+    pub diagram: Diagram,
+    pub leaves: Vec<(usize, usize)>,
+}
+
+/// A pair that waits for those that stand in it: of these the ones before a place are there.
+#[derive(Drop)]
+struct Waiting {
+    first: Child,
+    second: Child,
+    form: Form<Pair>,
+    pairs: Vec<Pair>,
+    seen: usize,
+}
+
+/// A pair that waits for all pairs that stand in it, if there are any.
+fn begun(
+    alloc: Global,
+    interner: &Interner,
+    a: &Diagram,
+    b: &Diagram,
+    first: Child,
+    second: Child,
+) -> Result<Option<Waiting>, AllocError> {
+    let left = opened(alloc, interner, &a.nodes, first)?;
+    let right = opened(alloc, interner, &b.nodes, second)?;
+    match pairs_of(alloc, first, second, left, right)? {
+        None => Ok(None),
+        Some(form) => {
+            let pairs = all_pairs(alloc, &form)?;
+            Ok(Some(Waiting {
+                first,
+                second,
+                form,
+                pairs,
+                seen: 0,
+            }))
+        }
+    }
+}
+
+/// The pairs that stand in a form, in turn.
+fn all_pairs(alloc: Global, form: &Form<Pair>) -> Result<Vec<Pair>, AllocError> {
+    let mut pairs = Vec::new(alloc);
+    pairs.push(form.first())?;
+    for pair in form.others(alloc)? {
+        pairs.push(pair)?;
+    }
+    Ok(pairs)
+}
+
+/// The place of the first of some pairs from a place on for which nothing is there, or their number.
+fn next_missing(walk: &mut Walk, pairs: &[Pair], from: usize) -> Result<usize, AllocError> {
+    for place in from..pairs.len() {
+        let pair = pairs[place];
+        if !walk.has(pair.0, pair.1)? {
+            return Ok(place);
+        }
+    }
+    Ok(pairs.len())
+}
+
+/// One step of a walk: the last that waits is put there, or what it waits for waits behind it. False where
+/// this can't be done.
+fn step(
+    alloc: Global,
+    interner: &Interner,
+    a: &Diagram,
+    b: &Diagram,
+    walk: &mut Walk,
+    waiting: &mut Vec<Waiting>,
+) -> Result<bool, AllocError> {
+    let Some(mut top) = waiting.pop() else {
+        return Ok(false);
+    };
+    top.seen = next_missing(walk, &top.pairs, top.seen)?;
+    if top.seen >= top.pairs.len() {
+        return walk.add_node(alloc, top.first, top.second, &top.form);
+    }
+    let next = top.pairs[top.seen];
+    let Some(below) = begun(alloc, interner, a, b, next.0, next.1)? else {
+        return Ok(false);
+    };
+    waiting.push(top)?;
+    waiting.push(below)?;
+    Ok(true)
+}
+
+/// Puts there what stands for a pair, unless it takes more than so many leaves.
+fn walked(
+    alloc: Global,
+    interner: &Interner,
+    a: &Diagram,
+    b: &Diagram,
+    most: u64,
+) -> Result<Option<Walk>, AllocError> {
+    let mut walk = Walk::new(alloc);
+    let mut waiting = Vec::new(alloc);
+    for _ in 0..u64::MAX {
+        if walk.has(a.root, b.root)? {
+            return Ok(Some(walk));
+        }
+        if waiting.is_empty() {
+            let Some(all) = begun(alloc, interner, a, b, a.root, b.root)? else {
+                return Ok(None);
+            };
+            waiting.push(all)?;
+        }
+        if !step(alloc, interner, a, b, &mut walk, &mut waiting)? {
+            return Ok(None);
+        }
+        if walk.leaves.len() as u64 > most {
+            return Ok(None);
+        }
+    }
+    Ok(None)
+}
+
+/// Two diagrams as one, unless it has more than so many leaves: these are the pairs of leaves that a valuation
+/// reaches in the two.
+pub fn merge_diagrams(
+    alloc: Global,
+    interner: &Interner,
+    a: &Diagram,
+    b: &Diagram,
+    most: u64,
+) -> Result<Option<Merged>, AllocError> {
+    let Some(walk) = walked(alloc, interner, a, b, most)? else {
+        return Ok(None);
+    };
+    let Some(root) = walk.get(a.root, b.root) else {
+        return Ok(None);
+    };
+    let leaves = walk.leaves.len();
+    Ok(Some(Merged {
+        diagram: Diagram {
+            nodes: walk.nodes,
+            root,
+            leaves,
+        },
+        leaves: walk.leaves,
+    }))
+}
