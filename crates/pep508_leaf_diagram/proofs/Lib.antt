@@ -1,0 +1,5 @@
+pub mod Joined
+pub mod Leaves
+pub mod Roots
+pub mod Pairs
+pub mod Splitting

@@ -1,5 +1,10 @@
 //! Diagrams whose leaves are numbers.
 
+ghost use Rattle.std.specs.Prelude.{◌≡◌, ◌<◌, cond, ℕ, [], List};
+ghost use Rattle.pep508_diagram.specs.Question.{Valuation};
+ghost use Rattle.pep508_tree.specs.Meaning.{NodeRecord, IsTree, holds};
+ghost use Rattle.pep508_leaf_diagram.specs.Pairing.{IsDiagram, leaf_in};
+
 use crate::child::{Child, child_of};
 use crate::node::Node;
 use pep508_tree::MarkerTree;
@@ -14,8 +19,12 @@ pub struct Diagram {
 }
 
 impl Diagram {
-    /// The diagram of one leaf.
-    pub fn one_leaf(alloc: Global) -> Diagram {
+    /// The diagram of one leaf. Takes no memory.
+    pub fn one_leaf(alloc: Global) -> Diagram
+        ensures made { (inner : List NodeRecord) → IsDiagram inner result }
+        ensures leaves { result.leaves ≡ 1 }
+        ensures leaf { (inner : List NodeRecord) (v : Valuation) → leaf_in inner result result.root v ≡ 0 }
+    {
         Diagram {
             nodes: Vec::new(alloc),
             root: Child::Leaf(0),
@@ -23,8 +32,13 @@ impl Diagram {
         }
     }
 
-    /// The diagram with leaf 1 where a tree holds, and leaf 0 where it does not.
-    pub fn of_tree(alloc: Global, tree: MarkerTree) -> Diagram {
+    /// The diagram with leaf 1 where a tree holds, and leaf 0 where it does not. Takes no memory.
+    pub fn of_tree(alloc: Global, tree: MarkerTree) -> Diagram
+        ensures made { (inner : List NodeRecord) → IsTree inner tree → IsDiagram inner result }
+        ensures leaves { result.leaves ≡ 2 }
+        ensures leaf { (inner : List NodeRecord) (v : Valuation) →
+            leaf_in inner result result.root v ≡ cond (holds inner tree v) 1 0 }
+    {
         Diagram {
             nodes: Vec::new(alloc),
             root: child_of(tree),

@@ -1,5 +1,12 @@
 //! What is asked of one variable, and what stands for each answer.
 
+ghost use Rattle.std.specs.Prelude.{◌≡◌, [], ◌∷◌, IfOk, IsTrue, map};
+ghost use Rattle.pep508_diagram.specs.Text.{text_cmp};
+ghost use Rattle.pep508_tree.specs.Nodes.{first_child, second_child, version_branches};
+ghost use Rattle.pep508_tree.specs.Nodes.{text_branches, node_rank, node_text, node_place};
+ghost use Rattle.pep508_leaf_diagram.specs.Forms.{record_of, others, IsSingle};
+ghost use Rattle.pep508_leaf_diagram.specs.Joining.{head_or, joined_by, node_joined};
+
 use pep440_version::Version;
 use pep508_diagram::{Branch, Flag, MarkerText, NodeValue, VersionVariable, text_rank};
 use pep508_marker::MarkerValueString;
@@ -20,7 +27,9 @@ pub(crate) enum Form<C> {
 pub(crate) fn copy_of<T: NodeValue>(
     alloc: Global,
     boundary: &Boundary<T>,
-) -> Result<Boundary<T>, AllocError> {
+) -> Result<Boundary<T>, AllocError>
+    ensures { IfOk result (λ copy. copy ≡ boundary.now) }
+{
     Ok(match boundary {
         Boundary::At(value) => Boundary::At(value.copied(alloc)?),
         Boundary::JustAbove(value) => Boundary::JustAbove(value.copied(alloc)?),
@@ -30,7 +39,9 @@ pub(crate) fn copy_of<T: NodeValue>(
 fn children_of<T, C: Copy>(
     alloc: Global,
     later: &[Branch<T, C>],
-) -> Result<Vec<C>, AllocError> {
+) -> Result<Vec<C>, AllocError>
+    ensures { IfOk result (λ children. children.items ≡ map (λ branch. branch.child) later.now) }
+{
     let mut children = Vec::new(alloc);
     for branch in later {
         children.push(branch.child)?;
@@ -38,33 +49,48 @@ fn children_of<T, C: Copy>(
     Ok(children)
 }
 
+fn just<C: Drop>(alloc: Global, child: C) -> Result<Vec<C>, AllocError>
+    ensures { IfOk result (λ children. children.items ≡ child ∷ []) }
+{
+    let mut children = Vec::new(alloc);
+    children.push(child)?;
+    Ok(children)
+}
+
 /// Branches at the same boundaries with other children. Neighbours that are the same are joined.
+#[tactic(auto, using(crate::proofs::Joined::joined_none))]
 fn joined<T: NodeValue, C: Drop, D: Copy + PartialEq>(
     alloc: Global,
     first: D,
     later: &[Branch<T, C>],
     children: &[D],
-) -> Result<Vec<Branch<T, D>>, AllocError> {
+) -> Result<Vec<Branch<T, D>>, AllocError>
+    ensures { IfOk result (λ branches. branches.items ≡ joined_by D.eq first later.now children.now) }
+{
     let mut branches = Vec::new(alloc);
     let mut last = first;
     let mut left = children;
     for branch in later {
-        if let Some((child, rest)) = left.split_first() {
-            left = rest;
-            if *child != last {
-                last = *child;
-                let boundary = copy_of(alloc, &branch.boundary)?;
-                branches.push(Branch {
-                    boundary,
-                    child: last,
-                })?;
-            }
+        let Some((child, rest)) = left.split_first() else {
+            return Ok(branches);
+        };
+        left = rest;
+        if *child == last {
+            continue;
         }
+        last = *child;
+        let boundary = copy_of(alloc, &branch.boundary)?;
+        branches.push(Branch {
+            boundary,
+            child: last,
+        })?;
     }
     Ok(branches)
 }
 
-fn first_or<D: Copy>(children: &[D], other: D) -> D {
+fn first_or<D: Copy>(children: &[D], other: D) -> D
+    ensures { result ≡ head_or children.now other }
+{
     match children.split_first() {
         Some((child, _)) => *child,
         None => other,
@@ -73,7 +99,9 @@ fn first_or<D: Copy>(children: &[D], other: D) -> D {
 
 impl<C: Copy> Form<C> {
     /// The first child, or the set one of a flag.
-    pub fn first(&self) -> C {
+    pub fn first(&self) -> C
+        ensures { result ≡ first_child (record_of self.now) }
+    {
         match self {
             Form::Versions(_, first, _) => *first,
             Form::Texts(_, first, _) => *first,
@@ -82,11 +110,13 @@ impl<C: Copy> Form<C> {
     }
 
     /// The other children, in turn.
-    pub fn others(&self, alloc: Global) -> Result<Vec<C>, AllocError> {
+    pub fn others(&self, alloc: Global) -> Result<Vec<C>, AllocError>
+        ensures { IfOk result (λ children. children.items ≡ others (record_of self.now)) }
+    {
         match self {
             Form::Versions(_, _, later) => children_of(alloc, later),
             Form::Texts(_, _, later) => children_of(alloc, later),
-            Form::Flagged(_, _, unset) => Ok(vec![in alloc; *unset]?),
+            Form::Flagged(_, _, unset) => just(alloc, *unset),
         }
     }
 
@@ -96,7 +126,9 @@ impl<C: Copy> Form<C> {
         alloc: Global,
         first: D,
         others: &[D],
-    ) -> Result<Form<D>, AllocError> {
+    ) -> Result<Form<D>, AllocError>
+        ensures { IfOk result (λ form. record_of form ≡ node_joined D.eq (record_of self.now) first others.now) }
+    {
         Ok(match self {
             Form::Versions(key, _, later) => Form::Versions(
                 *key,
@@ -116,8 +148,41 @@ impl<C: Copy> Form<C> {
         })
     }
 
+    /// The unset child of a flag, and else the first one.
+    pub fn second(&self) -> C
+        ensures { result ≡ second_child (record_of self.now) }
+    {
+        match self {
+            Form::Versions(_, first, _) => *first,
+            Form::Texts(_, first, _) => *first,
+            Form::Flagged(_, _, unset) => *unset,
+        }
+    }
+
+    /// The branches between versions.
+    pub fn versions(&self) -> &[Branch<Version, C>]
+        ensures { result.now ≡ version_branches (record_of self.now) }
+    {
+        match self {
+            Form::Versions(_, _, later) => later,
+            _ => &[],
+        }
+    }
+
+    /// The branches between texts.
+    pub fn texts(&self) -> &[Branch<MarkerText, C>]
+        ensures { result.now ≡ text_branches (record_of self.now) }
+    {
+        match self {
+            Form::Texts(_, _, later) => later,
+            _ => &[],
+        }
+    }
+
     /// Whether there is but one child.
-    pub fn is_alone(&self) -> bool {
+    pub fn is_alone(&self) -> bool
+        ensures { IsTrue result → IsSingle (record_of self.now) }
+    {
         match self {
             Form::Versions(_, _, later) => later.is_empty(),
             Form::Texts(_, _, later) => later.is_empty(),
@@ -126,7 +191,9 @@ impl<C: Copy> Form<C> {
     }
 
     /// The place of the variable among the kinds of variables and their keys.
-    fn rank(&self) -> u8 {
+    fn rank(&self) -> u8
+        ensures { result ≡ node_rank (record_of self.now) }
+    {
         match self {
             Form::Versions(VersionVariable::ImplementationVersion, _, _) => 0,
             Form::Versions(VersionVariable::PythonFullVersion, _, _) => 1,
@@ -136,7 +203,9 @@ impl<C: Copy> Form<C> {
     }
 
     /// The text that the variable is about, if it is a flag.
-    fn text(&self) -> &str {
+    fn text(&self) -> &str
+        ensures { result.now ≡ node_text (record_of self.now) }
+    {
         match self {
             Form::Flagged(flag, _, _) => flag.text(),
             _ => "",
@@ -144,7 +213,9 @@ impl<C: Copy> Form<C> {
     }
 
     /// By the variables alone.
-    pub fn cmp_variable(&self, other: &Form<C>) -> Ordering {
+    pub fn cmp_variable(&self, other: &Form<C>) -> Ordering
+        ensures { result ≡ text_cmp (node_place (record_of self.now)) (node_place (record_of other.now)) }
+    {
         self.rank()
             .cmp(&other.rank())
             .then(self.text().cmp(other.text()))

@@ -1,10 +1,17 @@
 //! Two diagrams as one.
 
+ghost use Rattle.std.specs.Prelude.{◌≡◌, ◌∷◌, List, IfOk, IfSome};
+ghost use Rattle.std.specs.List.{AllByRecursion};
+ghost use Rattle.pep508_tree.specs.Meaning.{NodeRecord};
+ghost use Rattle.pep508_tree.specs.Nodes.{first_child};
+ghost use Rattle.pep508_leaf_diagram.specs.Forms.{record_of, others};
+ghost use Rattle.pep508_leaf_diagram.specs.Pairing.{IsDiagram, MadeIn};
+ghost use Rattle.pep508_leaf_diagram.specs.Walks.{IsWalk, IsWaiting, AreMerged};
+
 use crate::child::{Child, Pair};
 use crate::diagram::Diagram;
 use crate::form::Form;
-use crate::node::opened;
-use crate::pairing::pairs_of;
+use crate::pairing::split;
 use crate::walk::Walk;
 use pep508_tree::Interner;
 use std::alloc::{AllocError, Global};
@@ -34,10 +41,14 @@ fn begun(
     b: &Diagram,
     first: Child,
     second: Child,
-) -> Result<Option<Waiting>, AllocError> {
-    let left = opened(alloc, interner, &a.nodes, first)?;
-    let right = opened(alloc, interner, &b.nodes, second)?;
-    match pairs_of(alloc, first, second, left, right)? {
+) -> Result<Option<Waiting>, AllocError>
+    requires a { IsDiagram interner.now.nodes a.now }
+    requires b { IsDiagram interner.now.nodes b.now }
+    requires first { MadeIn interner.now.nodes a.now first }
+    requires second { MadeIn interner.now.nodes b.now second }
+    ensures { IfOk result (λ begun. IfSome begun (IsWaiting interner.now.nodes a.now b.now)) }
+{
+    match split(alloc, interner, a, b, first, second)? {
         None => Ok(None),
         Some(form) => {
             let pairs = all_pairs(alloc, &form)?;
@@ -53,17 +64,21 @@ fn begun(
 }
 
 /// The pairs that stand in a form, in turn.
-fn all_pairs(alloc: Global, form: &Form<Pair>) -> Result<Vec<Pair>, AllocError> {
+fn all_pairs(alloc: Global, form: &Form<Pair>) -> Result<Vec<Pair>, AllocError>
+    ensures { IfOk result (λ pairs. pairs.items ≡ first_child (record_of form.now) ∷ others (record_of form.now)) }
+{
     let mut pairs = Vec::new(alloc);
     pairs.push(form.first())?;
-    for pair in form.others(alloc)? {
-        pairs.push(pair)?;
-    }
+    let others = form.others(alloc)?;
+    pairs.extend_from_slice(&others)?;
     Ok(pairs)
 }
 
 /// The place of the first of some pairs from a place on for which nothing is there, or their number.
-fn next_missing(walk: &mut Walk, pairs: &[Pair], from: usize) -> Result<usize, AllocError> {
+fn next_missing(walk: &mut Walk, pairs: &[Pair], from: usize) -> Result<usize, AllocError>
+    ensures { IfOk result (λ _. (inner : List NodeRecord) (a b : Diagram) → IsWalk inner a b walk.old →
+        IsWalk inner a b walk.new) }
+{
     for place in from..pairs.len() {
         let pair = pairs[place];
         if !walk.has(pair.0, pair.1)? {
@@ -82,7 +97,14 @@ fn step(
     b: &Diagram,
     walk: &mut Walk,
     waiting: &mut Vec<Waiting>,
-) -> Result<bool, AllocError> {
+) -> Result<bool, AllocError>
+    requires a { IsDiagram interner.now.nodes a.now }
+    requires b { IsDiagram interner.now.nodes b.now }
+    requires waiting { AllByRecursion (IsWaiting interner.now.nodes a.now b.now) waiting.old.items }
+    requires walk { IsWalk interner.now.nodes a.now b.now walk.old }
+    ensures waiting { IfOk result (λ _. AllByRecursion (IsWaiting interner.now.nodes a.now b.now) waiting.new.items) }
+    ensures walk { IfOk result (λ _. IsWalk interner.now.nodes a.now b.now walk.new) }
+{
     let Some(mut top) = waiting.pop() else {
         return Ok(false);
     };
@@ -106,7 +128,11 @@ fn walked(
     a: &Diagram,
     b: &Diagram,
     most: u64,
-) -> Result<Option<Walk>, AllocError> {
+) -> Result<Option<Walk>, AllocError>
+    requires a { IsDiagram interner.now.nodes a.now }
+    requires b { IsDiagram interner.now.nodes b.now }
+    ensures { IfOk result (λ walk. IfSome walk (IsWalk interner.now.nodes a.now b.now)) }
+{
     let mut walk = Walk::new(alloc);
     let mut waiting = Vec::new(alloc);
     for _ in 0..u64::MAX {
@@ -137,7 +163,11 @@ pub fn merge_diagrams(
     a: &Diagram,
     b: &Diagram,
     most: u64,
-) -> Result<Option<Merged>, AllocError> {
+) -> Result<Option<Merged>, AllocError>
+    requires a { IsDiagram interner.now.nodes a.now }
+    requires b { IsDiagram interner.now.nodes b.now }
+    ensures { IfOk result (λ merged. IfSome merged (AreMerged interner.now.nodes a.now b.now)) }
+{
     let Some(walk) = walked(alloc, interner, a, b, most)? else {
         return Ok(None);
     };

@@ -1,5 +1,12 @@
 //! What is known of two diagrams that are merged.
 
+ghost use Rattle.std.specs.Prelude.{List, IfOk, IfSome};
+ghost use Rattle.pep508_tree.specs.Meaning.{NodeRecord};
+ghost use Rattle.pep508_leaf_diagram.specs.Forms.{record_of};
+ghost use Rattle.pep508_leaf_diagram.specs.declared.diagram.Diagram.{Diagram};
+ghost use Rattle.pep508_leaf_diagram.specs.Pairing.{AreSplit};
+ghost use Rattle.pep508_leaf_diagram.specs.Walks.{IsBoth, IsWalk, AreBoth, IsFound};
+
 use crate::child::{Child, Pair};
 use crate::form::Form;
 use crate::node::{Node, placed};
@@ -31,7 +38,9 @@ pub(crate) struct Walk {
 }
 
 /// What stands for a pair, where it was remembered at this place.
-fn at_place(done: &[Done], asked: Asked, place: usize) -> Option<Child> {
+fn at_place(done: &[Done], asked: Asked, place: usize) -> Option<Child>
+    ensures { IfSome result (λ child. IsFound asked child done.now) }
+{
     if place < done.len() {
         let found = done[place];
         if found.asked == asked {
@@ -43,7 +52,9 @@ fn at_place(done: &[Done], asked: Asked, place: usize) -> Option<Child> {
 
 impl Walk {
     /// Nothing is there.
-    pub fn new(alloc: Global) -> Walk {
+    pub fn new(alloc: Global) -> Walk
+        ensures { (inner : List NodeRecord) (a b : Diagram) → IsWalk inner a b result }
+    {
         Walk {
             places: HashMap::new(alloc),
             done: Vec::new(alloc),
@@ -53,7 +64,10 @@ impl Walk {
     }
 
     /// What stands for a pair, if it is there.
-    pub fn get(&self, first: Child, second: Child) -> Option<Child> {
+    pub fn get(&self, first: Child, second: Child) -> Option<Child>
+        ensures { (inner : List NodeRecord) (a b : Diagram) → IsWalk inner a b self.now → IfSome result
+            (IsBoth inner a b self.now.nodes.items self.now.leaves.items first second) }
+    {
         let asked = Asked { first, second };
         match self.places.get(&asked) {
             Some(place) => at_place(&self.done, asked, *place),
@@ -62,7 +76,11 @@ impl Walk {
     }
 
     /// Remembers what stands for a pair.
-    fn remember(&mut self, first: Child, second: Child, child: Child) -> Result<(), AllocError> {
+    fn remember(&mut self, first: Child, second: Child, child: Child) -> Result<(), AllocError>
+        ensures { IfOk result (λ _. (inner : List NodeRecord) (a b : Diagram) → IsWalk inner a b self.old →
+            IsBoth inner a b self.old.nodes.items self.old.leaves.items first second child →
+            IsWalk inner a b self.new) }
+    {
         let place = self.done.len();
         self.done.push(Done {
             asked: Asked { first, second },
@@ -73,14 +91,20 @@ impl Walk {
     }
 
     /// Puts a leaf there for two leaves.
-    fn add_leaf(&mut self, first: usize, second: usize) -> Result<(), AllocError> {
+    fn add_leaf(&mut self, first: usize, second: usize) -> Result<(), AllocError>
+        ensures { IfOk result (λ _. (inner : List NodeRecord) (a b : Diagram) → IsWalk inner a b self.old →
+            IsWalk inner a b self.new) }
+    {
         let number = self.leaves.len();
         self.leaves.push((first, second))?;
         self.remember(Child::Leaf(first), Child::Leaf(second), Child::Leaf(number))
     }
 
     /// Whether something stands for a pair. Two leaves get a leaf where they have none.
-    pub fn has(&mut self, first: Child, second: Child) -> Result<bool, AllocError> {
+    pub fn has(&mut self, first: Child, second: Child) -> Result<bool, AllocError>
+        ensures { IfOk result (λ _. (inner : List NodeRecord) (a b : Diagram) → IsWalk inner a b self.old →
+            IsWalk inner a b self.new) }
+    {
         if self.get(first, second).is_some() {
             return Ok(true);
         }
@@ -95,7 +119,11 @@ impl Walk {
     }
 
     /// What stands for each of some pairs, if it is there for all.
-    fn get_all(&self, alloc: Global, pairs: &[Pair]) -> Result<Option<Vec<Child>>, AllocError> {
+    fn get_all(&self, alloc: Global, pairs: &[Pair]) -> Result<Option<Vec<Child>>, AllocError>
+        ensures { IfOk result (λ children. IfSome children (λ children. (inner : List NodeRecord) (a b : Diagram) →
+            IsWalk inner a b self.now →
+            AreBoth inner a b self.now.nodes.items self.now.leaves.items pairs.now children.items)) }
+    {
         let mut children = Vec::with_capacity(alloc, pairs.len())?;
         for pair in pairs {
             match self.get(pair.0, pair.1) {
@@ -114,7 +142,10 @@ impl Walk {
         first: Child,
         second: Child,
         form: &Form<Pair>,
-    ) -> Result<bool, AllocError> {
+    ) -> Result<bool, AllocError>
+        ensures { IfOk result (λ _. (inner : List NodeRecord) (a b : Diagram) → IsWalk inner a b self.old →
+            AreSplit inner a b first second (record_of form.now) → IsWalk inner a b self.new) }
+    {
         let pair = form.first();
         let Some(child) = self.get(pair.0, pair.1) else {
             return Ok(false);
