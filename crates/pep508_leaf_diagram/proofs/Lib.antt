@@ -3,3 +3,4 @@ pub mod Leaves
 pub mod Roots
 pub mod Pairs
 pub mod Splitting
+pub mod Walking

@@ -81,7 +81,7 @@ fn next_missing(walk: &mut Walk, pairs: &[Pair], from: usize) -> Result<usize, A
 {
     for place in from..pairs.len() {
         let pair = pairs[place];
-        if !walk.has(pair.0, pair.1)? {
+        if !walk.has(&pair.0, &pair.1)? {
             return Ok(place);
         }
     }
@@ -110,7 +110,7 @@ fn step(
     };
     top.seen = next_missing(walk, &top.pairs, top.seen)?;
     if top.seen >= top.pairs.len() {
-        return walk.add_node(alloc, top.first, top.second, &top.form);
+        return walk.add_node(alloc, &top.first, &top.second, &top.form);
     }
     let next = top.pairs[top.seen];
     let Some(below) = begun(alloc, interner, a, b, next.0, next.1)? else {
@@ -136,7 +136,7 @@ fn walked(
     let mut walk = Walk::new(alloc);
     let mut waiting = Vec::new(alloc);
     for _ in 0..u64::MAX {
-        if walk.has(a.root, b.root)? {
+        if walk.has(&a.root, &b.root)? {
             return Ok(Some(walk));
         }
         if waiting.is_empty() {
@@ -171,7 +171,7 @@ pub fn merge_diagrams(
     let Some(walk) = walked(alloc, interner, a, b, most)? else {
         return Ok(None);
     };
-    let Some(root) = walk.get(a.root, b.root) else {
+    let Some(root) = walk.get(&a.root, &b.root) else {
         return Ok(None);
     };
     let leaves = walk.leaves.len();

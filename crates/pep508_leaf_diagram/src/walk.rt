@@ -1,6 +1,6 @@
 //! What is known of two diagrams that are merged.
 
-ghost use Rattle.std.specs.Prelude.{List, IfOk, IfSome};
+ghost use Rattle.std.specs.Prelude.{◌≡◌, ◌↔◌, List, IfOk, IfSome, IsTrue};
 ghost use Rattle.pep508_tree.specs.Meaning.{NodeRecord};
 ghost use Rattle.pep508_leaf_diagram.specs.Forms.{record_of};
 ghost use Rattle.pep508_leaf_diagram.specs.declared.diagram.Diagram.{Diagram};
@@ -20,6 +20,18 @@ pub(crate) struct Asked {
     pub second: Child,
 }
 
+/// Children are equal exactly where they are the same. Does nothing.
+#[tactic(auto, using(pep508_tree::proofs::Same::same_trees))]
+pub(crate) fn equal_children()
+    ensures { (a b : Child) → IsTrue (⟦<Child as PartialEq>⟧.eq a b) ↔ (a ≡ b) }
+{}
+
+/// The same of what is asked.
+#[tactic(auto, using(pep508_tree::proofs::Same::same_trees))]
+fn equal_asked()
+    ensures { (a b : Asked) → IsTrue (⟦<Asked as PartialEq>⟧.eq a b) → a ≡ b }
+{}
+
 /// What stands in the merged diagram for a pair.
 #[derive(Clone, Copy)]
 pub(crate) struct Done {
@@ -38,16 +50,14 @@ pub(crate) struct Walk {
 }
 
 /// What stands for a pair, where it was remembered at this place.
-fn at_place(done: &[Done], asked: Asked, place: usize) -> Option<Child>
-    ensures { IfSome result (λ child. IsFound asked child done.now) }
+fn at_place(done: &[Done], asked: &Asked, place: usize) -> Option<Child>
+    ensures { IfSome result (λ child. IsFound asked.now child done.now) }
 {
-    if place < done.len() {
-        let found = done[place];
-        if found.asked == asked {
-            return Some(found.child);
-        }
+    equal_asked();
+    match done.get(place) {
+        Some(found) if found.asked == *asked => Some(found.child),
+        _ => None,
     }
-    None
 }
 
 impl Walk {
@@ -64,29 +74,41 @@ impl Walk {
     }
 
     /// What stands for a pair, if it is there.
-    pub fn get(&self, first: Child, second: Child) -> Option<Child>
+    pub fn get(&self, first: &Child, second: &Child) -> Option<Child>
         ensures { (inner : List NodeRecord) (a b : Diagram) → IsWalk inner a b self.now → IfSome result
-            (IsBoth inner a b self.now.nodes.items self.now.leaves.items first second) }
+            (IsBoth inner a b self.now.nodes.items self.now.leaves.items first.now second.now) }
     {
-        let asked = Asked { first, second };
+        let asked = Asked {
+            first: *first,
+            second: *second,
+        };
         match self.places.get(&asked) {
-            Some(place) => at_place(&self.done, asked, *place),
+            Some(place) => at_place(&self.done, &asked, *place),
             None => None,
         }
     }
 
     /// Remembers what stands for a pair.
-    fn remember(&mut self, first: Child, second: Child, child: Child) -> Result<(), AllocError>
+    fn remember(&mut self, first: &Child, second: &Child, child: Child) -> Result<(), AllocError>
         ensures { IfOk result (λ _. (inner : List NodeRecord) (a b : Diagram) → IsWalk inner a b self.old →
-            IsBoth inner a b self.old.nodes.items self.old.leaves.items first second child →
+            IsBoth inner a b self.old.nodes.items self.old.leaves.items first.now second.now child →
             IsWalk inner a b self.new) }
     {
         let place = self.done.len();
         self.done.push(Done {
-            asked: Asked { first, second },
+            asked: Asked {
+                first: *first,
+                second: *second,
+            },
             child,
         })?;
-        self.places.insert(Asked { first, second }, place)?;
+        self.places.insert(
+            Asked {
+                first: *first,
+                second: *second,
+            },
+            place,
+        )?;
         Ok(())
     }
 
@@ -97,11 +119,16 @@ impl Walk {
     {
         let number = self.leaves.len();
         self.leaves.push((first, second))?;
-        self.remember(Child::Leaf(first), Child::Leaf(second), Child::Leaf(number))
+        self.remember(
+            &Child::Leaf(first),
+            &Child::Leaf(second),
+            Child::Leaf(number),
+        )?;
+        Ok(())
     }
 
     /// Whether something stands for a pair. Two leaves get a leaf where they have none.
-    pub fn has(&mut self, first: Child, second: Child) -> Result<bool, AllocError>
+    pub fn has(&mut self, first: &Child, second: &Child) -> Result<bool, AllocError>
         ensures { IfOk result (λ _. (inner : List NodeRecord) (a b : Diagram) → IsWalk inner a b self.old →
             IsWalk inner a b self.new) }
     {
@@ -114,7 +141,7 @@ impl Walk {
         let Child::Leaf(right) = second else {
             return Ok(false);
         };
-        self.add_leaf(left, right)?;
+        self.add_leaf(*left, *right)?;
         Ok(true)
     }
 
@@ -126,7 +153,7 @@ impl Walk {
     {
         let mut children = Vec::with_capacity(alloc, pairs.len())?;
         for pair in pairs {
-            match self.get(pair.0, pair.1) {
+            match self.get(&pair.0, &pair.1) {
                 Some(child) => children.push(child)?,
                 None => return Ok(None),
             }
@@ -139,23 +166,25 @@ impl Walk {
     pub fn add_node(
         &mut self,
         alloc: Global,
-        first: Child,
-        second: Child,
+        first: &Child,
+        second: &Child,
         form: &Form<Pair>,
     ) -> Result<bool, AllocError>
         ensures { IfOk result (λ _. (inner : List NodeRecord) (a b : Diagram) → IsWalk inner a b self.old →
-            AreSplit inner a b first second (record_of form.now) → IsWalk inner a b self.new) }
+            AreSplit inner a b first.now second.now (record_of form.now) → IsWalk inner a b self.new) }
     {
+        equal_children();
         let pair = form.first();
-        let Some(child) = self.get(pair.0, pair.1) else {
+        let Some(child) = self.get(&pair.0, &pair.1) else {
             return Ok(false);
         };
-        let Some(others) = self.get_all(alloc, &form.others(alloc)?)? else {
+        let pairs = form.others(alloc)?;
+        let Some(others) = self.get_all(alloc, &pairs)? else {
             return Ok(false);
         };
         let joined = form.joined(alloc, child, &others)?;
-        let child = placed(&mut self.nodes, joined)?;
-        self.remember(first, second, child)?;
+        let put = placed(&mut self.nodes, joined)?;
+        self.remember(first, second, put)?;
         Ok(true)
     }
 }
