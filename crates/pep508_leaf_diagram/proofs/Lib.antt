@@ -4,3 +4,5 @@ pub mod Roots
 pub mod Pairs
 pub mod Splitting
 pub mod Walking
+pub mod Passes
+pub mod LeafTrees

@@ -23,6 +23,13 @@ use Rattle.pep508_leaf_diagram.specs.Walks.{IsBoth, IsDone, AreBoth, IsFound}
 use Rattle.pep508_leaf_diagram.proofs.Joined.{place_joined, rises_joined, children_joined, chosen_joined, first_and_others}
 use Rattle.pep508_leaf_diagram.proofs.Leaves.{stands_more, stands_made, above_kept, leaf_kept, more_leaves, leaf_is_below}
 
+-- what holds of all pairs of children holds of each of them in turn
+pub pair_of : (P : Child × Child → Type 0) (node : NodeOf (Child × Child)) (pairs : List (Child × Child)) (i : ℕ)
+    (pair : Child × Child) → AllChildren P node → pairs ≡ first_child node ∷ others node → i < length pairs →
+    pair ≡ get_or pairs i pair → P pair
+pair_of P node pairs i pair all e inside is =
+    each_of_list P pairs i pair (subst (AllByRecursion P) (sym e) (first_and_others P node all)) inside is
+
 abbrev pub AllDone : List NodeRecord → Diagram → Diagram → List (NodeOf Child) → List (ℕ × ℕ) → List Done → Type 0
 AllDone inner a b nodes leaves done = AllByRecursion (IsDone inner a b nodes leaves) done
 
@@ -30,6 +37,15 @@ pub all_behind : {C : Type 0} (P : C → Type 0) (xs : List C) (x : C) → AllBy
     AllByRecursion P (xs ++ x ∷ [])
 all_behind P [] x all one = (one, tt)
 all_behind P (y ∷ xs) x all one = (all.0, all_behind P xs x all.1 one)
+
+parts_of : {C : Type 0} (P : C → Type 0) (xs : List C) (x : C) → AllByRecursion P (xs ++ x ∷ []) →
+    AllByRecursion P xs × P x
+parts_of P [] x all = (tt, all.0)
+parts_of P (y ∷ xs) x all = let later = parts_of P xs x all.1 in ((all.0, later.0), later.1)
+
+pub all_before : {C : Type 0} (P : C → Type 0) (whole xs : List C) (x : C) → whole ≡ xs ++ x ∷ [] →
+    AllByRecursion P whole → AllByRecursion P xs × P x
+all_before P whole xs x e all = parts_of P xs x (subst (AllByRecursion P) e all)
 
 pub all_weaker : {C : Type 0} (P Q : C → Type 0) → ((x : C) → P x → Q x) → (xs : List C) → AllByRecursion P xs →
     AllByRecursion Q xs

@@ -39,22 +39,22 @@ fn begun(
     interner: &Interner,
     a: &Diagram,
     b: &Diagram,
-    first: Child,
-    second: Child,
+    first: &Child,
+    second: &Child,
 ) -> Result<Option<Waiting>, AllocError>
     requires a { IsDiagram interner.now.nodes a.now }
     requires b { IsDiagram interner.now.nodes b.now }
-    requires first { MadeIn interner.now.nodes a.now first }
-    requires second { MadeIn interner.now.nodes b.now second }
+    requires first { MadeIn interner.now.nodes a.now first.now }
+    requires second { MadeIn interner.now.nodes b.now second.now }
     ensures { IfOk result (λ begun. IfSome begun (IsWaiting interner.now.nodes a.now b.now)) }
 {
-    match split(alloc, interner, a, b, first, second)? {
+    match split(alloc, interner, a, b, *first, *second)? {
         None => Ok(None),
         Some(form) => {
             let pairs = all_pairs(alloc, &form)?;
             Ok(Some(Waiting {
-                first,
-                second,
+                first: *first,
+                second: *second,
                 form,
                 pairs,
                 seen: 0,
@@ -88,6 +88,26 @@ fn next_missing(walk: &mut Walk, pairs: &[Pair], from: usize) -> Result<usize, A
     Ok(pairs.len())
 }
 
+/// The same with so many pairs that are there.
+fn up_to(waiting: Waiting, seen: usize) -> Waiting
+    ensures { (inner : List NodeRecord) (a b : Diagram) → IsWaiting inner a b waiting → IsWaiting inner a b result }
+{
+    let Waiting {
+        first,
+        second,
+        form,
+        pairs,
+        seen: _,
+    } = waiting;
+    Waiting {
+        first,
+        second,
+        form,
+        pairs,
+        seen,
+    }
+}
+
 /// One step of a walk: the last that waits is put there, or what it waits for waits behind it. False where
 /// this can't be done.
 fn step(
@@ -105,18 +125,19 @@ fn step(
     ensures waiting { IfOk result (λ _. AllByRecursion (IsWaiting interner.now.nodes a.now b.now) waiting.new.items) }
     ensures walk { IfOk result (λ _. IsWalk interner.now.nodes a.now b.now walk.new) }
 {
-    let Some(mut top) = waiting.pop() else {
+    let Some(top) = waiting.pop() else {
         return Ok(false);
     };
-    top.seen = next_missing(walk, &top.pairs, top.seen)?;
-    if top.seen >= top.pairs.len() {
-        return walk.add_node(alloc, &top.first, &top.second, &top.form);
+    let seen = next_missing(walk, &top.pairs, top.seen)?;
+    if seen >= top.pairs.len() {
+        let added = walk.add_node(alloc, &top.first, &top.second, &top.form)?;
+        return Ok(added);
     }
-    let next = top.pairs[top.seen];
-    let Some(below) = begun(alloc, interner, a, b, next.0, next.1)? else {
+    let pair = top.pairs[seen];
+    let Some(below) = begun(alloc, interner, a, b, &pair.0, &pair.1)? else {
         return Ok(false);
     };
-    waiting.push(top)?;
+    waiting.push(up_to(top, seen))?;
     waiting.push(below)?;
     Ok(true)
 }
@@ -134,16 +155,17 @@ fn walked(
     ensures { IfOk result (λ walk. IfSome walk (IsWalk interner.now.nodes a.now b.now)) }
 {
     let mut walk = Walk::new(alloc);
+    if walk.has(&a.root, &b.root)? {
+        return Ok(Some(walk));
+    }
+    let Some(all) = begun(alloc, interner, a, b, &a.root, &b.root)? else {
+        return Ok(None);
+    };
     let mut waiting = Vec::new(alloc);
+    waiting.push(all)?;
     for _ in 0..u64::MAX {
         if walk.has(&a.root, &b.root)? {
             return Ok(Some(walk));
-        }
-        if waiting.is_empty() {
-            let Some(all) = begun(alloc, interner, a, b, a.root, b.root)? else {
-                return Ok(None);
-            };
-            waiting.push(all)?;
         }
         if !step(alloc, interner, a, b, &mut walk, &mut waiting)? {
             return Ok(None);

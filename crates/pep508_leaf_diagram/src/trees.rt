@@ -1,5 +1,17 @@
 //! Where each leaf of a diagram is reached, as marker trees.
 
+ghost use Rattle.std.specs.Prelude.{◌≡◌, ◌↔◌, [], ◌≤◌, length, map, IfOk, IsTrue};
+ghost use Rattle.pep508_tree.specs.Tree.{Tree};
+ghost use Rattle.pep508_leaf_diagram.specs.declared.child.Child.TheVariants.{Node};
+ghost use Rattle.pep508_tree.specs.Meaning.{IsTree, Extends};
+ghost use Rattle.pep508_tree.specs.Nodes.{first_child, node_place, AllChildren, Above, IsRising, IsJoined, Made};
+ghost use Rattle.pep508_tree.specs.Truths.{IsTreeOf};
+ghost use Rattle.pep508_leaf_diagram.specs.Forms.{record_of, others};
+ghost use Rattle.pep508_leaf_diagram.specs.Joining.{node_joined};
+ghost use Rattle.pep508_leaf_diagram.specs.Leaves.{Stands, IsGraph, leaf_at};
+ghost use Rattle.pep508_leaf_diagram.specs.Pairing.{leaf_in};
+ghost use Rattle.pep508_leaf_diagram.specs.Trees.{tree_below, ArePushed, AreLeafTrees, leaf_is};
+
 use crate::child::Child;
 use crate::diagram::Diagram;
 use crate::form::Form;
@@ -8,12 +20,30 @@ use crate::node::Node;
 use pep508_tree::{Interner, MarkerTree};
 use std::alloc::{AllocError, Global};
 
-/// The tree that holds where a leaf is reached below a child, if that is there for nodes.
-fn tree_of(trees: &[MarkerTree], leaf: usize, child: Child) -> MarkerTree {
+/// The tree at a place.
+fn tree_at(trees: &[MarkerTree], place: usize) -> MarkerTree
+    ensures { result ≡ tree_below trees.now 0 (Node place) }
+{
+    match trees.get(place) {
+        Some(tree) => *tree,
+        None => MarkerTree::FALSE,
+    }
+}
+
+/// The tree that holds where a leaf is reached below a child, from those of nodes.
+fn tree_of(trees: &[MarkerTree], leaf: usize, child: &Child) -> MarkerTree
+    ensures { result ≡ tree_below trees.now leaf child.now }
+{
     match child {
-        Child::Leaf(number) if number == leaf => MarkerTree::TRUE,
-        Child::Node(place) if place < trees.len() => trees[place],
-        _ => MarkerTree::FALSE,
+        Child::Leaf(number) => {
+            if *number == leaf {
+                MarkerTree::TRUE
+            } else {
+                MarkerTree::FALSE
+            }
+        }
+        Child::Node(place) => tree_at(trees, *place),
+        Child::Whole(_) => MarkerTree::FALSE,
     }
 }
 
@@ -22,16 +52,44 @@ fn trees_of(
     trees: &[MarkerTree],
     leaf: usize,
     children: &[Child],
-) -> Result<Vec<MarkerTree>, AllocError> {
+) -> Result<Vec<MarkerTree>, AllocError>
+    ensures { IfOk result (λ all. all.items ≡ map (tree_below trees.now leaf) children.now) }
+{
     let mut all = Vec::with_capacity(alloc, children.len())?;
     for child in children {
-        all.push(tree_of(trees, leaf, *child))?;
+        all.push(tree_of(trees, leaf, child))?;
     }
     Ok(all)
 }
 
+fn form_of_trees(
+    alloc: Global,
+    trees: &[MarkerTree],
+    leaf: usize,
+    form: &Form<Child>,
+) -> Result<Form<MarkerTree>, AllocError>
+    ensures { IfOk result (λ made. record_of made ≡ node_joined ⟦<MarkerTree as PartialEq>⟧.eq (record_of form.now)
+        (tree_below trees.now leaf (first_child (record_of form.now)))
+        (map (tree_below trees.now leaf) (others (record_of form.now)))) }
+{
+    let first = form.first();
+    let first = tree_of(trees, leaf, &first);
+    let all = form.others(alloc)?;
+    let others = trees_of(alloc, trees, leaf, &all)?;
+    let made = form.joined(alloc, first, &others)?;
+    Ok(made)
+}
+
 /// The tree of a form of trees.
-fn stored(interner: &mut Interner, form: Form<MarkerTree>) -> Result<MarkerTree, AllocError> {
+fn stored(interner: &mut Interner, form: Form<MarkerTree>) -> Result<MarkerTree, AllocError>
+    requires made { AllChildren (IsTree interner.old.nodes) (record_of form) }
+    requires above { AllChildren (Above interner.old.nodes (node_place (record_of form))) (record_of form) }
+    requires rises { IsRising (record_of form) }
+    requires joined { IsJoined (record_of form) }
+    ensures made { IfOk result (Made interner.old.nodes interner.new.nodes (record_of form)) }
+    ensures keeps { Extends interner.old.nodes interner.new.nodes }
+    ensures counts { interner.new.conjunctions ≡ interner.old.conjunctions }
+{
     match form {
         Form::Versions(key, first, later) => interner.versions_node(key, first, later),
         Form::Texts(key, first, later) => interner.texts_node(key, first, later),
@@ -39,21 +97,34 @@ fn stored(interner: &mut Interner, form: Form<MarkerTree>) -> Result<MarkerTree,
     }
 }
 
+/// Trees are equal exactly where they are named alike. Does nothing.
+#[tactic(auto, using(pep508_tree::proofs::Same::same_trees))]
+fn equal_trees()
+    ensures { (a b : Tree) → IsTrue (⟦<MarkerTree as PartialEq>⟧.eq a b) ↔ (a ≡ b) }
+{}
+
 /// The tree that holds where a leaf is reached.
 fn leaf_tree(
     alloc: Global,
     interner: &mut Interner,
+    count: usize,
     nodes: &[Node],
-    root: Child,
+    root: &Child,
     leaf: usize,
-) -> Result<MarkerTree, AllocError> {
+) -> Result<MarkerTree, AllocError>
+    requires graph { IsGraph [] count nodes.now }
+    requires root { Stands count (length nodes.now) root.now }
+    ensures tree { IfOk result (IsTreeOf interner.new.nodes (leaf_is (leaf_at [] nodes.now root.now) leaf)) }
+    ensures keeps { Extends interner.old.nodes interner.new.nodes }
+    ensures counts { interner.new.conjunctions ≡ interner.old.conjunctions }
+{
+    equal_trees();
+    let _ = count;
     let mut trees = Vec::with_capacity(alloc, nodes.len())?;
     for node in nodes {
-        let form = node.form();
-        let first = tree_of(&trees, leaf, form.first());
-        let others = trees_of(alloc, &trees, leaf, &form.others(alloc)?)?;
-        let joined = form.joined(alloc, first, &others)?;
-        trees.push(stored(interner, joined)?)?;
+        let form = form_of_trees(alloc, &trees, leaf, node.form())?;
+        let tree = stored(interner, form)?;
+        trees.push(tree)?;
     }
     Ok(tree_of(&trees, leaf, root))
 }
@@ -62,39 +133,68 @@ fn leaf_tree(
 fn push_trees(
     alloc: Global,
     interner: &mut Interner,
+    count: usize,
     nodes: &[Node],
-    root: Child,
-    leaves: Leaves,
+    root: &Child,
+    from: usize,
+    to: usize,
     trees: &mut Vec<MarkerTree>,
-) -> Result<(), AllocError> {
-    let Leaves { from, to, other } = leaves;
-    if to - from <= 1 {
-        if from < to {
-            trees.push(leaf_tree(alloc, interner, nodes, root, from)?)?;
-        }
+) -> Result<(), AllocError>
+    requires graph { IsGraph [] count nodes.now }
+    requires root { Stands count (length nodes.now) root.now }
+    requires order { from ≤ to }
+    requires within { to ≤ count }
+    ensures pushed { IfOk result (λ _. ArePushed interner.new.nodes (leaf_at [] nodes.now root.now) from to
+        trees.old.items trees.new.items) }
+    ensures keeps { Extends interner.old.nodes interner.new.nodes }
+    ensures counts { interner.new.conjunctions ≡ interner.old.conjunctions }
+{
+    if from == to {
+        return Ok(());
+    }
+    if from + 1 == to {
+        let tree = leaf_tree(alloc, interner, count, nodes, root, from)?;
+        trees.push(tree)?;
         return Ok(());
     }
     let middle = from + (to - from) / 2;
-    let lower = Leaves { from, to: middle, other };
-    let part = narrowed(alloc, nodes, root, lower)?;
-    push_trees(alloc, interner, &part.nodes, part.root, lower, trees)?;
-    let upper = Leaves { from: middle, to, other };
-    let part = narrowed(alloc, nodes, root, upper)?;
-    push_trees(alloc, interner, &part.nodes, part.root, upper, trees)
+    let lower = Leaves {
+        from,
+        to: middle,
+        other: middle,
+    };
+    let front = narrowed(alloc, count, nodes, root, lower)?;
+    push_trees(alloc, interner, count, &front.nodes, &front.root, from, middle, trees)?;
+    let upper = Leaves {
+        from: middle,
+        to,
+        other: from,
+    };
+    let back = narrowed(alloc, count, nodes, root, upper)?;
+    push_trees(alloc, interner, count, &back.nodes, &back.root, middle, to, trees)?;
+    Ok(())
 }
 
-/// For each leaf of a diagram the tree that holds where it is reached.
+/// For each leaf of a diagram, in the order of their numbers, the tree that holds where it is reached. The only
+/// refusal is want of memory. Counts nothing.
+///
+/// Takes as many steps as there are edges in the diagrams of the trees, times the logarithm of the number of
+/// leaves.
 pub fn leaf_trees(
     alloc: Global,
     interner: &mut Interner,
     diagram: &Diagram,
-) -> Result<Vec<MarkerTree>, AllocError> {
+) -> Result<Vec<MarkerTree>, AllocError>
+    requires graph { IsGraph interner.old.nodes diagram.now.leaves diagram.now.nodes.items }
+    requires root { Stands diagram.now.leaves (length diagram.now.nodes.items) diagram.now.root }
+    ensures count { IfOk result (λ trees. length trees.items ≡ diagram.now.leaves) }
+    ensures each { IfOk result (λ trees.
+        AreLeafTrees interner.new.nodes (leaf_in interner.old.nodes diagram.now diagram.now.root) 0 trees.items) }
+    ensures keeps { Extends interner.old.nodes interner.new.nodes }
+    ensures counts { interner.new.conjunctions ≡ interner.old.conjunctions }
+{
     let mut trees = Vec::with_capacity(alloc, diagram.leaves)?;
-    let leaves = Leaves {
-        from: 0,
-        to: diagram.leaves,
-        other: diagram.leaves,
-    };
-    push_trees(alloc, interner, &diagram.nodes, diagram.root, leaves, &mut trees)?;
+    let count = diagram.leaves;
+    push_trees(alloc, interner, count, &diagram.nodes, &diagram.root, 0, count, &mut trees)?;
     Ok(trees)
 }
