@@ -1,7 +1,7 @@
 //! Diagrams in which but some leaves are told apart.
 
-ghost use Rattle.std.specs.Prelude.{◌≡◌, [], ◌<◌, length, map, IfOk};
-ghost use Rattle.pep508_leaf_diagram.specs.declared.child.Child.TheVariants.{Node};
+ghost use Rattle.std.specs.Prelude.{◌≡◌, [], ◌<◌, length, map, get_or, IfOk};
+ghost use Rattle.pep508_leaf_diagram.specs.declared.child.Child.TheVariants.{Leaf};
 ghost use Rattle.pep508_tree.specs.Nodes.{first_child};
 ghost use Rattle.pep508_leaf_diagram.specs.Forms.{record_of, others};
 ghost use Rattle.pep508_leaf_diagram.specs.Joining.{node_joined};
@@ -31,7 +31,7 @@ pub(crate) struct Part {
 
 /// What stands for a node, if it is there for so many.
 fn narrow_node(children: &[Child], leaves: Leaves, place: usize) -> Child
-    ensures { result ≡ narrow_of leaves children.now (Node place) }
+    ensures { result ≡ get_or children.now place (Leaf leaves.other) }
 {
     match children.get(place) {
         Some(child) => *child,

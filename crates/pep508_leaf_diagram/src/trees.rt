@@ -1,8 +1,7 @@
 //! Where each leaf of a diagram is reached, as marker trees.
 
-ghost use Rattle.std.specs.Prelude.{◌≡◌, ◌↔◌, [], ◌≤◌, length, map, IfOk, IsTrue};
-ghost use Rattle.pep508_tree.specs.Tree.{Tree};
-ghost use Rattle.pep508_leaf_diagram.specs.declared.child.Child.TheVariants.{Node};
+ghost use Rattle.std.specs.Prelude.{◌≡◌, ◌↔◌, [], ◌≤◌, length, map, get_or, IfOk, IsTrue};
+ghost use Rattle.pep508_tree.specs.Tree.{Tree, never};
 ghost use Rattle.pep508_tree.specs.Meaning.{IsTree, Extends};
 ghost use Rattle.pep508_tree.specs.Nodes.{first_child, node_place, AllChildren, Above, IsRising, IsJoined, Made};
 ghost use Rattle.pep508_tree.specs.Truths.{IsTreeOf};
@@ -22,7 +21,7 @@ use std::alloc::{AllocError, Global};
 
 /// The tree at a place.
 fn tree_at(trees: &[MarkerTree], place: usize) -> MarkerTree
-    ensures { result ≡ tree_below trees.now 0 (Node place) }
+    ensures { result ≡ get_or trees.now place never }
 {
     match trees.get(place) {
         Some(tree) => *tree,
