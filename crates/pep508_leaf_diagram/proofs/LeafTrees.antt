@@ -128,35 +128,35 @@ all_from P d [] each = tt
 all_from P d (x ∷ xs) each = (each zero (omega arith), all_from P d xs (λ k h. each (suc k) (omega (arith, h))))
 
 module _ (inner other : List NodeRecord) (leaves : ℕ) (nodes : List (NodeOf Child)) (graph : IsGraph inner leaves nodes)
-    where
-  all_plain : (v : Valuation) → AllByRecursion (λ n. IsPlain (chosen n v)) nodes
-  all_plain v = all_from (λ n. IsPlain (chosen n v)) no_node nodes
-      (λ k h. plain_of leaves k (chosen (child_node nodes k) v)
-      (chosen_all (Stands leaves k) (child_node nodes k) v (graph k h).fits.stands))
+  where
+    all_plain : (v : Valuation) → AllByRecursion (λ n. IsPlain (chosen n v)) nodes
+    all_plain v = all_from (λ n. IsPlain (chosen n v)) no_node nodes
+        (λ k h. plain_of leaves k (chosen (child_node nodes k) v)
+        (chosen_all (Stands leaves k) (child_node nodes k) v (graph k h).fits.stands))
 
-  pub plain_leaf : (count : ℕ) (c : Child) → Stands leaves count c → (v : Valuation) →
-      leaf_at inner nodes c v ≡ leaf_at other nodes c v
-  plain_leaf count c s v = leaf_same inner other v leaves count nodes (all_plain v) c s
+    pub plain_leaf : (count : ℕ) (c : Child) → Stands leaves count c → (v : Valuation) →
+        leaf_at inner nodes c v ≡ leaf_at other nodes c v
+    plain_leaf count c s v = leaf_same inner other v leaves count nodes (all_plain v) c s
 
-  above_same : (place : List ℕ) (count : ℕ) (c : Child) → Stands leaves count c → IsAbove inner nodes place c →
-      IsAbove other nodes place c
-  above_same place count (Leaf n) s a = tt
-  above_same place count (Node k) s a = a
-  above_same place count (Whole t) s a = absurd s
+    above_same : (place : List ℕ) (count : ℕ) (c : Child) → Stands leaves count c → IsAbove inner nodes place c →
+        IsAbove other nodes place c
+    above_same place count (Leaf n) s a = tt
+    above_same place count (Node k) s a = a
+    above_same place count (Whole t) s a = absurd s
 
-  pub plain_graph : IsGraph other leaves nodes
-  plain_graph k h =
-      let s = graph k h in
-      let n = child_node nodes k in
-      record {
-        fits = record {
-          rises = s.fits.rises;
-          stands = s.fits.stands;
-          above = weaker_children (λ c. Stands leaves k c × IsAbove inner nodes (node_place n) c)
-              (IsAbove other nodes (node_place n)) (λ c is. above_same (node_place n) k c is.0 is.1) n
-              (both_children (Stands leaves k) (IsAbove inner nodes (node_place n)) n s.fits.stands s.fits.above);
-        };
-        reaches = λ v.
-            sym (plain_leaf (suc k) (Node k) (omega arith) v) ∙ s.reaches v
-            ∙ plain_leaf k (chosen n v) (chosen_all (Stands leaves k) n v s.fits.stands) v;
-      }
+    pub plain_graph : IsGraph other leaves nodes
+    plain_graph k h =
+        let s = graph k h in
+        let n = child_node nodes k in
+        record {
+          fits = record {
+            rises = s.fits.rises;
+            stands = s.fits.stands;
+            above = weaker_children (λ c. Stands leaves k c × IsAbove inner nodes (node_place n) c)
+                (IsAbove other nodes (node_place n)) (λ c is. above_same (node_place n) k c is.0 is.1) n
+                (both_children (Stands leaves k) (IsAbove inner nodes (node_place n)) n s.fits.stands s.fits.above);
+          };
+          reaches = λ v.
+              sym (plain_leaf (suc k) (Node k) (omega arith) v) ∙ s.reaches v
+              ∙ plain_leaf k (chosen n v) (chosen_all (Stands leaves k) n v s.fits.stands) v;
+        }

@@ -104,6 +104,7 @@ child_leaf inner nodes t v = elim (cases_Bool (t.place == 0)) [
   where
     nat_is : (n : ℕ) → (n == 0) ≡ true → n ≡ 0
     nat_is n e = grind (arith, e)
+
     by_sign : (s h : Bool) → h ≡ not s → leaf_at inner nodes (cond s (Leaf 0) (Leaf 1)) v ≡ cond h 1 0
     by_sign true h e = rw e refl
     by_sign false h e = rw e refl

@@ -36,10 +36,7 @@ pub(crate) fn copy_of<T: NodeValue>(
     })
 }
 
-fn children_of<T, C: Copy>(
-    alloc: Global,
-    later: &[Branch<T, C>],
-) -> Result<Vec<C>, AllocError>
+fn children_of<T, C: Copy>(alloc: Global, later: &[Branch<T, C>]) -> Result<Vec<C>, AllocError>
     ensures { IfOk result (λ children. children.items ≡ map (λ branch. branch.child) later.now) }
 {
     let mut children = Vec::new(alloc);

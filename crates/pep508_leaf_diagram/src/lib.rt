@@ -4,7 +4,6 @@
 mod child;
 mod diagram;
 mod form;
-
 mod merge;
 mod narrow;
 mod node;
@@ -14,5 +13,5 @@ mod walk;
 
 pub use child::Child;
 pub use diagram::Diagram;
-pub use trees::leaf_trees;
 pub use merge::{Merged, merge_diagrams};
+pub use trees::leaf_trees;

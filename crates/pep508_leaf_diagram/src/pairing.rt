@@ -105,7 +105,14 @@ fn with_form(
 {
     let first = other.first();
     let second = other.second();
-    with_parts(alloc, form, &first, other.versions(), other.texts(), &second)
+    with_parts(
+        alloc,
+        form,
+        &first,
+        other.versions(),
+        other.texts(),
+        &second,
+    )
 }
 
 /// The pairs of what stands in two forms, of which the one whose variable comes later stands whole.

@@ -163,14 +163,32 @@ fn push_trees(
         other: middle,
     };
     let front = narrowed(alloc, count, nodes, root, lower)?;
-    push_trees(alloc, interner, count, &front.nodes, &front.root, from, middle, trees)?;
+    push_trees(
+        alloc,
+        interner,
+        count,
+        &front.nodes,
+        &front.root,
+        from,
+        middle,
+        trees,
+    )?;
     let upper = Leaves {
         from: middle,
         to,
         other: from,
     };
     let back = narrowed(alloc, count, nodes, root, upper)?;
-    push_trees(alloc, interner, count, &back.nodes, &back.root, middle, to, trees)?;
+    push_trees(
+        alloc,
+        interner,
+        count,
+        &back.nodes,
+        &back.root,
+        middle,
+        to,
+        trees,
+    )?;
     Ok(())
 }
 
@@ -194,6 +212,15 @@ pub fn leaf_trees(
 {
     let mut trees = Vec::with_capacity(alloc, diagram.leaves)?;
     let count = diagram.leaves;
-    push_trees(alloc, interner, count, &diagram.nodes, &diagram.root, 0, count, &mut trees)?;
+    push_trees(
+        alloc,
+        interner,
+        count,
+        &diagram.nodes,
+        &diagram.root,
+        0,
+        count,
+        &mut trees,
+    )?;
     Ok(trees)
 }

@@ -13,7 +13,7 @@ returns-in_ok-form-in-Node c =
     subst (λ child. IsOpened inner d.leaves d.nodes.items child (record_of c.in_ok-form-in-Node.form))
     (sym c.in-Node.is)
     (node_opened inner d.leaves d.nodes.items c.in-Node.place (record_of c.in_ok-form-in-Node.form)
-    c.requires.diagram.graph (search rules) 
+    c.requires.diagram.graph (search rules)
     (c.in_ok-form-in-Node.ensures ∙ c.form.ensures ∙ c.index.ensures
     ∙ get_or_default d.nodes.items c.in-Node.place c.index.result.now no_node (search rules)))
 
