@@ -1,11 +1,12 @@
 //! Sets of trees, in the order of cases.
 
-ghost use Rattle.std.specs.Prelude.{◌≡◌, refl};
+ghost use Rattle.std.specs.Prelude.{◌≡◌, [], refl};
 ghost use Rattle.std.specs.Cmp.{eq_by_cmp_equiv, partial_equiv_from_equiv, partial_order_from_agreeing_total};
 ghost use Rattle.std.specs.Ordering.{eq_by_cmp, as_partial_cmp};
 ghost use Rattle.pep508_cases.specs.Cases.{mark_cmp, marks_cmp};
 ghost use Rattle.pep508_cases.specs.SetOrder.{marks_total};
 
+use std::alloc::Global;
 use std::cmp::Ordering;
 use std::marker::Model;
 
@@ -21,6 +22,17 @@ impl Model for Set {
     ghost Value = { Marks };
 
     ghost view = { λ set. set.marks.items };
+}
+
+impl Set {
+    /// The set of none.
+    pub(crate) fn new(alloc: Global) -> Set
+        ensures { result ≡ [] }
+    {
+        Set {
+            marks: Vec::new(alloc),
+        }
+    }
 }
 
 fn cmp_mark(a: bool, b: bool) -> Ordering

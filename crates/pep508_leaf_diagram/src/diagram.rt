@@ -1,8 +1,9 @@
 //! Diagrams whose leaves are numbers.
 
-ghost use Rattle.std.specs.Prelude.{◌≡◌, ◌<◌, cond, ℕ, [], List};
+ghost use Rattle.std.specs.Prelude.{◌≡◌, cond, List, length};
 ghost use Rattle.pep508_diagram.specs.Question.{Valuation};
 ghost use Rattle.pep508_tree.specs.Meaning.{NodeRecord, IsTree, holds};
+ghost use Rattle.pep508_leaf_diagram.specs.Leaves.{Stands};
 ghost use Rattle.pep508_leaf_diagram.specs.Pairing.{IsDiagram, leaf_in};
 
 use crate::child::{Child, child_of};
@@ -22,6 +23,7 @@ impl Diagram {
     /// The diagram of one leaf. Takes no memory.
     pub fn one_leaf(alloc: Global) -> Diagram
         ensures made { (inner : List NodeRecord) → IsDiagram inner result }
+        ensures rooted { Stands result.leaves (length result.nodes.items) result.root }
         ensures leaves { result.leaves ≡ 1 }
         ensures leaf { (inner : List NodeRecord) (v : Valuation) → leaf_in inner result result.root v ≡ 0 }
     {

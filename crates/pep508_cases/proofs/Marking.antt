@@ -1,0 +1,68 @@
+-- Diagrams whose leaves are sets of trees, when they are merged and while nodes are added.
+use Rattle.std.proofs.Common.{◌≡◌, ℕ, zero, suc, ◌+◌, ◌<◌, ◌≤◌, ◌++◌, List, [], ◌∷◌, map, length, take, drop, get_or, refl, ap, sym}
+use Rattle.std.proofs.Common.{subst, ◌∙◌, arith, length-append, append_assoc}
+use Rattle.std.proofs.lemmas.List.{map-append, take-append-drop}
+use Rattle.std.specs.List.{AllByRecursion}
+use Rattle.pep508_diagram.specs.Question.{Valuation}
+use Rattle.pep508_tree.specs.Tree.{Tree}
+use Rattle.pep508_tree.specs.Meaning.{NodeRecord, IsTree, Extends, holds}
+use Rattle.pep508_tree.proofs.Diagrams.{holds_kept}
+use Rattle.pep508_leaf_diagram.specs.declared.merge.Merged.{Merged}
+use Rattle.pep508_leaf_diagram.specs.Pairing.{IsDiagram, leaf_in}
+use Rattle.pep508_leaf_diagram.specs.Walks.{AreMerged}
+use Rattle.pep508_leaf_diagram.proofs.Leaves.{leaf_is_below, stands_made}
+use Rattle.pep508_leaf_diagram.proofs.LeafTrees.{plain_graph, plain_leaf}
+use Rattle.pep508_cases.specs.declared.marked.Marked.{Marked}
+use Rattle.pep508_cases.specs.Cases.{Marks, marks_of}
+use Rattle.pep508_cases.specs.Marked.{set_at, united, IsMarked, IsRooted}
+
+map_at : (f : ℕ × ℕ → Marks) (leaves : List (ℕ × ℕ)) (k : ℕ) → k < length leaves →
+    get_or (map f leaves) k [] ≡ f (get_or leaves k (0, 0))
+map_at f [] k h = absurd (omega (arith, h))
+map_at f (x ∷ leaves) zero h = refl
+map_at f (x ∷ leaves) (suc k) h = map_at f leaves k (omega (arith, h))
+
+length_mapped : (f : ℕ × ℕ → Marks) (leaves : List (ℕ × ℕ)) → length (map f leaves) ≡ length leaves
+length_mapped f [] = refl
+length_mapped f (x ∷ leaves) = ap suc (length_mapped f leaves)
+
+pub marked_joined : (nodes : List NodeRecord) (a b m : Marked) (merged : Merged) (xs ys : List Tree) →
+    AreMerged nodes a.diagram b.diagram merged → m.diagram ≡ merged.diagram →
+    m.sets.items ≡ map (united a.sets.items b.sets.items) merged.leaves.items → IsMarked nodes xs a →
+    IsMarked nodes ys b → IsMarked nodes (xs ++ ys) m
+marked_joined nodes a b m merged xs ys are same sets left right =
+    let d = merged.diagram in
+    let f = united a.sets.items b.sets.items in
+    record {
+      diagram = subst (IsDiagram nodes) (sym same)
+          (record { graph = are.graph; root = stands_made nodes d.leaves (length d.nodes.items) d.root are.root });
+      count = ap length sets ∙ length_mapped f merged.leaves.items ∙ are.count ∙ ap (λ e. e.leaves) (sym same);
+      marks = λ v.
+          let k = leaf_in nodes d d.root v in
+          let below : k < d.leaves = leaf_is_below nodes d.leaves d.nodes.items are.graph v d.root
+          (stands_made nodes d.leaves (length d.nodes.items) d.root are.root) in
+          ap (λ s. set_at s (leaf_in nodes m.diagram m.diagram.root v)) sets
+          ∙ ap (λ e. set_at (map f merged.leaves.items) (leaf_in nodes e e.root v)) same
+          ∙ map_at f merged.leaves.items k (omega (arith, below, are.count))
+          ∙ ap f (are.leaf v) ∙ (λ i. left.marks v i ++ right.marks v i)
+          ∙ sym (map-append (λ t. holds nodes t v) xs ys);
+    }
+
+pub rooted_joined : (nodes : List NodeRecord) (a b m : Marked) (merged : Merged) →
+    AreMerged nodes a.diagram b.diagram merged → m.diagram ≡ merged.diagram → IsRooted m
+rooted_joined nodes a b m merged are same =
+    subst (λ d. IsRooted (record { diagram = d; sets = m.sets })) (sym same) are.root
+
+-- ---- parts of lists
+
+parts : (P : Tree → Type 0) (xs ys : List Tree) → AllByRecursion P (xs ++ ys) →
+    AllByRecursion P xs × AllByRecursion P ys
+parts P [] ys all = (tt, all)
+parts P (x ∷ xs) ys all = let later = parts P xs ys all.1 in ((all.0, later.0), later.1)
+
+pub all_parts : (P : Tree → Type 0) (whole xs ys : List Tree) → whole ≡ xs ++ ys → AllByRecursion P whole →
+    AllByRecursion P xs × AllByRecursion P ys
+all_parts P whole xs ys e all = parts P xs ys (subst (AllByRecursion P) e all)
+
+pub taken : (trees : List Tree) (n : ℕ) → trees ≡ take n trees ++ drop n trees
+taken trees n = sym (take-append-drop n trees)
