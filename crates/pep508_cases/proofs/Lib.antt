@@ -3,3 +3,4 @@ pub mod Prefixes
 pub mod Counting
 pub mod Keeping
 pub mod Marking
+pub mod SetTrees

@@ -7,6 +7,7 @@ use Rattle.pep508_diagram.specs.Question.{Valuation}
 use Rattle.pep508_tree.specs.Tree.{Tree}
 use Rattle.pep508_tree.specs.Meaning.{NodeRecord, IsTree, Extends, holds}
 use Rattle.pep508_tree.proofs.Diagrams.{holds_kept}
+use Rattle.pep508_tree.proofs.Conjoining.{tree_kept}
 use Rattle.pep508_leaf_diagram.specs.declared.merge.Merged.{Merged}
 use Rattle.pep508_leaf_diagram.specs.Pairing.{IsDiagram, leaf_in}
 use Rattle.pep508_leaf_diagram.specs.Walks.{AreMerged}
@@ -66,3 +67,61 @@ all_parts P whole xs ys e all = parts P xs ys (subst (AllByRecursion P) e all)
 
 pub taken : (trees : List Tree) (n : ℕ) → trees ≡ take n trees ++ drop n trees
 taken trees n = sym (take-append-drop n trees)
+
+pub none_is : (trees : List Tree) → length trees ≡ 0 → trees ≡ []
+none_is [] e = refl
+none_is (t ∷ trees) e = absurd (omega (arith, e))
+
+-- ---- while nodes are added
+
+marks_kept : (old new : List NodeRecord) → Extends old new → (trees : List Tree) → AllByRecursion (IsTree old) trees →
+    (v : Valuation) → marks_of new trees v ≡ marks_of old trees v
+marks_kept old new x [] all v = refl
+marks_kept old new x (t ∷ trees) all v =
+    (λ i. holds_kept old new x t all.0 v i ∷ marks_kept old new x trees all.1 v i)
+
+pub marking_kept : (old new : List NodeRecord) → Extends old new → (trees : List Tree) → AllByRecursion (IsTree old) trees →
+    marks_of new trees ≡ marks_of old trees
+marking_kept old new x trees all = λ i v. marks_kept old new x trees all v i
+
+pub marked_kept : (old new : List NodeRecord) (trees : List Tree) (m : Marked) → Extends old new →
+    AllByRecursion (IsTree old) trees → IsRooted m → IsMarked old trees m → IsMarked new trees m
+marked_kept old new trees m x all rooted marked =
+    let d = m.diagram in
+    let count = length d.nodes.items in
+    record {
+      diagram = record {
+        graph = plain_graph old new d.leaves d.nodes.items marked.diagram.graph;
+        root = stands_made new d.leaves count d.root rooted;
+      };
+      count = marked.count;
+      marks = λ v.
+          ap (set_at m.sets.items) (sym (plain_leaf old new d.leaves d.nodes.items marked.diagram.graph count d.root rooted v))
+          ∙ marked.marks v ∙ sym (marks_kept old new x trees all v);
+    }
+
+all_made : (old new : List NodeRecord) → Extends old new → (trees : List Tree) → AllByRecursion (IsTree old) trees →
+    AllByRecursion (IsTree new) trees
+all_made old new x [] all = tt
+all_made old new x (t ∷ trees) all = (tree_kept old new x t all.0, all_made old new x trees all.1)
+
+pub all_taken : (old new : List NodeRecord) → Extends old new → (trees : List Tree) (k : ℕ) →
+    AllByRecursion (IsTree old) trees → AllByRecursion (IsTree new) (take k trees)
+all_taken old new x trees k all =
+    all_made old new x (take k trees) (all_parts (IsTree old) trees (take k trees) (drop k trees) (taken trees k) all).0
+
+pub all_left : (old new : List NodeRecord) → Extends old new → (trees : List Tree) (k : ℕ) →
+    AllByRecursion (IsTree old) trees → AllByRecursion (IsTree new) (drop k trees)
+all_left old new x trees k all =
+    all_made old new x (drop k trees) (all_parts (IsTree old) trees (take k trees) (drop k trees) (taken trees k) all).1
+
+none_taken : (n : ℕ) → ◌≡◌ {A = List Tree} (take n []) []
+none_taken zero = refl
+none_taken (suc n) = refl
+
+pub take_on : (trees : List Tree) (k n : ℕ) → (take k trees ++ take n (drop k trees)) ≡ take (k + n) trees
+take_on trees zero n = ap (λ m. take m trees) (omega arith)
+take_on [] (suc k) n = none_taken n ∙ sym (none_taken (suc k + n))
+take_on (t ∷ trees) (suc k) n =
+    let more : suc (k + n) ≡ suc k + n = omega arith in
+    ap (λ xs. t ∷ xs) (take_on trees k n) ∙ ap (λ m. take m (t ∷ trees)) more

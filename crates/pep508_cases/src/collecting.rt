@@ -34,7 +34,9 @@ fn either(
     ensures keeps { Extends interner.old.nodes interner.new.nodes }
     ensures counts { interner.new.conjunctions ≡ interner.old.conjunctions }
 {
-    let neither = uncounted_conjunction(alloc, interner, a.negate(), b.negate())?;
+    let first = a.negate();
+    let second = b.negate();
+    let neither = uncounted_conjunction(alloc, interner, first, second)?;
     Ok(neither.negate())
 }
 
