@@ -1,7 +1,7 @@
 -- Trees of sets, put together from trees of leaves, and cases made of them.
 use Rattle.std.proofs.Common.{◌≡◌, ◌≢◌, inl, inr, ℕ, zero, suc, ◌+◌, ◌<◌, ◌≤◌, ◌||◌, ◌&&◌, ◌==◌, Bool, true, false, not, cond, List, []}
-use Rattle.std.proofs.Common.{◌∷◌, Option, Some, None, IfSome, map, length, get_or, refl, ap, ap₂, sym, subst, ◌∙◌, arith, true≢false}
-use Rattle.std.proofs.Common.{Less, Equal, is_eq, add-one}
+use Rattle.std.proofs.Common.{◌∷◌, Option, Some, None, IfSome, length, get_or, refl, ap, sym, subst, ◌∙◌, arith, true≢false}
+use Rattle.std.proofs.Common.{Less, is_eq, add-one}
 use Rattle.std.proofs.lemmas.Bool.{cases_Bool, cases_lt}
 use Rattle.std.proofs.lemmas.Bool.Decides.{nat_tests}
 use Rattle.std.specs.BTreeMap.{BTreeMap, get, is_at, IsOrdered, Updates}
@@ -19,7 +19,7 @@ use Rattle.pep508_leaf_diagram.specs.Pairing.{leaf_in}
 use Rattle.pep508_leaf_diagram.specs.Trees.{AreLeafTrees, leaf_is}
 use Rattle.pep508_leaf_diagram.proofs.Leaves.{leaf_is_below}
 use Rattle.pep508_cases.specs.declared.marked.Marked.{Marked}
-use Rattle.pep508_cases.specs.Cases.{Marks, same_mark, same_marks, mark_cmp, marks_cmp, marks_of, IsCase, AreCases, sets_of}
+use Rattle.pep508_cases.specs.Cases.{Marks, same_marks, marks_cmp, marks_of, IsCase, AreCases, sets_of}
 use Rattle.pep508_cases.specs.Marked.{set_at, IsMarked}
 use Rattle.pep508_cases.specs.Collecting.{or_never, tree_at, AllMade, reached_by, AreFound}
 use Rattle.pep508_cases.proofs.Marks.{marks_is}

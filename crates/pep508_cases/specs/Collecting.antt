@@ -1,5 +1,5 @@
 -- Trees of sets that are put together from trees of leaves.
-use Rattle.std.specs.Prelude.{◌≡◌, ◌≢◌, ℕ, zero, suc, ◌||◌, ◌&&◌, ◌==◌, Bool, false, List, Option, Some, None, length}
+use Rattle.std.specs.Prelude.{◌≡◌, ◌≢◌, ℕ, zero, suc, ◌||◌, ◌&&◌, ◌==◌, Bool, false, List, Option, Some, None}
 use Rattle.std.specs.Prelude.{IfSome}
 use Rattle.std.specs.BTreeMap.{BTreeMap, get}
 use Rattle.pep508_diagram.specs.Question.{Valuation}

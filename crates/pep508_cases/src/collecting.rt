@@ -98,10 +98,7 @@ fn found_trees(
     Ok(found)
 }
 
-fn as_cases(
-    alloc: Global,
-    found: BTreeMap<Set, MarkerTree>,
-) -> Result<Vec<TreeCase>, AllocError>
+fn as_cases(alloc: Global, found: BTreeMap<Set, MarkerTree>) -> Result<Vec<TreeCase>, AllocError>
     ensures entries { IfOk result (λ cases. cases_seen cases.items ≡ found.entries) }
     ensures ordered { IfOk result (λ _. IsOrdered marks_cmp found) }
 {

@@ -1,6 +1,5 @@
-use Rattle.std.proofs.Common.{◌≡◌, ◌∙◌, ◌||◌, ap, sym, subst, true≢false}
+use Rattle.std.proofs.Common.{◌∙◌, ◌||◌, ap, sym, subst, true≢false}
 use Rattle.pep508_tree.specs.Meaning.{IsTree, holds}
-use Rattle.pep508_cases.specs.Collecting.{tree_at}
 use Rattle.pep508_cases.proofs.SetTrees.{tree_made, all_kept, added_none, added, added_made}
 use Rattle.pep508_cases.proofs.collecting.add_tree.Goals as goal
 

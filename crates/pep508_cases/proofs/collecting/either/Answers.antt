@@ -1,4 +1,4 @@
-use Rattle.std.proofs.Common.{◌≡◌, ◌∙◌, ◌&&◌, not, ap}
+use Rattle.std.proofs.Common.{◌∙◌, ◌&&◌, not, ap}
 use Rattle.pep508_tree.specs.Meaning.{holds}
 use Rattle.pep508_tree.proofs.OneTree.{negation_holds}
 use Rattle.pep508_cases.proofs.SetTrees.{neither}

@@ -1,4 +1,4 @@
-use Rattle.std.proofs.Common.{◌≡◌, ◌≢◌, ◌∙◌, ◌||◌, ◌&&◌, ◌==◌, ◌+◌, IfSome, get_or, ap, sym, subst, arith}
+use Rattle.std.proofs.Common.{◌≡◌, ◌≢◌, ◌∙◌, ◌||◌, ◌&&◌, ◌+◌, IfSome, ap, sym, subst, arith}
 use Rattle.std.specs.BTreeMap.{is_at}
 use Rattle.std.specs.Map.{lookup}
 use Rattle.pep508_tree.specs.Tree.{never}
@@ -9,8 +9,7 @@ use Rattle.pep508_leaf_diagram.specs.Pairing.{leaf_in}
 use Rattle.pep508_leaf_diagram.specs.Trees.{leaf_is}
 use Rattle.pep508_leaf_diagram.proofs.LeafTrees.{trees_kept}
 use Rattle.pep508_cases.specs.Cases.{same_marks, marks_cmp}
-use Rattle.pep508_cases.specs.Marked.{set_at}
-use Rattle.pep508_cases.specs.Collecting.{reached_by, or_never}
+use Rattle.pep508_cases.specs.Collecting.{or_never}
 use Rattle.pep508_cases.proofs.SetTrees.{leaf_tree_at, reached_more, never_holds}
 use Rattle.pep508_cases.proofs.collecting.found_trees.Goals as goal
 

@@ -1,4 +1,4 @@
-use Rattle.std.proofs.Common.{◌≡◌, ◌∙◌, map, refl}
+use Rattle.std.proofs.Common.{◌∙◌, map, refl}
 use Rattle.pep508_cases.specs.Marked.{united}
 use Rattle.pep508_cases.proofs.Marking.{marked_joined, rooted_joined}
 use Rattle.pep508_cases.proofs.marked.joined.Goals as goal

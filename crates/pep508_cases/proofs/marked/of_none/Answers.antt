@@ -1,5 +1,4 @@
-use Rattle.std.proofs.Common.{◌≡◌, ◌∙◌, ◌++◌, ◌∷◌, [], length, ap, sym, subst, rules}
-use Rattle.pep508_cases.specs.Cases.{Marks}
+use Rattle.std.proofs.Common.{◌≡◌, ◌∙◌, ◌++◌, ◌∷◌, [], length, ap, sym}
 use Rattle.pep508_cases.specs.Marked.{set_at}
 use Rattle.pep508_cases.proofs.marked.of_none.Goals as goal
 
