@@ -7,13 +7,16 @@ import re
 import sys
 import warnings
 from pathlib import Path
-from typing import Any, Dict, List, Optional, Union
+from typing import Any, Dict, Iterable, List, Optional, Union
 
 from . import __version__
 from .distributions import installed
 from .explanations import check_explained
+from .files import read, read_text
+from .listings import LeftOut, Listing
 from .lists import GREATEST_LIMIT, LIMIT, InvalidInput, check, conflicts, matrix, normal, same
 from .markers import completed
+from .offered import read_candidates, wheelhouse
 from .urls import MarkerInURLWarning
 from .version import InvalidVersion, Version
 
@@ -24,7 +27,8 @@ INPUTS = ("requirements", "environment", "environments", "candidates", "left", "
 
 STATUSES = """exit status: 0 after an answer, 1 where `same` said no, 2 where an input or the command line is refused, 3 where
 memory ran out or a file can't be read or written, as a standard stream that is closed, and 4 where a row is none with --strict.
-FILE may be `-` once, for standard input. A list has a requirement (PEP 508) a line; options of pip, as -r or --hash, are refused."""
+FILE may be `-` once, for standard input. It is a requirements file of pip or a list with a requirement (PEP 508) a line, unless its
+name says otherwise: pyproject.toml, pylock.toml, METADATA, PKG-INFO, *.whl, *.tar.gz, or a folder of a project or a distribution."""
 
 
 def source(word: str) -> Source:
@@ -35,6 +39,26 @@ def source(word: str) -> Source:
     if sys.stdin is None:
         raise OSError("standard input is closed")
     return sys.stdin.buffer.read()
+
+
+def listing(word: str, words: argparse.Namespace) -> Listing:
+    """A list that is named. What is left out of it is told."""
+    given = source(word)
+    found = read_text(given) if isinstance(given, bytes) else read(given, groups=words.group)
+    tell_left_out(found.left_out)
+    return found
+
+
+def tell_left_out(left_out: Iterable[LeftOut]) -> None:
+    for it in left_out:
+        complain(str(it))
+
+
+def tell_assumed(found: Listing) -> Listing:
+    """Tells what a list's file says of environments, where none is held against it."""
+    for it in found.assumed:
+        complain(f"{it.place}: {it.text}: {it.what} is not looked at")
+    return found
 
 
 def show(*words: object, sep: str = "\n") -> None:
@@ -76,6 +100,8 @@ def parser() -> argparse.ArgumentParser:
 
 def add(commands: Any, name: str, about: str, limit: bool = False) -> argparse.ArgumentParser:
     it: argparse.ArgumentParser = commands.add_parser(name, help=about, description=f"{about[0].upper()}{about[1:]}.")
+    of_group = "a dependency group of pyproject.toml whose lines are taken in too; may be repeated"
+    it.add_argument("--group", action="append", default=[], metavar="NAME", help=of_group)
     if limit:
         of_limit = "how many cases a package may have, which are sets of its lines that apply together (%(default)s)"
         it.add_argument("--limit", type=limit_of, default=LIMIT, metavar="N", help=of_limit)
@@ -104,15 +130,28 @@ def add_matrix(commands: Any) -> None:
 
 
 def add_candidates(it: argparse.ArgumentParser) -> None:
-    of_file = "a file with a name and a version a line (else what is installed for this interpreter)"
-    it.add_argument("--candidates", metavar="FILE", help=of_file)
+    of_file = "names with versions: a file with one a line, pylock.toml, the .json of a package index (else what is installed)"
+    offers = it.add_mutually_exclusive_group()
+    offers.add_argument("--candidates", metavar="FILE", help=of_file)
+    of_folder = "a folder of wheels and source archives, whose names say the candidates; may be repeated"
+    offers.add_argument("--wheelhouse", action="append", default=[], metavar="DIR", help=of_folder)
+    of_python = "answer though requires-python of FILE leaves the environment out"
+    it.add_argument("--ignore-requires-python", action="store_true", help=of_python)
     it.add_argument("--extra", action="append", default=[], metavar="NAME", help="an extra that is asked for; may be repeated")
 
 
 def candidates_of(words: argparse.Namespace) -> Any:
     """The candidates that are named, or those that are installed; what of these is no candidate is told."""
+    told: List[LeftOut] = []
+    if words.wheelhouse:
+        offered = [it for folder in words.wheelhouse for it in wheelhouse(Path(folder), told)]
+        tell_left_out(told)
+        return offered
     if words.candidates is not None:
-        return source(words.candidates)
+        given = source(words.candidates)
+        named = given if isinstance(given, bytes) else read_candidates(given, told)
+        tell_left_out(told)
+        return named
     left_out: List[str] = []
     found = installed(left_out)
     for it in left_out:
@@ -136,9 +175,13 @@ def versions_of(full: str) -> Dict[str, str]:
 
 
 def run_check(words: argparse.Namespace) -> int:
-    requirements = source(words.requirements)
+    requirements = listing(words.requirements, words)
     inputs = (requirements, environment_of(words), candidates_of(words), words.extra)
-    rows, explanations = check_explained(*inputs) if words.explain else (check(*inputs), [])
+    ignored = words.ignore_requires_python
+    if words.explain:
+        rows, explanations = check_explained(*inputs, ignore_requires_python=ignored)
+    else:
+        rows, explanations = check(*inputs, ignore_requires_python=ignored), []
     why = {it.name: it.sentences for it in explanations}
     for row in rows:
         show(row, *why.get(row.name, ()), sep="\n    ")
@@ -146,27 +189,28 @@ def run_check(words: argparse.Namespace) -> int:
 
 
 def run_matrix(words: argparse.Namespace) -> int:
-    inputs = (source(words.requirements), source(words.environments), candidates_of(words), words.extra)
-    answers = matrix(*inputs, limit=words.limit)
+    inputs = (listing(words.requirements, words), source(words.environments), candidates_of(words), words.extra)
+    answers = matrix(*inputs, limit=words.limit, ignore_requires_python=words.ignore_requires_python)
     for number, rows in enumerate(answers, 1):
         show(f"env {number}", *rows)
     return STRICT if words.strict and any(it.is_none for rows in answers for it in rows) else ANSWERED
 
 
 def run_same(words: argparse.Namespace) -> int:
-    answer = same(source(words.left), source(words.right), words.limit)
+    left, right = (tell_assumed(listing(it, words)) for it in (words.left, words.right))
+    answer = same(left, right, words.limit)
     show(answer)
     return ANSWERED if answer else DIFFERENT
 
 
 def run_conflicts(words: argparse.Namespace) -> int:
-    for it in conflicts(source(words.requirements), words.limit):
+    for it in conflicts(tell_assumed(listing(words.requirements, words)), words.limit):
         show(it)
     return ANSWERED
 
 
 def run_normal(words: argparse.Namespace) -> int:
-    for it in normal(source(words.requirements)):
+    for it in normal(tell_assumed(listing(words.requirements, words))):
         show(it)
     return ANSWERED
 

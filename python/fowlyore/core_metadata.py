@@ -1,0 +1,217 @@
+"""What distributions say that they require: core metadata in wheels, source archives, folders and what is installed."""
+
+import importlib.metadata
+import os
+import re
+from typing import Any, Dict, Iterator, List, NamedTuple, NoReturn, Optional, Tuple
+
+from .distributions import normal_name
+from .listings import LeftOut, Listing, Place
+from .lists import InvalidInput
+from .projects import Lines, check_marker
+
+__all__ = ["read_archive", "read_distribution", "read_folder", "read_metadata", "read_wheel"]
+
+_FIELD = re.compile(r"([!-9;-~]+)[ \t]*:[ \t]*(.*)")
+_SECTION = re.compile(r"\[(.*)\]")
+# The most bytes that are taken for metadata, as an input's.
+_MOST = 16_777_216
+# The first version of core metadata in which a source archive says what a wheel of it requires (PEP 643).
+_SURE = (2, 2)
+
+
+class _Field(NamedTuple):
+    """A field: its name in lower case, its value, and its line."""
+
+    name: str
+    value: str
+    line: int
+
+
+def _refuse(path: str, why: str, line: Optional[int] = None) -> NoReturn:
+    front = "" if line is None else f"line {line}: "
+    raise InvalidInput(f"requirements: {front}{why}", input="requirements", path=path, line=line)
+
+
+def _text(path: str, data: bytes) -> str:
+    try:
+        return data.decode("utf-8")
+    except UnicodeDecodeError as error:
+        _refuse(path, f"not UTF-8 at byte {error.start} of the file", data.count(b"\n", 0, error.start) + 1)
+
+
+def _fields(path: str, text: str) -> Iterator[_Field]:
+    """The fields of core metadata, up to the empty line at which the description begins. A line that begins with white space
+    goes on with the field before it."""
+    name, parts, first = "", [""], 0
+    for number, line in enumerate(text.replace("\r\n", "\n").split("\n"), 1):
+        if not line:
+            break
+        if line[0] in " \t" and first:
+            parts.append(line.strip())
+            continue
+        found = _FIELD.fullmatch(line)
+        if found is None:
+            _refuse(path, "a field is wanted: a name, a colon and a value", number)
+        if first:
+            yield _Field(name, " ".join(parts), first)
+        name, parts, first = found[1].lower(), [found[2]], number
+    if first:
+        yield _Field(name, " ".join(parts), first)
+
+
+def read_metadata(path: str, data: bytes, requires: Optional[bytes] = None, is_source: bool = False) -> Listing:
+    """The list of core metadata, which are its fields `Requires-Dist`. `requires` is what a file `requires.txt` has beside it,
+    which counts where no such field is there; `is_source` says that it is a source archive's.
+
+    Raises `InvalidInput` for what can't be read, by its line.
+
+    >>> data = b"Metadata-Version: 2.1\\nName: foo\\nProvides-Extra: b\\nRequires-Dist: bar (>=1) ; extra == 'b'\\n"
+    >>> read_metadata("METADATA", data).lines
+    [ListedLine(text="bar (>=1) ; extra == 'b'", place=Place(path='METADATA', line=4, entry=None), is_constraint=False)]
+    """
+    lines = Lines(path)
+    extras: List[str] = []
+    told: Dict[str, str] = {}
+    for it in _fields(path, _text(path, data)):
+        place = Place(path, it.line)
+        told.setdefault(it.name, it.value)
+        if it.name == "requires-dist":
+            lines.add(place, it.value)
+        elif it.name == "requires-python":
+            lines.assume_python(place, it.value)
+        elif it.name == "provides-extra":
+            extras.append(normal_name(it.value) or _refuse(path, f"{it.value!r} is no name", it.line))
+        elif it.name == "dynamic" and it.value.lower() in ("requires-dist", "requires-python", "provides-extra"):
+            lines.left_out.append(LeftOut(it.value, place, "what builds a wheel of it tells it"))
+    if "name" not in told:
+        _refuse(path, "there is no field Name, and so this is no core metadata")
+    if is_source and _version(told.get("metadata-version", "")) < _SURE:
+        why = "metadata before 2.2 doesn't say what a wheel of it requires"
+        lines.left_out.append(LeftOut("what the build asks for", Place(path), why))
+    if requires is not None and "requires-dist" not in told:
+        extras += _add_sections(os.path.join(os.path.dirname(path), "requires.txt"), requires, lines)
+    return lines.listing(list(dict.fromkeys(extras)))
+
+
+def _version(text: str) -> Tuple[int, ...]:
+    return tuple(map(int, text.split("."))) if re.fullmatch(r"[0-9]{1,9}\.[0-9]{1,9}", text) else (0,)
+
+
+def _add_sections(path: str, data: bytes, lines: Lines) -> List[str]:
+    """Takes in the requirements of a `requires.txt`, of which a section `[EXTRA:MARKER]` has those that apply there, and gives the
+    extras."""
+    condition, extras = "", []
+    for number, line in enumerate(_text(path, data).splitlines(), 1):
+        section = _SECTION.fullmatch(line.strip())
+        if section is not None:
+            extra, _, marker = section[1].partition(":")
+            name = normal_name(extra)
+            if extra and not name:
+                _refuse(path, f"{extra!r} is no name", number)
+            if marker:
+                check_marker(Place(path, number), marker)
+            extras += [name] if extra else []
+            of_extra = f"extra == '{name}'" if extra else ""
+            condition = " and ".join(it for it in (f"({marker})" if marker else "", of_extra) if it)
+        elif line.strip():
+            lines.add(Place(path, number), line.strip(), condition)
+    return extras
+
+
+def read_wheel(path: str) -> Listing:
+    """The list of a wheel: that of the `METADATA` in its one folder `*.dist-info` (PEP 427)."""
+    import zipfile
+
+    try:
+        with zipfile.ZipFile(path) as wheel:
+            names = [it for it in wheel.namelist() if re.fullmatch(r"[^/]+\.dist-info/METADATA", it)]
+            name = _only(path, names, "METADATA")
+            if wheel.getinfo(name).file_size > _MOST:
+                _refuse(path, f"{name} is longer than {_MOST} bytes")
+            data = wheel.read(name)
+    except (zipfile.BadZipFile, NotImplementedError, RuntimeError, EOFError) as error:
+        _refuse(path, f"no wheel that can be read: {error}")
+    except _decompressing() as error:
+        _refuse(path, f"no wheel that can be read: {error}")
+    return read_metadata(f"{path}/{name}", data)
+
+
+def _decompressing() -> Tuple[Any, ...]:
+    """What is raised where compressed bytes can't be read."""
+    import zlib
+
+    try:
+        import lzma
+    except ImportError:
+        return (zlib.error,)
+    return (zlib.error, lzma.LZMAError)
+
+
+def _only(path: str, names: List[str], what: str) -> str:
+    if len(names) != 1:
+        _refuse(path, f"there are {len(names)} files {what}, and one is wanted" if names else f"there is no file {what}")
+    return names[0]
+
+
+def read_archive(path: str) -> Listing:
+    """The list of a source archive: that of the `PKG-INFO` in its one folder (PEP 625), and of a `requires.txt` in a folder
+    `*.egg-info` where that names no requirement."""
+    import tarfile
+
+    found: Dict[str, bytes] = {}
+    try:
+        with tarfile.open(path, "r:gz") as archive:
+            for member in archive:
+                if re.fullmatch(r"(?:\./)?[^/]+/(?:PKG-INFO|(?:[^/]+/)*[^/]+\.egg-info/requires\.txt)", member.name):
+                    file = archive.extractfile(member)
+                    found[member.name] = b"" if file is None else _read_some(path, file)
+    except (tarfile.TarError, EOFError) as error:
+        _refuse(path, f"no source archive that can be read: {error}")
+    except _decompressing() as error:
+        _refuse(path, f"no source archive that can be read: {error}")
+    except OSError as error:
+        if error.errno is not None:
+            raise
+        _refuse(path, f"no source archive that can be read: {error}")
+    name = _only(path, [it for it in found if it.endswith("/PKG-INFO")], "PKG-INFO")
+    requires = [data for it, data in found.items() if it.endswith("/requires.txt")]
+    return read_metadata(f"{path}/{name}", found[name], requires[0] if len(requires) == 1 else None, is_source=True)
+
+
+def _read_some(path: str, file: Any) -> bytes:
+    data: bytes = file.read(_MOST + 1)
+    if len(data) > _MOST:
+        _refuse(path, f"metadata longer than {_MOST} bytes")
+    return data
+
+
+def read_folder(path: str) -> Listing:
+    """The list of a folder `*.dist-info` or `*.egg-info`: that of its `METADATA` or `PKG-INFO`."""
+    name = "METADATA" if path.endswith(".dist-info") else "PKG-INFO"
+    inner = os.path.join(path, name)
+    with open(inner, "rb") as file:
+        data = file.read()
+    return read_metadata(inner, data, None if name == "METADATA" else _read_if_there(os.path.join(path, "requires.txt")))
+
+
+def _read_if_there(path: str) -> Optional[bytes]:
+    try:
+        with open(path, "rb") as file:
+            return file.read()
+    except FileNotFoundError:
+        return None
+
+
+def read_distribution(distribution: importlib.metadata.Distribution) -> Listing:
+    """The list of an installed distribution: that of its metadata.
+
+    >>> isinstance(read_distribution(next(iter(importlib.metadata.distributions()))), Listing)
+    True
+    """
+    of_wheel, of_source = distribution.read_text("METADATA"), distribution.read_text("PKG-INFO")
+    text = of_wheel or of_source or ""
+    path = str(getattr(distribution, "_path", "")) or "a distribution"
+    requires = None if of_wheel else distribution.read_text("requires.txt")
+    name = "METADATA" if of_wheel else "PKG-INFO"
+    return read_metadata(os.path.join(path, name), text.encode(), None if requires is None else requires.encode())

@@ -1,0 +1,438 @@
+"""Requirements files of pip, of which a plain list of requirements is one kind.
+
+A file in which nothing is pip's is handed to the library as it stands. Any other is read as pip reads it: its encoding, its
+lines, those that a `\\` joins, comments, variables, options, and the files that it names. pip's own parser is what the tests
+hold this against.
+"""
+
+import codecs
+import os
+import re
+from typing import Any, Dict, Iterator, List, NamedTuple, NoReturn, Optional, Set, Tuple
+
+from . import _native
+from .listings import LeftOut, Listing, Located, Origin, Place, Source
+from .lists import InvalidInput, refused
+
+__all__ = ["read_pip"]
+
+# How deep files may name one another.
+DEEPEST = 50
+
+# (the marks of UTF-32 before those of UTF-16, of which one is the front of another)
+_MARKS = (
+    (codecs.BOM_UTF8, "utf-8"),
+    (codecs.BOM_UTF32_LE, "utf-32-le"),
+    (codecs.BOM_UTF32_BE, "utf-32-be"),
+    (codecs.BOM_UTF16_LE, "utf-16-le"),
+    (codecs.BOM_UTF16_BE, "utf-16-be"),
+)
+_ENCODING = re.compile(rb"coding[:=]\s*([-\w.]+)")
+_COMMENT = re.compile(r"(?:^|\s)#")
+_IS_COMMENT = re.compile(r"\s*#")
+_VARIABLE = re.compile(r"\$\{([A-Z0-9_]+)\}")
+_URL = re.compile(r"(?:https?|file):", re.I)
+# What stands in a file in which something may be pip's.
+_SIGNS = ("\\", " -", "\n-", "\r-", "${", "/", "\n.", "\r.", ".whl", ".zip", ".tar", ".tgz", ".tbz", ".txz", ".tlz")
+# What pip takes for a path, an archive or a URL without a name, where the library reads no requirement.
+_UNNAMED = re.compile(
+    r"[./]|(?:https?|file|ftp|(?:git|hg|svn|bzr)\+[a-z]+):|"
+    r"[^;\[]*\.(?:whl|zip|tgz|tbz|txz|tlz|tar|tar\.(?:gz|bz2|xz|lz|lzma))\s*(?:\[[^\]]*\]\s*)?(?:;|$)",
+    re.I,
+)
+_BEHIND_PATH = re.compile(r"\s*[;\[]")
+_HASHES = re.compile(r"--hash=sha(?:256|384|512):[^\s'\"\\]+(?: +--hash=sha(?:256|384|512):[^\s'\"\\]+)*")
+_STRONG = ("sha256", "sha384", "sha512")
+# The options of a requirements file, by their spellings, and whether they have a value.
+_OPTIONS = (
+    (("-i", "--index-url", "--pypi-url"), True),
+    (("--extra-index-url",), True),
+    (("--no-index",), False),
+    (("-c", "--constraint"), True),
+    (("-r", "--requirement"), True),
+    (("-e", "--editable"), True),
+    (("-f", "--find-links"), True),
+    (("--no-binary",), True),
+    (("--only-binary",), True),
+    (("--prefer-binary",), False),
+    (("--require-hashes",), False),
+    (("--pre",), False),
+    (("--trusted-host",), True),
+    (("--use-feature",), True),
+    (("--global-option",), True),
+    (("--hash",), True),
+    (("-C", "--config-settings", "--config-setting"), True),
+)
+_SHORT = {"--requirement": "-r", "--constraint": "-c", "--editable": "-e"}
+
+
+class _NoOption(Exception):
+    """Why some words are no options."""
+
+
+class _Options(NamedTuple):
+    """The options of a line, with their values, and the words among them that are none."""
+
+    named: List[Tuple[str, Optional[str]]]
+    words: List[str]
+
+    def first(self, option: str) -> Optional[str]:
+        """The value of the first option of this name."""
+        return next((value for name, value in self.named if name == option), None)
+
+
+class _File(Source):
+    """A file that is read: the path by which it is named, and its lines."""
+
+    def __init__(self, path: str, text: str) -> None:
+        self.path = path
+        self.lines = text.splitlines()
+
+    def place(self, key: int) -> Place:
+        return Place(self.path, key)
+
+    def located(self, key: int, start: int, end: int) -> Located:
+        parts, _ = _parts_of(self.lines, key - 1)
+        text = "".join(it.text for it in parts)
+        blanks = len(text) - len(text.lstrip())
+        begin, stop = (_in_parts(parts, blanks + _unexpanded(text.strip(), it)) for it in (start, end))
+        number, column = begin
+        line = self.lines[number]
+        return Located(Place(self.path, number + 1), line, column, stop[1] if stop[0] == number else len(line))
+
+
+class _Part(NamedTuple):
+    """A part of a joined line: its line in the file, from 0, its text, and the column at which that stands there, which is -1
+    where a blank was put before it."""
+
+    line: int
+    text: str
+    column: int
+
+
+def _parts_of(lines: List[str], at: int) -> Tuple[List[_Part], int]:
+    """The parts of the line that begins at an index, and the index behind it."""
+    parts: List[_Part] = []
+    while at < len(lines):
+        line, is_last = lines[at], True
+        if _IS_COMMENT.match(line):
+            # (a line that is a comment ends what was begun)
+            parts.append(_Part(at, f" {line}" if parts else line, -1 if parts else 0))
+        elif line.endswith("\\"):
+            is_last = False
+            parts.append(_Part(at, line.strip("\\"), len(line) - len(line.lstrip("\\"))))
+        else:
+            parts.append(_Part(at, line, 0))
+        at += 1
+        if is_last:
+            break
+    return parts, at
+
+
+def _in_parts(parts: List[_Part], at: int) -> Tuple[int, int]:
+    """The index of the line, and the column in it, of a place in joined parts."""
+    for it in parts[:-1]:
+        if at < len(it.text):
+            return it.line, max(0, it.column + at)
+        at -= len(it.text)
+    return parts[-1].line, max(0, parts[-1].column + at)
+
+
+def _unexpanded(text: str, at: int) -> int:
+    """A place in a text before its variables were replaced; one within a value is its variable's."""
+    for found in _VARIABLE.finditer(text):
+        value = os.environ.get(found[1])
+        if not value or at < found.start():
+            continue
+        if at < found.start() + len(value):
+            return found.start()
+        at += len(found[0]) - len(value)
+    return min(at, len(text))
+
+
+def _logical_lines(lines: List[str]) -> Iterator[Tuple[int, str]]:
+    """Lines without comments and the white space around them, those that a backslash joins as one, with the number of its first
+    line; without those of which nothing is left."""
+    at, count = 0, len(lines)
+    while at < count:
+        text = lines[at]
+        number = at = at + 1
+        if text.endswith("\\"):
+            parts, at = _parts_of(lines, number - 1)
+            text = "".join([it.text for it in parts])
+        if "#" in text:
+            comment = _COMMENT.search(text)
+            text = text if comment is None else text[: comment.start()]
+        text = text.strip()
+        if text:
+            yield number, text
+
+
+def read_pip(path: str, data: bytes) -> Listing:
+    """The list of a requirements file of pip, or of a plain list, whose bytes are handed in.
+
+    Raises `InvalidInput` for what can't be read, by its file and line, and for files that name one another in a circle, or more
+    than 50 files deep.
+
+    >>> listing = read_pip("list.txt", b"--pre\\nfoo>=1 \\\\\\n  ,<2  # why\\n")
+    >>> print(*listing.lines, *listing.left_out, sep="\\n")
+    ListedLine(text='foo>=1   ,<2', place=Place(path='list.txt', line=2, entry=None), is_constraint=False)
+    list.txt: line 1: left out: --pre (an option of pip)
+    """
+    coding = _coding_of(data)
+    if coding is None and not _may_be_pips(data):
+        return Listing.of_plain(path, data)
+    reading = _Reading()
+    try:
+        text = _decoded(path, data, coding)
+    except UnicodeDecodeError:
+        # (the library tells of it)
+        return Listing.of_plain(path, data)
+    reading.is_pips = coding is not None
+    reading.read_root(_File(path, text))
+    if not reading.is_pips:
+        return Listing.of_plain(path, data)
+    return Listing(
+        path, reading.texts, reading.origins, constraints=reading.constraints, left_out=reading.left_out
+    )  # fmt: skip
+
+
+def _may_be_pips(data: bytes) -> bool:
+    return data[:1] in (b"-", b".") or any(it.encode() in data for it in _SIGNS)
+
+
+def _coding_of(data: bytes) -> Optional[Tuple[str, int]]:
+    """The encoding that a mark or a line of a file names, and the bytes of the mark; nothing where none is named."""
+    for mark, encoding in _MARKS:
+        if data.startswith(mark):
+            return encoding, len(mark)
+    front = data.split(b"\n", 2)[:2]
+    named = (_ENCODING.search(it) for it in front if it[:1] == b"#")
+    found = next((it[1].decode("ascii", "replace") for it in named if it), "utf-8")
+    return None if found.lower().replace("_", "-") in ("utf-8", "utf8") else (found, 0)
+
+
+def _decoded(path: str, data: bytes, coding: Optional[Tuple[str, int]]) -> str:
+    """The text of a file. `UnicodeDecodeError` is raised where none is named and it isn't in UTF-8."""
+    if coding is None:
+        return data.decode("utf-8")
+    encoding, begin = coding
+    try:
+        return data[begin:].decode(encoding)
+    except LookupError:
+        raise _whole(path, f"there is no encoding {encoding}") from None
+    except UnicodeError as error:
+        raise _whole(path, f"not in the encoding {encoding}: {error}") from None
+
+
+def _whole(path: str, why: str) -> InvalidInput:
+    return InvalidInput(f"requirements: {why}", input="requirements", path=path)
+
+
+class _Reading:
+    """The lines of a file, and of those that it names, while they are read."""
+
+    def __init__(self) -> None:
+        self.texts: List[str] = []
+        self.origins: List[Origin] = []
+        self.constraints: Set[int] = set()
+        self.left_out: List[LeftOut] = []
+        # Whether something is pip's.
+        self.is_pips = False
+        self._named: Set[str] = set()
+        # The files that lead to the one that is read, and those that were read, with whether as constraints.
+        self._within: List[Tuple[str, str]] = []
+        self._done: Dict[Tuple[Tuple[str, str], bool], Place] = {}
+
+    def read_root(self, file: _File) -> None:
+        key = _key_of(file.path)
+        self._done[key, False] = Place(file.path)
+        self._within.append(key)
+        self._read(file, False)
+
+    def _read(self, file: _File, is_constraint: bool) -> None:
+        self.is_pips |= any(it.endswith("\\") and not _IS_COMMENT.match(it) for it in file.lines)
+        for number, text in _logical_lines(file.lines):
+            given = text
+            if "${" in text:
+                text = self._expanded(file, number, text)
+            if text[:1] == "-" or " -" in text:
+                text = self._without_options(file, number, text, is_constraint)
+            if text and not self._is_left_out(file, number, text, given):
+                if is_constraint:
+                    self._constrain(file, number, text)
+                self.texts.append(text)
+                self.origins.append((file, number))
+
+    def _constrain(self, file: _File, number: int, text: str) -> None:
+        """Takes down that the next line is a constraint. One with extras is refused, as pip does."""
+        self.constraints.add(len(self.texts))
+        if "[" in text and _has_extras(text):
+            raise refused(file.located(number, 0, len(text)), "a constraint can't have extras")
+
+    def _leave_out(self, what: str, file: _File, number: int, why: str) -> None:
+        self.is_pips = True
+        self.left_out.append(LeftOut(what, Place(file.path, number), why))
+
+    def _is_left_out(self, file: _File, number: int, text: str, given: str) -> bool:
+        """Whether a line is a path, an archive or a URL without a name, which is told then."""
+        if not _UNNAMED.match(text) and not ("/" in text and os.path.isdir(_BEHIND_PATH.split(text, 1)[0])):
+            return False
+        try:
+            _native.requirement(_native.encoded(text))
+        except _native.Fault:
+            self._leave_out(given, file, number, "a path, an archive or a URL without a name")
+            return True
+        return False
+
+    def _expanded(self, file: _File, number: int, text: str) -> str:
+        """A line with the values of its variables, of those that are set and not empty."""
+        values = {it: os.environ.get(it) or "" for it in _VARIABLE.findall(text)}
+        for name, value in values.items():
+            if "\n" in value or "${" in value or _COMMENT.search(value):
+                begin = text.index(f"${{{name}}}")
+                why = f"the value of {name} has a line feed, a comment or a variable in it"
+                raise refused(_part(file, number, begin, len(name) + 3), why)
+        expanded = _VARIABLE.sub(lambda it: values[it[1]] or it[0], text)
+        self.is_pips |= expanded != text
+        return expanded.strip()
+
+    def _without_options(self, file: _File, number: int, text: str, is_constraint: bool) -> str:
+        """A line without its options, of which those are followed that name files, and others are told."""
+        at = 0 if text.startswith("-") else text.find(" -") + 1
+        if _HASHES.fullmatch(text, at):
+            options = _Options([("--hash", None)], [])
+        else:
+            try:
+                options = _options_of(text[at:])
+            except _NoOption as error:
+                if at:
+                    return text
+                raise refused(file.located(number, 0, len(text)), str(error)) from None
+        self.is_pips = True
+        front = text[: at - 1] if at else ""
+        followed = None if front else self._follow(file, number, text, options)
+        self._tell(file, number, options, followed)
+        return front
+
+    def _tell(self, file: _File, number: int, options: _Options, followed: Optional[str]) -> None:
+        """Tells what is passed over: each option once, but each of those that ask for something."""
+        for name, value in options.named:
+            if name == followed:
+                followed = None
+            elif name == "-e":
+                self._leave_out("-e", file, number, "an editable requirement")
+            elif name in ("-r", "-c"):
+                self._leave_out(f"{name} {value}", file, number, "pip looks at one file on a line, and at none beside a requirement")
+            elif name not in self._named:
+                self._named.add(name)
+                self._leave_out(name, file, number, "an option of pip")
+        if options.words:
+            self._leave_out(" ".join(options.words), file, number, "words after an option, which pip passes over")
+
+    def _follow(self, file: _File, number: int, text: str, options: _Options) -> Optional[str]:
+        """Reads the file that the options name, and gives the option that does."""
+        if options.first("-e") is not None:
+            return None
+        for option in ("-r", "-c"):
+            named = options.first(option)
+            if named is not None:
+                self._include(file, number, text, option, named)
+                return option
+        return None
+
+    def _include(self, file: _File, number: int, text: str, option: str, named: str) -> None:
+        if _URL.match(named):
+            self._leave_out(f"{option} of a URL", file, number, "nothing is fetched")
+            return
+        path = os.path.join(os.path.dirname(file.path), named)
+        where = file.located(number, max(0, text.find(named)), len(text))
+        key = _key_of(path)
+        is_constraint = option == "-c"
+        if key in self._within:
+            raise refused(where, f"{path} is being read: it names itself, or a file that names it")
+        if len(self._within) >= DEEPEST:
+            raise refused(where, f"more than {DEEPEST} files deep")
+        if (key, is_constraint) in self._done:
+            self._leave_out(f"{option} {named}", file, number, f"read already, by {self._done[key, is_constraint]}")
+            return
+        self._done[key, is_constraint] = Place(file.path, number)
+        inner = _File(path, _text_of(path, where))
+        self._within.append(key)
+        self._read(inner, is_constraint)
+        self._within.pop()
+
+
+def _part(file: _File, number: int, begin: int, length: int) -> Located:
+    """A part of a line as it stands in its file, before variables are replaced."""
+    parts, _ = _parts_of(file.lines, number - 1)
+    text = "".join(it.text for it in parts)
+    index, column = _in_parts(parts, begin + len(text) - len(text.lstrip()))
+    return Located(Place(file.path, index + 1), file.lines[index], column, column + length)
+
+
+def _key_of(path: str) -> Tuple[str, str]:
+    """What is the same for the same file in the same folder."""
+    return os.path.realpath(path), os.path.realpath(os.path.dirname(path))
+
+
+def _text_of(path: str, where: Located) -> str:
+    """The text of a file that another one names at a place."""
+    try:
+        with open(path, "rb") as file:
+            data = file.read()
+    except (OSError, ValueError) as error:
+        raise refused(where, f"{path}: {getattr(error, 'strerror', None) or error}") from None
+    try:
+        return _decoded(path, data, _coding_of(data))
+    except UnicodeDecodeError as error:
+        line = data.count(b"\n", 0, error.start) + 1
+        raise _whole(path, f"line {line}: not UTF-8 at byte {error.start} of the file") from None
+
+
+def _has_extras(text: str) -> bool:
+    try:
+        return bool(_native.requirement(_native.encoded(text)).extras)
+    except _native.Fault:
+        return False
+
+
+_parser: List[Any] = []
+
+
+def _options_of(text: str) -> _Options:
+    """The options of a text, read as pip reads them."""
+    import shlex
+
+    if not _parser:
+        _parser.append(_new_parser())
+    named: List[Tuple[str, Optional[str]]] = []
+    parser = _parser[0]
+    values = parser.get_default_values()
+    values.named = named
+    try:
+        words = shlex.split(text)
+    except ValueError as error:
+        raise _NoOption(f"options that can't be split: {error}") from None
+    _, left = parser.parse_args(words, values)
+    return _Options(named, left)
+
+
+def _new_parser() -> Any:
+    """A parser of the options of a requirements file, by the module that pip has it from."""
+    import optparse
+
+    class Parser(optparse.OptionParser):
+        def error(self, msg: str) -> NoReturn:
+            raise _NoOption(msg)
+
+    def take(option: Any, spelling: str, value: Optional[str], parser: Any) -> None:
+        name = _SHORT.get(spelling, spelling)
+        if name == "--hash" and (value or "").partition(":")[0] not in _STRONG or name == "--hash" and ":" not in (value or ""):
+            parser.error(f"--hash wants one of {', '.join(_STRONG)}, a colon and a value")
+        parser.values.named.append((name, value))
+
+    parser = Parser(add_help_option=False, usage="")
+    for spellings, has_value in _OPTIONS:
+        parser.add_option(*spellings, action="callback", callback=take, type="string" if has_value else None)
+    return parser
