@@ -27,8 +27,8 @@ INPUTS = ("requirements", "environment", "environments", "candidates", "left", "
 
 STATUSES = """exit status: 0 after an answer, 1 where `same` said no, 2 where an input or the command line is refused, 3 where
 memory ran out or a file can't be read or written, as a standard stream that is closed, and 4 where a row is none with --strict.
-FILE may be `-` once, for standard input. It is a requirements file of pip or a list with a requirement (PEP 508) a line, unless its
-name says otherwise: pyproject.toml, pylock.toml, METADATA, PKG-INFO, *.whl, *.tar.gz, or a folder of a project or a distribution."""
+FILE may be `-` once, for standard input. It is a requirements file of pip, as a list with a requirement (PEP 508) a line is one,
+unless its name says otherwise: pyproject.toml, pylock.toml, METADATA, PKG-INFO, *.whl, *.tar.gz, or a folder of one of these."""
 
 
 def source(word: str) -> Source:

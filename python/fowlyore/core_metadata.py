@@ -99,8 +99,8 @@ def _version(text: str) -> Tuple[int, ...]:
 
 
 def _add_sections(path: str, data: bytes, lines: Lines) -> List[str]:
-    """Takes in the requirements of a `requires.txt`, of which a section `[EXTRA:MARKER]` has those that apply there, and gives the
-    extras."""
+    """Takes in the requirements of a `requires.txt`, of which a section `[EXTRA:MARKER]` has those that apply there. It gives
+    the extras."""
     condition, extras = "", []
     for number, line in enumerate(_text(path, data).splitlines(), 1):
         section = _SECTION.fullmatch(line.strip())

@@ -4,7 +4,8 @@
 |---|---|
 | `pyproject.toml` | dependencies, extras, dependency groups (`fowlyore.projects`) |
 | `pylock.toml`, `pylock.NAME.toml` | the packages of a lock file (`fowlyore.projects`) |
-| `METADATA`, `PKG-INFO`, `*.whl`, `*.tar.gz`, a folder `*.dist-info` or `*.egg-info` | core metadata (`fowlyore.core_metadata`) |
+| `METADATA`, `PKG-INFO`, `*.whl`, `*.tar.gz` | core metadata (`fowlyore.core_metadata`) |
+| a folder `*.dist-info` or `*.egg-info` | the core metadata in it |
 | a folder of a project | its `pyproject.toml` |
 | any other | a requirements file of pip, or a plain list (`fowlyore.pip_files`) |
 """
@@ -88,6 +89,6 @@ def _of_kind(path: str, groups: Sequence[str]) -> Listing:
 
 
 def read_text(data: bytes) -> Listing:
-    """The list of a requirements file of pip, or of a plain list, that stands on standard input; files that it names stand beside
-    the working folder."""
+    """The list of a requirements file of pip, or of a plain list, that stands on standard input. Files that it names are
+    looked for in the working folder."""
     return read_pip(STANDARD_INPUT, data)

@@ -127,8 +127,8 @@ class Comparison:
 
 @dataclass(frozen=True)
 class Conflict:
-    """A package, the numbers of its lines that have no version in common, and whether one of them names a pre-release. Of a list
-    that was read from files, and isn't plain, `places` tells where these lines stand; their numbers count its `lines`."""
+    """A package, the numbers of its lines that have no version in common, and whether one of them names a pre-release. Of a
+    list that `read` has read, and that isn't plain, the numbers count its `lines`, and `places` tells where these stand."""
 
     name: str
     lines: Tuple[int, ...]

@@ -32,12 +32,14 @@ _COMMENT = re.compile(r"(?:^|\s)#")
 _IS_COMMENT = re.compile(r"\s*#")
 _VARIABLE = re.compile(r"\$\{([A-Z0-9_]+)\}")
 _URL = re.compile(r"(?:https?|file):", re.I)
-# What stands in a file in which something may be pip's.
-_SIGNS = ("\\", " -", "\n-", "\r-", "${", "/", "\n.", "\r.", ".whl", ".zip", ".tar", ".tgz", ".tbz", ".txz", ".tlz")
+# What ends a line for pip alone, and what stands before a comment or in none where something may be pip's.
+_ENDS = ("\\\n", "\\\r", "\x0b", "\x0c", "\x1c", "\x1d", "\x1e", "\x85", "\u2028", "\u2029")
+_ARCHIVES = (".whl", ".zip", ".tar", ".tgz", ".tbz", ".txz", ".tlz")
+_SIGNS = (" -", "\n-", "${", "/", "\n.", *_ARCHIVES)
 # What pip takes for a path, an archive or a URL without a name, where the library reads no requirement.
 _UNNAMED = re.compile(
     r"[./]|(?:https?|file|ftp|(?:git|hg|svn|bzr)\+[a-z]+):|"
-    r"[^;\[]*\.(?:whl|zip|tgz|tbz|txz|tlz|tar|tar\.(?:gz|bz2|xz|lz|lzma))\s*(?:\[[^\]]*\]\s*)?(?:;|$)",
+    r"[^;\[@]*\.(?:whl|zip|tgz|tbz|txz|tlz|tar|tar\.(?:gz|bz2|xz|lz|lzma))\s*(?:\[[^\]]*\]\s*)?(?:;|$)",
     re.I,
 )
 _BEHIND_PATH = re.compile(r"\s*[;\[]")
@@ -63,6 +65,8 @@ _OPTIONS = (
     (("--hash",), True),
     (("-C", "--config-settings", "--config-setting"), True),
 )
+# Those that ask for something: of these on a line the first kind counts.
+_ASKING = ("-e", "-r", "-c")
 _SHORT = {"--requirement": "-r", "--constraint": "-c", "--editable": "-e"}
 
 
@@ -87,6 +91,8 @@ class _File(Source):
     def __init__(self, path: str, text: str) -> None:
         self.path = path
         self.lines = text.splitlines()
+        low = text.lower()
+        self.has_archives = "${" in text or any(it in low for it in _ARCHIVES)
 
     def place(self, key: int) -> Place:
         return Place(self.path, key)
@@ -160,10 +166,10 @@ def _logical_lines(lines: List[str]) -> Iterator[Tuple[int, str]]:
         if text.endswith("\\"):
             parts, at = _parts_of(lines, number - 1)
             text = "".join([it.text for it in parts])
-        if "#" in text:
-            comment = _COMMENT.search(text)
-            text = text if comment is None else text[: comment.start()]
-        text = text.strip()
+        comment = text.find("#")
+        while comment > 0 and not text[comment - 1].isspace():
+            comment = text.find("#", comment + 1)
+        text = text.strip() if comment < 0 else text[:comment].strip()
         if text:
             yield number, text
 
@@ -198,7 +204,17 @@ def read_pip(path: str, data: bytes) -> Listing:
 
 
 def _may_be_pips(data: bytes) -> bool:
-    return data[:1] in (b"-", b".") or any(it.encode() in data for it in _SIGNS)
+    """Whether something of a file may be pip's; a quick answer, for which comments are left out line by line."""
+    if data.endswith(b"\\") or data.count(b"\r") != data.count(b"\r\n") or any(it.encode() in data for it in _ENDS):
+        return True
+    fronts = []
+    for line in data.split(b"\n"):
+        front, mark, _ = line.partition(b"#")
+        if mark and front and front[-1] not in b" \t":
+            return True
+        fronts.append(front)
+    bare = b"\n".join([b"", *fronts]).lower()
+    return any(it.encode() in bare for it in _SIGNS)
 
 
 def _coding_of(data: bytes) -> Optional[Tuple[str, int]]:
@@ -240,6 +256,7 @@ class _Reading:
         # Whether something is pip's.
         self.is_pips = False
         self._named: Set[str] = set()
+        self._values: Dict[str, str] = {}
         # The files that lead to the one that is read, and those that were read, with whether as constraints.
         self._within: List[Tuple[str, str]] = []
         self._done: Dict[Tuple[Tuple[str, str], bool], Place] = {}
@@ -252,15 +269,19 @@ class _Reading:
 
     def _read(self, file: _File, is_constraint: bool) -> None:
         self.is_pips |= any(it.endswith("\\") and not _IS_COMMENT.match(it) for it in file.lines)
+        has_archives = file.has_archives
         for number, text in _logical_lines(file.lines):
             given = text
             if "${" in text:
                 text = self._expanded(file, number, text)
             if text[:1] == "-" or " -" in text:
                 text = self._without_options(file, number, text, is_constraint)
-            if text and not self._is_left_out(file, number, text, given):
-                if is_constraint:
-                    self._constrain(file, number, text)
+            may_be_path = has_archives or "/" in text or text[:1] == "."
+            if may_be_path and self._is_left_out(file, number, text, given if "${" in given else text):
+                continue
+            if is_constraint and text:
+                self._constrain(file, number, text)
+            if text:
                 self.texts.append(text)
                 self.origins.append((file, number))
 
@@ -287,8 +308,11 @@ class _Reading:
 
     def _expanded(self, file: _File, number: int, text: str) -> str:
         """A line with the values of its variables, of those that are set and not empty."""
-        values = {it: os.environ.get(it) or "" for it in _VARIABLE.findall(text)}
-        for name, value in values.items():
+        values = self._values
+        for name in _VARIABLE.findall(text):
+            if name in values:
+                continue
+            value = values[name] = os.environ.get(name) or ""
             if "\n" in value or "${" in value or _COMMENT.search(value):
                 begin = text.index(f"${{{name}}}")
                 why = f"the value of {name} has a line feed, a comment or a variable in it"
@@ -300,46 +324,50 @@ class _Reading:
     def _without_options(self, file: _File, number: int, text: str, is_constraint: bool) -> str:
         """A line without its options, of which those are followed that name files, and others are told."""
         at = 0 if text.startswith("-") else text.find(" -") + 1
-        if _HASHES.fullmatch(text, at):
-            options = _Options([("--hash", None)], [])
-        else:
-            try:
-                options = _options_of(text[at:])
-            except _NoOption as error:
-                if at:
-                    return text
-                raise refused(file.located(number, 0, len(text)), str(error)) from None
+        if at and _HASHES.fullmatch(text, at):
+            self._tell_once("--hash", file, number)
+            return text[:at].rstrip()
+        try:
+            options = _options_of(text[at:])
+        except _NoOption as error:
+            if at:
+                return text
+            raise refused(file.located(number, 0, len(text)), str(error)) from None
         self.is_pips = True
-        front = text[: at - 1] if at else ""
-        followed = None if front else self._follow(file, number, text, options)
-        self._tell(file, number, options, followed)
+        front = text[:at].rstrip()
+        looked_at = "" if front else self._follow(file, number, text, options)
+        self._tell(file, number, options, looked_at)
         return front
 
-    def _tell(self, file: _File, number: int, options: _Options, followed: Optional[str]) -> None:
-        """Tells what is passed over: each option once, but each of those that ask for something."""
+    def _tell(self, file: _File, number: int, options: _Options, looked_at: str) -> None:
+        """Tells what is passed over: each option once, but each of those that ask for something. One of these is looked at."""
         for name, value in options.named:
-            if name == followed:
-                followed = None
-            elif name == "-e":
-                self._leave_out("-e", file, number, "an editable requirement")
-            elif name in ("-r", "-c"):
-                self._leave_out(f"{name} {value}", file, number, "pip looks at one file on a line, and at none beside a requirement")
-            elif name not in self._named:
-                self._named.add(name)
-                self._leave_out(name, file, number, "an option of pip")
+            if name == looked_at:
+                looked_at = ""
+                if name == "-e":
+                    self._leave_out("-e", file, number, "an editable requirement")
+            elif name in _ASKING:
+                why = "pip looks at one such option on a line, and at none beside a requirement"
+                self._leave_out(name if name == "-e" else f"{name} {value}", file, number, why)
+            else:
+                self._tell_once(name, file, number)
         if options.words:
             self._leave_out(" ".join(options.words), file, number, "words after an option, which pip passes over")
 
-    def _follow(self, file: _File, number: int, text: str, options: _Options) -> Optional[str]:
-        """Reads the file that the options name, and gives the option that does."""
-        if options.first("-e") is not None:
-            return None
-        for option in ("-r", "-c"):
+    def _tell_once(self, name: str, file: _File, number: int) -> None:
+        if name not in self._named:
+            self._named.add(name)
+            self._leave_out(name, file, number, "an option of pip")
+
+    def _follow(self, file: _File, number: int, text: str, options: _Options) -> str:
+        """Reads the file that the options name. It gives the one option of a line that asks for something."""
+        for option in _ASKING:
             named = options.first(option)
             if named is not None:
-                self._include(file, number, text, option, named)
+                if option != "-e":
+                    self._include(file, number, text, option, named)
                 return option
-        return None
+        return ""
 
     def _include(self, file: _File, number: int, text: str, option: str, named: str) -> None:
         if _URL.match(named):

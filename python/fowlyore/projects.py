@@ -37,7 +37,7 @@ class Lines:
         at = Located(place, given, 0, len(given))
         comment = _COMMENT.search(given)
         if comment is not None:
-            raise refused(Located(place, given, comment.start(), len(given)), "a requirement has no comment")
+            raise refused(Located(place, given, comment.end() - 1, len(given)), "a requirement has no comment")
         if not given.strip():
             raise refused(at, "an empty text is no requirement")
         if "\n" in given.strip("\r\n"):
@@ -143,8 +143,8 @@ def _loads(text: str) -> Dict[str, Any]:
 
 
 def read_project(path: str, data: bytes, groups: Sequence[str] = ()) -> Listing:
-    """The list of a `pyproject.toml`: `project.dependencies`; those of each extra, which apply where it is asked for; and those of
-    some dependency groups, with the groups that they include.
+    """The list of a `pyproject.toml`: `project.dependencies`; those of each extra, which apply where it is asked for; and
+    those of some dependency groups, with the groups that they include.
 
     Raises `InvalidInput` for what can't be read, by its table, and for groups that aren't there or include one another in a
     circle.
