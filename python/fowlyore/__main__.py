@@ -10,10 +10,10 @@ from pathlib import Path
 from typing import Any, Dict, Iterable, List, Optional, Union
 
 from . import __version__
-from .distributions import installed
+from .distributions import installed, normal_name
 from .explanations import check_explained
-from .files import read, read_text
-from .listings import LeftOut, Listing
+from .files import is_project, read, read_text, refuse_groups
+from .listings import REQUIRES_PYTHON, LeftOut, Listing
 from .lists import GREATEST_LIMIT, LIMIT, InvalidInput, check, conflicts, matrix, normal, same
 from .markers import completed
 from .offered import read_candidates, wheelhouse
@@ -41,10 +41,12 @@ def source(word: str) -> Source:
     return sys.stdin.buffer.read()
 
 
-def listing(word: str, words: argparse.Namespace) -> Listing:
+def listing(word: str, groups: List[str]) -> Listing:
     """A list that is named. What is left out of it is told."""
     given = source(word)
-    found = read_text(given) if isinstance(given, bytes) else read(given, groups=words.group)
+    if isinstance(given, bytes) and groups:
+        refuse_groups(word)
+    found = read_text(given) if isinstance(given, bytes) else read(given, groups=groups)
     tell_left_out(found.left_out)
     return found
 
@@ -54,10 +56,20 @@ def tell_left_out(left_out: Iterable[LeftOut]) -> None:
         complain(str(it))
 
 
-def tell_assumed(found: Listing) -> Listing:
+def tell_assumed(found: Listing, but: str = "") -> Listing:
     """Tells what a list's file says of environments, where none is held against it."""
     for it in found.assumed:
-        complain(f"{it.place}: {it.text}: {it.what} is not looked at")
+        if it.what != but:
+            complain(f"{it.place}: {it.text}: {it.what} is not looked at")
+    return found
+
+
+def asked(words: argparse.Namespace) -> Listing:
+    """The list of `check` and `matrix`. Extras that its file doesn't define are told."""
+    found = tell_assumed(listing(words.requirements, words.group), but=REQUIRES_PYTHON)
+    for it in words.extra:
+        if found.extras is not None and normal_name(it) not in found.extras:
+            complain(f"{found.path}: there is no extra {it}")
     return found
 
 
@@ -175,8 +187,7 @@ def versions_of(full: str) -> Dict[str, str]:
 
 
 def run_check(words: argparse.Namespace) -> int:
-    requirements = listing(words.requirements, words)
-    inputs = (requirements, environment_of(words), candidates_of(words), words.extra)
+    inputs = (asked(words), environment_of(words), candidates_of(words), words.extra)
     ignored = words.ignore_requires_python
     if words.explain:
         rows, explanations = check_explained(*inputs, ignore_requires_python=ignored)
@@ -189,7 +200,7 @@ def run_check(words: argparse.Namespace) -> int:
 
 
 def run_matrix(words: argparse.Namespace) -> int:
-    inputs = (listing(words.requirements, words), source(words.environments), candidates_of(words), words.extra)
+    inputs = (asked(words), source(words.environments), candidates_of(words), words.extra)
     answers = matrix(*inputs, limit=words.limit, ignore_requires_python=words.ignore_requires_python)
     for number, rows in enumerate(answers, 1):
         show(f"env {number}", *rows)
@@ -197,20 +208,23 @@ def run_matrix(words: argparse.Namespace) -> int:
 
 
 def run_same(words: argparse.Namespace) -> int:
-    left, right = (tell_assumed(listing(it, words)) for it in (words.left, words.right))
+    both = (words.left, words.right)
+    # (groups are those of the projects among the two)
+    of_projects = [it for it in both if is_project(it)] or both
+    left, right = (tell_assumed(listing(it, words.group if it in of_projects else [])) for it in both)
     answer = same(left, right, words.limit)
     show(answer)
     return ANSWERED if answer else DIFFERENT
 
 
 def run_conflicts(words: argparse.Namespace) -> int:
-    for it in conflicts(tell_assumed(listing(words.requirements, words)), words.limit):
+    for it in conflicts(tell_assumed(listing(words.requirements, words.group)), words.limit):
         show(it)
     return ANSWERED
 
 
 def run_normal(words: argparse.Namespace) -> int:
-    for it in normal(tell_assumed(listing(words.requirements, words))):
+    for it in normal(tell_assumed(listing(words.requirements, words.group))):
         show(it)
     return ANSWERED
 
@@ -250,14 +264,14 @@ def main(words: Optional[List[str]] = None) -> int:
     """Runs a command, by default that of the process, and gives its exit status."""
     if words is None:
         write_utf8()
-    asked = parser().parse_args(words)
-    if sum(getattr(asked, it, None) == "-" for it in INPUTS) > 1:
+    said = parser().parse_args(words)
+    if sum(getattr(said, it, None) == "-" for it in INPUTS) > 1:
         complain("standard input (-) can be one input alone")
         return REFUSED
     try:
         with warnings.catch_warnings():
             complain_of_warnings()
-            status = RUNS[asked.command](asked)
+            status = RUNS[said.command](said)
         if sys.stdout is not None:
             sys.stdout.flush()
         return status

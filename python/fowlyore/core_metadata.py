@@ -76,7 +76,9 @@ def read_metadata(path: str, data: bytes, requires: Optional[bytes] = None, is_s
     for it in _fields(path, _text(path, data)):
         place = Place(path, it.line)
         told.setdefault(it.name, it.value)
-        if it.name == "requires-dist":
+        if it.name == "name":
+            lines.own = normal_name(it.value)
+        elif it.name == "requires-dist":
             lines.add(place, it.value)
         elif it.name == "requires-python":
             lines.assume_python(place, it.value)

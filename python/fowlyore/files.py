@@ -48,8 +48,18 @@ def read(
         name = _file_of(name.rstrip(os.sep) or name)
     asked = [groups] if isinstance(groups, str) else list(groups)
     if asked and os.path.basename(name) != PROJECT:
-        _refuse(name, f"dependency groups are read of a {PROJECT} alone")
+        refuse_groups(name)
     return _of_kind(name, asked)
+
+
+def refuse_groups(path: str) -> NoReturn:
+    """Refuses to take dependency groups of a file that has none."""
+    _refuse(path, f"dependency groups are read of a {PROJECT} alone")
+
+
+def is_project(path: str) -> bool:
+    """Whether a file, or a folder, is read as a project."""
+    return os.path.basename(path) == PROJECT or os.path.isfile(os.path.join(path, PROJECT))
 
 
 def _refuse(path: str, why: str) -> NoReturn:

@@ -3,7 +3,7 @@
 import json
 import os
 import re
-from typing import Any, Dict, Iterable, List, NoReturn, Optional, Tuple
+from typing import Any, Dict, List, NoReturn, Optional, Tuple, Union
 
 from .distributions import is_version, normal_name
 from .listings import LeftOut, Place
@@ -24,7 +24,7 @@ def _told(left_out: LeftOuts, what: str, place: Place, why: str) -> None:
         left_out.append(LeftOut(what, place, why))
 
 
-def wheelhouse(folder: "os.PathLike[str]", left_out: LeftOuts = None) -> List[Candidate]:
+def wheelhouse(folder: "Union[str, os.PathLike[str]]", left_out: LeftOuts = None) -> List[Candidate]:
     """Name and version of each wheel and source archive in a folder, by their files' names (PEP 427, PEP 625), in the order of
     these; whether the interpreter can use a wheel is not looked at. Of other files each is told in `left_out`.
 
@@ -69,10 +69,12 @@ def _splits(text: str) -> List[Candidate]:
     return [(name, version) for name, version in pairs if is_version(version) and normal_name(name)]
 
 
-def read_candidates(path: "os.PathLike[str]", left_out: LeftOuts = None) -> Any:
+def read_candidates(
+    path: "os.PathLike[str]", left_out: LeftOuts = None
+) -> "Union[List[Candidate], os.PathLike[str]]":
     """The candidates that a file has, for the functions on lists: of a folder those of `wheelhouse`, of `pylock.toml` or
-    `pylock.NAME.toml` its packages, of a name that ends in `.json` those of a page of a package index (PEP 691). Any other file
-    is a list of candidates, and its path is the answer. What is left out is told in `left_out`.
+    `pylock.NAME.toml` its packages, of a name that ends in `.json` those of a page of a package index (PEP 691), or of an array of
+    pages. Any other file is a list of candidates, and its path is the answer. What is left out is told in `left_out`.
 
     Raises `InvalidInput` for what can't be read.
     """
@@ -104,71 +106,91 @@ def _refuse(path: str, why: str) -> NoReturn:
 
 
 def _of_page(path: str, data: bytes, left_out: LeftOuts) -> List[Candidate]:
-    """The candidates of a page: each version of which a file is there that isn't yanked; without files each that it lists."""
+    """The candidates of a page, or of an array of pages."""
     try:
-        page = json.loads(data.decode("utf-8"))
+        pages = json.loads(data.decode("utf-8"))
     except (ValueError, RecursionError) as error:
         _refuse(path, f"no JSON: {error}")
-    if not isinstance(page, dict):
-        _refuse(path, "no page of a package index: an object is wanted")
-    name = _member(path, page, "name", str)
-    normal = normal_name(name)
-    if not normal:
-        _refuse(path, f"name: {name!r} is no name")
-    meta = page.get("meta")
-    said = meta.get("api-version", "1.0") if isinstance(meta, dict) else "1.0"
-    if not str(said).startswith("1."):
-        _refuse(path, f"meta.api-version: {said!r} is not 1.0")
-    if "files" not in page and "versions" not in page:
-        _refuse(path, "no page of a package index: there is no member files, and no member versions")
-    listed = _texts(path, _member(path, page, "versions", list, []))
-    if "files" not in page:
-        return [(name, it) for it in _versions(path, listed, left_out)]
-    found = _of_files(path, normal, _member(path, page, "files", list), left_out)
-    return [(name, it) for it in _spelled(path, found, listed, left_out)]
+    if not isinstance(pages, list):
+        return _Page(path, "", pages, left_out).candidates()
+    return [it for at, page in enumerate(pages) for it in _Page(path, f"[{at}].", page, left_out).candidates()]
 
 
-def _member(path: str, page: Dict[str, Any], name: str, kind: Any, otherwise: Any = None) -> Any:
-    found = page.get(name, otherwise)
-    if not isinstance(found, kind):
-        _refuse(path, f"no page of a package index: the member {name} is missing, or of another form")
-    return found
+class _Page:
+    """The page of a package; `front` stands before its members in what is told."""
 
+    def __init__(self, path: str, front: str, page: Any, left_out: LeftOuts) -> None:
+        self.path, self.front, self.left_out = path, front, left_out
+        if not isinstance(page, dict):
+            self.refuse("", "an object is wanted, the page of a package in an index")
+        self.page: Dict[str, Any] = page
 
-def _texts(path: str, listed: List[Any]) -> List[str]:
-    for at, it in enumerate(listed):
-        if not isinstance(it, str):
-            _refuse(path, f"versions[{at}]: a text is wanted")
-    return listed
+    def refuse(self, member: str, why: str) -> NoReturn:
+        where = self.front + member if member else self.front.rstrip(".")
+        _refuse(self.path, f"{where}: {why}" if where else why)
 
+    def tell(self, what: str, why: str, member: str) -> None:
+        _told(self.left_out, what, Place(self.path, entry=self.front + member), why)
 
-def _versions(path: str, listed: Iterable[str], left_out: LeftOuts) -> List[str]:
-    """Those of some texts that are versions."""
-    found = []
-    for it in listed:
-        if is_version(it):
-            found.append(it)
-        else:
-            _told(left_out, it, Place(path), "no version")
-    return found
+    def candidates(self) -> List[Candidate]:
+        """Each version of which a file is there that isn't yanked; without files each that is listed."""
+        name = self.member("name", str)
+        normal = normal_name(name)
+        if not normal:
+            self.refuse("name", f"{name!r} is no name")
+        meta = self.page.get("meta")
+        said = meta.get("api-version", "1.0") if isinstance(meta, dict) else "1.0"
+        if not str(said).startswith("1."):
+            self.refuse("meta.api-version", f"{said!r} is not 1.0")
+        if "files" not in self.page and "versions" not in self.page:
+            self.refuse("", "there is no member files, and no member versions")
+        listed = self.listed()
+        if "files" not in self.page:
+            return [(name, it) for it in listed]
+        return [(name, it) for it in self.spelled(self.of_files(normal), listed)]
 
+    def member(self, name: str, kind: Any, otherwise: Any = None) -> Any:
+        found = self.page.get(name, otherwise)
+        if not isinstance(found, kind):
+            self.refuse(name, "it is missing, or of another form")
+        return found
 
-def _of_files(path: str, normal: str, files: List[Any], left_out: LeftOuts) -> List[str]:
-    """The versions of the files of a package that aren't yanked."""
-    found: Dict[str, None] = {}
-    for at, file in enumerate(files):
-        filename = file.get("filename") if isinstance(file, dict) else None
-        if not isinstance(filename, str):
-            _refuse(path, f"files[{at}]: an object with a filename is wanted")
-        place = Place(path, entry=f"files[{at}]")
-        version, why = _version_of(filename, normal)
-        if file.get("yanked"):
-            _told(left_out, filename, place, "yanked")
-        elif version is None:
-            _told(left_out, filename, place, why)
-        else:
-            found[version] = None
-    return list(found)
+    def listed(self) -> List[str]:
+        """The versions that the page lists."""
+        found = []
+        for at, it in enumerate(self.member("versions", list, [])):
+            if not isinstance(it, str):
+                self.refuse(f"versions[{at}]", "a text is wanted")
+            if is_version(it):
+                found.append(it)
+            else:
+                self.tell(it, "no version", f"versions[{at}]")
+        return found
+
+    def of_files(self, normal: str) -> List[str]:
+        """The versions of the package's files that aren't yanked."""
+        found: Dict[str, None] = {}
+        for at, file in enumerate(self.member("files", list)):
+            filename = file.get("filename") if isinstance(file, dict) else None
+            if not isinstance(filename, str):
+                self.refuse(f"files[{at}]", "an object with a filename is wanted")
+            version, why = _version_of(filename, normal)
+            if file.get("yanked"):
+                self.tell(filename, "yanked", f"files[{at}]")
+            elif version is None:
+                self.tell(filename, why, f"files[{at}]")
+            else:
+                found[version] = None
+        return list(found)
+
+    def spelled(self, found: List[str], listed: List[str]) -> List[str]:
+        """Versions of files, spelled as they are listed where they are."""
+        spelled = {Version(it): it for it in reversed(listed)}
+        of_files = {Version(it): it for it in reversed(found)}
+        for version, text in reversed(list(spelled.items())):
+            if version not in of_files:
+                self.tell(text, "no file is left of it", "versions")
+        return [spelled.get(version, text) for version, text in reversed(list(of_files.items()))]
 
 
 def _version_of(filename: str, normal: str) -> Tuple[Optional[str], str]:
@@ -182,13 +204,3 @@ def _version_of(filename: str, normal: str) -> Tuple[Optional[str], str]:
     if candidate is None or normal_name(candidate[0]) != normal:
         return None, why or "a file of another package"
     return candidate[1], ""
-
-
-def _spelled(path: str, found: List[str], listed: List[str], left_out: LeftOuts) -> List[str]:
-    """Versions of files, as a page lists them where it does."""
-    spelled = {Version(it): it for it in reversed(_versions(path, listed, left_out))}
-    of_files = {Version(it): it for it in reversed(found)}
-    for version, text in spelled.items():
-        if version not in of_files:
-            _told(left_out, text, Place(path), "no file is left of it")
-    return [spelled.get(version, text) for version, text in reversed(list(of_files.items()))]

@@ -257,6 +257,7 @@ class _Reading:
         self.is_pips = False
         self._named: Set[str] = set()
         self._values: Dict[str, str] = {}
+        self._parser: Any = None
         # The files that lead to the one that is read, and those that were read, with whether as constraints.
         self._within: List[Tuple[str, str]] = []
         self._done: Dict[Tuple[Tuple[str, str], bool], Place] = {}
@@ -313,12 +314,13 @@ class _Reading:
             if name in values:
                 continue
             value = values[name] = os.environ.get(name) or ""
-            if "\n" in value or "${" in value or _COMMENT.search(value):
-                begin = text.index(f"${{{name}}}")
-                why = f"the value of {name} has a line feed, a comment or a variable in it"
-                raise refused(_part(file, number, begin, len(name) + 3), why)
+            if "\n" in value or "${" in value:
+                why = f"the value of {name} has a line feed or a variable in it"
+                raise refused(_part(file, number, text.index(f"${{{name}}}"), len(name) + 3), why)
         expanded = _VARIABLE.sub(lambda it: values[it[1]] or it[0], text)
         self.is_pips |= expanded != text
+        if _COMMENT.search(expanded):
+            raise refused(_part(file, number, 0, len(text)), "with the values of its variables the line has a comment")
         return expanded.strip()
 
     def _without_options(self, file: _File, number: int, text: str, is_constraint: bool) -> str:
@@ -328,7 +330,7 @@ class _Reading:
             self._tell_once("--hash", file, number)
             return text[:at].rstrip()
         try:
-            options = _options_of(text[at:])
+            options = self._options_of(text[at:])
         except _NoOption as error:
             if at:
                 return text
@@ -338,6 +340,22 @@ class _Reading:
         looked_at = "" if front else self._follow(file, number, text, options)
         self._tell(file, number, options, looked_at)
         return front
+
+    def _options_of(self, text: str) -> _Options:
+        """The options of a text, read as pip reads them."""
+        import shlex
+
+        if self._parser is None:
+            self._parser = _new_parser()
+        named: List[Tuple[str, Optional[str]]] = []
+        values = self._parser.get_default_values()
+        values.named = named
+        try:
+            words = shlex.split(text)
+        except ValueError as error:
+            raise _NoOption(f"options that can't be split: {error}") from None
+        _, left = self._parser.parse_args(words, values)
+        return _Options(named, left)
 
     def _tell(self, file: _File, number: int, options: _Options, looked_at: str) -> None:
         """Tells what is passed over: each option once, but each of those that ask for something. One of these is looked at."""
@@ -423,27 +441,6 @@ def _has_extras(text: str) -> bool:
         return bool(_native.requirement(_native.encoded(text)).extras)
     except _native.Fault:
         return False
-
-
-_parser: List[Any] = []
-
-
-def _options_of(text: str) -> _Options:
-    """The options of a text, read as pip reads them."""
-    import shlex
-
-    if not _parser:
-        _parser.append(_new_parser())
-    named: List[Tuple[str, Optional[str]]] = []
-    parser = _parser[0]
-    values = parser.get_default_values()
-    values.named = named
-    try:
-        words = shlex.split(text)
-    except ValueError as error:
-        raise _NoOption(f"options that can't be split: {error}") from None
-    _, left = parser.parse_args(words, values)
-    return _Options(named, left)
 
 
 def _new_parser() -> Any:

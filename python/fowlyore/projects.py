@@ -29,6 +29,8 @@ class Lines:
         self.origins: List[Origin] = []
         self.left_out: List[LeftOut] = []
         self.assumed: List[Assumption] = []
+        # The normal name of the project, whose requirements of itself are left out.
+        self.own = ""
         self._entries = Entries()
 
     def add(self, place: Place, given: str, condition: str = "") -> None:
@@ -45,6 +47,9 @@ class Lines:
                 f"requirements: {place.within}: {given!r} goes over more than one line", input="requirements", path=place.path,
                 text=given, entry=place.entry, line=place.line,
             )  # fmt: skip
+        if self.own and "[" in given and _name_of(given) == self.own:
+            self.left_out.append(LeftOut(given, place, "the project itself, whose extras have to be asked for by name"))
+            return
         text, bracket = (given.strip("\r\n"), None) if not condition else self._narrowed(at, condition)
         self.texts.append(text)
         self.origins.append(self._entries.add(place, given, bracket))
@@ -68,6 +73,14 @@ class Lines:
 
     def listing(self, extras: Optional[Sequence[str]] = None) -> Listing:
         return Listing(self.path, self.texts, self.origins, left_out=self.left_out, assumed=self.assumed, extras=extras)
+
+
+def _name_of(text: str) -> str:
+    """The normal name in a requirement, and nothing of what is none."""
+    try:
+        return _native.requirement(_native.encoded(text)).name
+    except _native.Fault:
+        return ""
 
 
 def _characters(text: str, fault: _native.Fault) -> Tuple[int, int]:
@@ -169,6 +182,7 @@ def _add_project(document: _Document, lines: Lines, project: Dict[str, Any]) -> 
     python = document.member(project, "project", REQUIRES_PYTHON, str)
     if python is not None:
         lines.assume_python(Place(document.path, entry=f"project.{REQUIRES_PYTHON}"), python)
+    lines.own = normal_name(document.member(project, "project", "name", str, ""))
     for place, text in document.texts(project.get("dependencies", []), "project.dependencies"):
         lines.add(place, text)
     of_extras = document.member(project, "project", "optional-dependencies", dict, {})
@@ -181,6 +195,7 @@ def _add_project(document: _Document, lines: Lines, project: Dict[str, Any]) -> 
         extras.append(extra)
         for place, text in document.texts(given, where):
             lines.add(place, text, f"extra == '{extra}'")
+    lines.own = ""
     return extras
 
 

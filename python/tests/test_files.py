@@ -208,11 +208,16 @@ class Faults(InFolder):
         self.assertEqual(self.fault(self.write(a="-r b.txt\n", b=b"foo\n\xff\n")), (said, "b.txt", None))
 
     def test_variables(self):
-        why = "the value of VALUE has a line feed, a comment or a variable in it"
-        for value in ("1\nbar", "1 # c", "#", "${VALUE}"):
+        why = "the value of VALUE has a line feed or a variable in it"
+        for value in ("1\nbar", "${VALUE}"):
             with mock.patch.dict(os.environ, {"VALUE": value}):
                 said = self.fault(self.write(a="\nfoo== ${VALUE}\n"))
             self.assertEqual(said, (f"requirements: line 2, byte 6, length 8\n{why}\nfoo== ${{VALUE}}\n      {'^' * 8}", "a.txt", 2))
+        why = "with the values of its variables the line has a comment"
+        for value in ("1 # c", "#", "1 "):
+            with mock.patch.dict(os.environ, {"VALUE": value}):
+                said = self.fault(self.write(a="\nfoo== ${VALUE}#x\n"))
+            self.assertEqual(said, (f"requirements: line 2, byte 0, length 16\n{why}\nfoo== ${{VALUE}}#x\n{'^' * 16}", "a.txt", 2))
 
     def test_constraints_with_extras(self):
         said = "requirements: line 1, byte 0, length 9\na constraint can't have extras\nfoo[x]<2 \n^^^^^^^^^"

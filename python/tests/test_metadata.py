@@ -67,6 +67,15 @@ class Metadata(OfMetadata):
                 self.assertEqual([(it.text, it.place.line) for it in listing.assumed], [(">=3.8", 7)])
         self.assertEqual([str(it) for it in check(listing, ENVIRONMENT, "", "gui_extra")], ["bar none", "baz none", "foo none"])
 
+    def test_extras_of_its_own(self):
+        """As an extra `all` has them."""
+        path = self.folder / "METADATA"
+        path.write_text("Name: App_x\nRequires-Dist: foo\nRequires-Dist: app-x[gui,cli] ; extra == 'all'\nProvides-Extra: all\n")
+        listing = read(path)
+        why = "the project itself, whose extras have to be asked for by name"
+        self.assertEqual(self.lines(listing), [("foo", 2)])
+        self.assertEqual(listing.left_out, (LeftOut("app-x[gui,cli] ; extra == 'all'", Place(str(path), 3), why),))
+
     def test_wheels(self):
         path = self.wheel("app-1.0-py3-none-any.whl", **{"app-1.0.dist-info__METADATA": METADATA, "app__METADATA": "no"})
         listing = read(path)
@@ -258,34 +267,39 @@ class Pages(OfMetadata):
         ]
         page = {"meta": {"api-version": "1.1"}, "name": "Foo.Bar", "files": files, "versions": ["1.1.post1", "2.0", "nope"]}
         path, left_out = self.page(page), []
+        no_version = ("nope", "no version", "versions[2]")
         self.assertEqual(read_candidates(path, left_out), [("Foo.Bar", "1.0"), ("Foo.Bar", "1.1.post1")])
         self.assertEqual(
             [(it.what, it.why, it.place.entry) for it in left_out],
             [
+                no_version,
                 ("foo_bar-2.0.tar.gz", "yanked", "files[3]"),
                 ("other-3.0-py3-none-any.whl", "a file of another package", "files[4]"),
                 ("foo_bar-x.tar.gz", "its name says no version of the package", "files[5]"),
                 ("foo_bar-1.0.exe", "no wheel and no source archive", "files[6]"),
-                ("nope", "no version", None),
-                ("2.0", "no file is left of it", None),
+                ("2.0", "no file is left of it", "versions"),
             ],
         )
+        self.assertEqual(read_candidates(self.page([page, {"name": "a", "versions": ["1"]}]))[1:], [("Foo.Bar", "1.1.post1"), ("a", "1")])
+        self.assertEqual(read_candidates(self.page([])), [])
         del page["files"]
         self.assertEqual(read_candidates(self.page(page)), [("Foo.Bar", "1.1.post1"), ("Foo.Bar", "2.0")])
 
     def test_command_line(self):
         path = self.page({"name": "foo", "versions": ["1.0", "x"]})
-        said = f"fowlyore: {path}: left out: x (no version)\n"
+        said = f"fowlyore: {path}: versions[1]: left out: x (no version)\n"
         self.assertEqual(run("check", self.write(a="foo\n"), "--candidates", path), (0, "foo 1.0\n", said))
 
     def test_faults(self):
         for page, said in (
             (b"<html>", "no JSON: Expecting value: line 1 column 1 (char 0)"),
-            ([], "no page of a package index: an object is wanted"),
-            ({"files": []}, "no page of a package index: the member name is missing, or of another form"),
+            (1, "an object is wanted, the page of a package in an index"),
+            ([{"name": "a", "versions": []}, 1], "[1]: an object is wanted, the page of a package in an index"),
+            ([{"name": "a", "files": [{}]}], "[0].files[0]: an object with a filename is wanted"),
+            ({"files": []}, "name: it is missing, or of another form"),
             ({"name": "a-", "files": []}, "name: 'a-' is no name"),
-            ({"name": "a"}, "no page of a package index: there is no member files, and no member versions"),
-            ({"name": "a", "files": {}}, "no page of a package index: the member files is missing, or of another form"),
+            ({"name": "a"}, "there is no member files, and no member versions"),
+            ({"name": "a", "files": {}}, "files: it is missing, or of another form"),
             ({"name": "a", "files": [1]}, "files[0]: an object with a filename is wanted"),
             ({"name": "a", "files": [{"filename": 1}]}, "files[0]: an object with a filename is wanted"),
             ({"name": "a", "versions": ["1", 1]}, "versions[1]: a text is wanted"),

@@ -114,6 +114,12 @@ class Projects(OfToml):
         self.assertEqual([it.why for it in listing.left_out], ["what builds the project tells it"] * 2)
         self.assertEqual([it.place.entry for it in listing.left_out], ["project.dynamic"] * 2)
 
+    def test_extras_of_its_own(self):
+        tables = "[project]\nname = 'App'\noptional-dependencies = {all = ['app[gui]', 'foo[x]'], gui = ['bar']}\n"
+        listing = read(self.project(f"{tables}[dependency-groups]\ndev = ['app[gui]']\n"), groups="dev")
+        self.assertEqual([it.place.entry for it in listing.left_out], ["project.optional-dependencies.all[0]"])
+        self.assertEqual([it for it, _ in self.lines(listing)], ["foo[x] ; extra == 'all'", "bar ; extra == 'gui'", "app[gui]"])
+
     def test_requires_python(self):
         old = {**ENVIRONMENT, "python_full_version": "3.7.9", "python_version": "3.7"}
         path = self.project(PROJECT)
@@ -222,6 +228,20 @@ class Projects(OfToml):
         self.assertEqual((status, out), (2, ""))
         self.assertEqual(err, f"fowlyore: {path}: there is no dependency group 'no'; there is docs, lint-all, test\n")
 
+    def test_command_line_of_two(self):
+        """Groups are those of the project, the other list has none."""
+        path, other = self.project("[dependency-groups]\na = ['foo']\n"), self.write(a="Foo\n")
+        self.assertEqual(run("same", path, other, "--group", "a"), (0, "yes\n", ""))
+        self.assertEqual(run("same", other, self.folder, "--group", "a"), (0, "yes\n", ""))
+        said = f"fowlyore: {other}: dependency groups are read of a pyproject.toml alone\n"
+        self.assertEqual(run("same", other, other, "--group", "a"), (2, "", said))
+        self.assertEqual(run("normal", other, "--group", "a"), (2, "", said))
+
+    def test_extras_that_are_not_there(self):
+        path = self.project("[project.optional-dependencies]\na_b = []\n")
+        words = ["check", path, "--candidates", self.write(a=""), "--extra", "A.b", "--extra", "c"]
+        self.assertEqual(run(*words), (0, "", f"fowlyore: {path}: there is no extra c\n"))
+
     def test_conflicts(self):
         path = self.project("[project]\ndependencies = ['foo>=2']\noptional-dependencies = {x = ['foo<2']}\n")
         self.assertEqual(run("conflicts", path)[:2], (0, "foo project.dependencies[0],project.optional-dependencies.x[0]\n"))
@@ -269,7 +289,8 @@ class Locks(OfToml):
         path = self.project(LOCK, "pylock.toml")
         status, out, err = run("check", path, "--candidates", path, "--environment", self.environment())
         left_out = f"fowlyore: {path}: packages[1]: left out: local (there is no version)\n"
-        self.assertEqual((status, out, err), (0, "bar 2.0+cpu\nfoo 1.5\n", left_out * 2))
+        assumed = f"fowlyore: {path}: environments[0]: os_name == 'posix': environments is not looked at\n"
+        self.assertEqual((status, out, err), (0, "bar 2.0+cpu\nfoo 1.5\n", left_out + assumed + left_out))
 
     def environment(self):
         path = self.folder / "environment.json"
