@@ -13,6 +13,8 @@ from .projects import Lines, check_marker
 __all__ = ["read_archive", "read_distribution", "read_folder", "read_metadata", "read_wheel"]
 
 _FIELD = re.compile(r"([!-9;-~]+)[ \t]*:[ \t]*(.*)")
+# The files of a source archive that say what it requires.
+_SOURCE = re.compile(r"(?:\./)?[^/]+/(?:PKG-INFO|(?:[^/]+/)*[^/]+\.egg-info/requires\.txt)")
 _SECTION = re.compile(r"\[(.*)\]")
 # The most bytes that are taken for metadata, as an input's.
 _MOST = 16_777_216
@@ -164,10 +166,9 @@ def read_archive(path: str) -> Listing:
     found: Dict[str, bytes] = {}
     try:
         with tarfile.open(path, "r:gz") as archive:
-            for member in archive:
-                if re.fullmatch(r"(?:\./)?[^/]+/(?:PKG-INFO|(?:[^/]+/)*[^/]+\.egg-info/requires\.txt)", member.name):
-                    file = archive.extractfile(member)
-                    found[member.name] = b"" if file is None else _read_some(path, file)
+            for member in (it for it in archive if _SOURCE.fullmatch(it.name)):
+                file = archive.extractfile(member)
+                found[member.name] = b"" if file is None else _read_some(path, file)
     except (tarfile.TarError, EOFError) as error:
         _refuse(path, f"no source archive that can be read: {error}")
     except _decompressing() as error:

@@ -69,12 +69,10 @@ def _splits(text: str) -> List[Candidate]:
     return [(name, version) for name, version in pairs if is_version(version) and normal_name(name)]
 
 
-def read_candidates(
-    path: "os.PathLike[str]", left_out: LeftOuts = None
-) -> "Union[List[Candidate], os.PathLike[str]]":
+def read_candidates(path: "os.PathLike[str]", left_out: LeftOuts = None) -> "Union[List[Candidate], os.PathLike[str]]":
     """The candidates that a file has, for the functions on lists: of a folder those of `wheelhouse`, of `pylock.toml` or
-    `pylock.NAME.toml` its packages, of a name that ends in `.json` those of a page of a package index (PEP 691), or of an array of
-    pages. Any other file is a list of candidates, and its path is the answer. What is left out is told in `left_out`.
+    `pylock.NAME.toml` its packages, of a name that ends in `.json` those of a page of a package index (PEP 691), or of an
+    array of pages. Any other file is a list of candidates, and its path is the answer. `left_out` is told what is left out.
 
     Raises `InvalidInput` for what can't be read.
     """

@@ -57,7 +57,15 @@ class InFolder(unittest.TestCase):
 
 class Plain(InFolder):
     def test_as_it_stands(self):
-        for data in (b"", b"\n", b"foo\r\n# c\n\n bar>=1 # x\\y", b"foo ; platform_version == 'a -b'\n", b"a\x0cb\n", b"\xff\n", "é".encode()):
+        for data in (
+            b"",
+            b"\n",
+            b"foo\r\n# c\n\n bar>=1 # x\\y",
+            b"foo ; platform_version == 'a -b'\n",
+            b"a\x0cb\n",
+            b"\xff\n",
+            "é".encode(),
+        ):
             listing = read(self.write(a=data))
             self.assertEqual((listing.is_plain, listing.text, listing.left_out), (True, data, ()), data)
 
@@ -75,7 +83,14 @@ class Plain(InFolder):
         self.assertEqual(read(path).lines, list(map(ListedLine, ["foo", "", "bar # c"], places)))
 
     def test_answers_and_faults_are_those_of_the_path(self):
-        for text in ("foo>=1\nbar[a,b]\n", "foo==1\nfoo==2", "a ; os_name == 'nt'\n# - x\n", "\nfoo=1\n", "foo\nb b", "foo 1 -x y"):
+        for text in (
+            "foo>=1\nbar[a,b]\n",
+            "foo==1\nfoo==2",
+            "a ; os_name == 'nt'\n# - x\n",
+            "\nfoo=1\n",
+            "foo\nb b",
+            "foo 1 -x y",
+        ):
             path = self.write(a=text)
             for call in (lambda it: check(it, ENVIRONMENT, "foo 1"), conflicts, normal, lambda it: same(it, it)):
                 self.assertEqual(*(self.outcome(call, it) for it in (path, read(path))), text)
@@ -121,7 +136,9 @@ class Read(InFolder):
         for encoding, front in (("utf-8-sig", ""), ("utf-16", ""), ("utf-32", ""), ("latin-1", "# -*- coding: latin-1 -*-\n")):
             listing = read(self.write(a=f"{front}--pre\nfoo ; platform_version == 'é'\n".encode(encoding)))
             self.assertEqual(self.texts(listing), ["foo ; platform_version == 'é'"], encoding)
-        listing = read(self.write(a="# x\n# vim: set fileencoding=latin-1 :\nfoo ; platform_version == 'é'\n".encode("latin-1")))
+        listing = read(
+            self.write(a="# x\n# vim: set fileencoding=latin-1 :\nfoo ; platform_version == 'é'\n".encode("latin-1"))
+        )
         self.assertEqual(check(listing, {**ENVIRONMENT, "platform_version": "é"}, ""), [fowlyore.Row("foo", (), "none")])
 
     def test_variables(self):
@@ -162,14 +179,16 @@ class Faults(InFolder):
     def test_of_files_that_are_named(self):
         for option, start in (("-r ", 3), ("--requirement=", 14), ("-c", 2), ("-r  ", 4)):
             text = f"{option}absent.txt"
-            said = f"requirements: line 2, byte {start}, length 10\nabsent.txt: No such file or directory\n{text}\n{' ' * start}{'^' * 10}"
+            front = f"requirements: line 2, byte {start}, length 10\nabsent.txt: No such file or directory"
+            said = f"{front}\n{text}\n{' ' * start}{'^' * 10}"
             self.assertEqual(self.fault(self.write(a=f"foo\n{text}\n")), (said, "a.txt", 2))
         (self.folder / "b").mkdir()
         said = "requirements: line 1, byte 3, length 1\nb: Is a directory\n-r b\n   ^"
         self.assertEqual(self.fault(self.write(a="-r b\n")), (said, "a.txt", 1))
 
     def test_circles(self):
-        said = "requirements: line 1, byte 3, length 5\na.txt is being read: it names itself, or a file that names it\n-r a.txt\n   ^^^^^"
+        said = "requirements: line 1, byte 3, length 5\na.txt is being read: it names itself, or a file that names it"
+        said += "\n-r a.txt\n   ^^^^^"
         self.assertEqual(self.fault(self.write(a="-r a.txt\n")), (said, "a.txt", 1))
         path = self.write(a="foo\n-r b.txt\n", b="-c c.txt\n", c="\n-r ./a.txt\n")
         said = "requirements: line 2, byte 3, length 7\n./a.txt is being read: it names itself, or a file that names it"
@@ -212,12 +231,16 @@ class Faults(InFolder):
         for value in ("1\nbar", "${VALUE}"):
             with mock.patch.dict(os.environ, {"VALUE": value}):
                 said = self.fault(self.write(a="\nfoo== ${VALUE}\n"))
-            self.assertEqual(said, (f"requirements: line 2, byte 6, length 8\n{why}\nfoo== ${{VALUE}}\n      {'^' * 8}", "a.txt", 2))
+            self.assertEqual(
+                said, (f"requirements: line 2, byte 6, length 8\n{why}\nfoo== ${{VALUE}}\n      {'^' * 8}", "a.txt", 2)
+            )
         why = "with the values of its variables the line has a comment"
         for value in ("1 # c", "#", "1 "):
             with mock.patch.dict(os.environ, {"VALUE": value}):
                 said = self.fault(self.write(a="\nfoo== ${VALUE}#x\n"))
-            self.assertEqual(said, (f"requirements: line 2, byte 0, length 16\n{why}\nfoo== ${{VALUE}}#x\n{'^' * 16}", "a.txt", 2))
+            self.assertEqual(
+                said, (f"requirements: line 2, byte 0, length 16\n{why}\nfoo== ${{VALUE}}#x\n{'^' * 16}", "a.txt", 2)
+            )
 
     def test_constraints_with_extras(self):
         said = "requirements: line 1, byte 0, length 9\na constraint can't have extras\nfoo[x]<2 \n^^^^^^^^^"
@@ -240,12 +263,16 @@ class Faults(InFolder):
     def test_a_line_of_the_file(self):
         self.assertEqual(self.place_of(self.write(a="--pre\n\n  foo=1  # é\n")), ("a.txt", 3, "=1"))
         self.assertEqual(self.place_of(self.write(a="--pre\n'é'\n")), ("a.txt", 2, "'"))
-        self.assertEqual(self.place_of(self.write(a="-r b.txt\n", b="# c\nfoo ; platform_version == 'é' and bar\n")), ("b.txt", 2, "bar"))
+        self.assertEqual(
+            self.place_of(self.write(a="-r b.txt\n", b="# c\nfoo ; platform_version == 'é' and bar\n")), ("b.txt", 2, "bar")
+        )
         self.assertEqual(self.place_of(self.write(a="foo\n-c b.txt\n", b="foo=1\n")), ("b.txt", 1, "=1"))
         self.assertEqual(self.place_of(self.write(a="foo=1 --hash=sha256:ab\n")), ("a.txt", 1, "=1"))
 
     def test_a_joined_line(self):
-        self.assertEqual(self.place_of(self.write(a="ok\nfoo \\\n >=1 ; \\\n  os_name == 'a' and bar\nok\n")), ("a.txt", 4, "bar"))
+        self.assertEqual(
+            self.place_of(self.write(a="ok\nfoo \\\n >=1 ; \\\n  os_name == 'a' and bar\nok\n")), ("a.txt", 4, "bar")
+        )
         self.assertEqual(self.place_of(self.write(a="foo=1 ; \\\n  os_name == 'a' \\\n --hash=sha256:ab")), ("a.txt", 1, "=1"))
         self.assertEqual(self.place_of(self.write(a="\\foo \\\n=1\\\n\n")), ("a.txt", 2, "=1"))
 
@@ -288,7 +315,15 @@ class Constraints(InFolder):
 
     def test_lists_alone(self):
         listing = read(self.write(**self.FILES))
-        plain = ["foo>=1", "foo<2", "bar<3 ; os_name == 'nt'", "bar ; os_name == 'nt'", "baz[x]", "baz>2", "baz<5 ; os_name == 'nt'"]
+        plain = [
+            "foo>=1",
+            "foo<2",
+            "bar<3 ; os_name == 'nt'",
+            "bar ; os_name == 'nt'",
+            "baz[x]",
+            "baz>2",
+            "baz<5 ; os_name == 'nt'",
+        ]
         self.assertTrue(same(listing, plain))
         self.assertTrue(same(plain, listing))
         self.assertFalse(same(listing, [*plain, "never"]))
@@ -317,7 +352,9 @@ class Constraints(InFolder):
         markers = ["", "", " ; os_name == 'nt'", " ; extra == 'x'", " ; os_name == 'posix' or extra == 'x'", " ; 'a' == 'b'"]
         some = ["", "<2", ">=1", "!=1", "==2", ">=1.5rc1"]
         for number in range(150):
-            drawn = lambda most: [f"{draw.choice('abc')}{draw.choice(some)}{draw.choice(markers)}" for _ in range(draw.randrange(most))]
+            drawn = lambda most: [
+                f"{draw.choice('abc')}{draw.choice(some)}{draw.choice(markers)}" for _ in range(draw.randrange(most))
+            ]
             lines, constraints = drawn(6), drawn(6)
             listing = read(self.write(a="\n".join([*lines, "-c b.txt", ""]), b="\n".join([*constraints, ""])))
             candidates = {name: draw.sample(["0.5", "1", "1.5", "1.6rc1", "2", "3"], 4) for name in "abc"}

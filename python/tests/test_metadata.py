@@ -27,7 +27,9 @@ requires-dist: baz
 Requires-Dist: none of it
 """
 LINES = [("foo (>=1)", 8), ("bar>=1 ; extra == 'gui-extra'", 9), ("baz", 11)]
-REQUIRES = "foo>=1\n\n[gui]\nbar\n\n[:os_name == 'nt' or os_name == 'x']\nbaz\n\n[gui:os_name == 'nt']\nqux ; python_version > '3'\n"
+REQUIRES = (
+    "foo>=1\n\n[gui]\nbar\n\n[:os_name == 'nt' or os_name == 'x']\nbaz\n\n[gui:os_name == 'nt']\nqux ; python_version > '3'\n"
+)
 
 
 class OfMetadata(InFolder):
@@ -70,7 +72,9 @@ class Metadata(OfMetadata):
     def test_extras_of_its_own(self):
         """As an extra `all` has them."""
         path = self.folder / "METADATA"
-        path.write_text("Name: App_x\nRequires-Dist: foo\nRequires-Dist: app-x[gui,cli] ; extra == 'all'\nProvides-Extra: all\n")
+        path.write_text(
+            "Name: App_x\nRequires-Dist: foo\nRequires-Dist: app-x[gui,cli] ; extra == 'all'\nProvides-Extra: all\n"
+        )
         listing = read(path)
         why = "the project itself, whose extras have to be asked for by name"
         self.assertEqual(self.lines(listing), [("foo", 2)])
@@ -90,7 +94,9 @@ class Metadata(OfMetadata):
         why = "metadata before 2.2 doesn't say what a wheel of it requires"
         left_out = LeftOut("what the build asks for", Place(f"{path}/app-1.0/PKG-INFO"), why)
         self.assertEqual(listing.left_out, (left_out,))
-        sure = METADATA.replace("2.1", "2.4", 1).replace("Version: 1.0\n", "Version: 1.0\nDynamic: Requires-Dist\nDynamic: Summary\n")
+        sure = METADATA.replace("2.1", "2.4", 1).replace(
+            "Version: 1.0\n", "Version: 1.0\nDynamic: Requires-Dist\nDynamic: Summary\n"
+        )
         listing = read(self.archive("app-1.0.tar.gz", {"./app-1.0/PKG-INFO": sure}))
         self.assertEqual([(it.what, it.place.line) for it in listing.left_out], [("Requires-Dist", 4)])
         listing = read(self.archive("app-1.0.tar.gz", {"a/PKG-INFO": "Name: a\n", "a/src/a.egg-info/requires.txt": "foo\n"}))
@@ -147,7 +153,11 @@ class Metadata(OfMetadata):
     def test_faults(self):
         path = self.folder / "METADATA"
         for text, said, line in (
-            ("Name: a\nRequires-Dist: foo # c\n", "line 2, byte 4, length 3\na requirement has no comment\nfoo # c\n    ^^^", 2),
+            (
+                "Name: a\nRequires-Dist: foo # c\n",
+                "line 2, byte 4, length 3\na requirement has no comment\nfoo # c\n    ^^^",
+                2,
+            ),
             ("Name: a\n\n", None, None),
             ("Name: a\nno field\n", "line 2: a field is wanted: a name, a colon and a value", 2),
             (" x\n", "line 1: a field is wanted: a name, a colon and a value", 1),
@@ -280,7 +290,9 @@ class Pages(OfMetadata):
                 ("2.0", "no file is left of it", "versions"),
             ],
         )
-        self.assertEqual(read_candidates(self.page([page, {"name": "a", "versions": ["1"]}]))[1:], [("Foo.Bar", "1.1.post1"), ("a", "1")])
+        self.assertEqual(
+            read_candidates(self.page([page, {"name": "a", "versions": ["1"]}]))[1:], [("Foo.Bar", "1.1.post1"), ("a", "1")]
+        )
         self.assertEqual(read_candidates(self.page([])), [])
         del page["files"]
         self.assertEqual(read_candidates(self.page(page)), [("Foo.Bar", "1.1.post1"), ("Foo.Bar", "2.0")])
@@ -306,7 +318,9 @@ class Pages(OfMetadata):
             ({"meta": {"api-version": "2.0"}, "name": "a", "files": []}, "meta.api-version: '2.0' is not 1.0"),
         ):
             error = self.refused(read_candidates, self.page(page))
-            self.assertEqual((str(error), error.input, error.path), (f"candidates: {said}", "candidates", str(self.folder / "page.json")))
+            self.assertEqual(
+                (str(error), error.input, error.path), (f"candidates: {said}", "candidates", str(self.folder / "page.json"))
+            )
         self.refused(read_candidates, self.page(b"[" * 100_000))
         self.refused(read_candidates, self.page(b'{"name": "\xff"}'))
         status, out, err = run("check", self.write(a="foo\n"), "--candidates", self.page(b"<html>"))

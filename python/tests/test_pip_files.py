@@ -29,14 +29,23 @@ ENDS = [
     ">=1${BLANK}", "=1", " and", " -", " - x", "\t--pre",
 ]  # fmt: skip
 OPTIONS = [
-    "--pre", "--no-index", "--index-url https://u:p@e.org", "-i https://e.org", "--extra-index-url=x", "-f ./dir", "--find-links=x",
-    "--no-binary :all:", "--only-binary=foo", "--prefer-binary", "--require-hashes", "--trusted-host h", "--hash=sha256:ab",
-    "--hash sha384:ab", "--hash=md5:ab", "--hash=ab", "--global-option='a b'", "-e ./app", "--editable=git+https://e.org/a#egg=a",
-    "-e'x y' -e z", "-r one.txt", "-rone.txt", "--requirement one.txt", "--requirement=two.txt", "-c two.txt", "--constraint=one.txt",
-    "--constr two.txt", "-r 'three four.txt'", "-r one.txt -c two.txt", "-c two.txt -r one.txt", "-e x -r one.txt", "--frob", "--pre x y",
-    "-r sub/five.txt", "-r", "--pre=1", "-r \"one.txt", "-- x", "-x", "--no-b x", "-r ${UNSET}one.txt",
+    "--pre", "--no-index", "--index-url https://u:p@e.org", "-i https://e.org", "--extra-index-url=x", "-f ./dir",
+    "--find-links=x", "--no-binary :all:", "--only-binary=foo", "--prefer-binary", "--require-hashes", "--trusted-host h",
+    "--hash=sha256:ab", "--hash sha384:ab", "--hash=md5:ab", "--hash=ab", "--global-option='a b'", "-e ./app",
+    "--editable=git+https://e.org/a#egg=a", "-e'x y' -e z", "-r one.txt", "-rone.txt", "--requirement one.txt",
+    "--requirement=two.txt", "-c two.txt", "--constraint=one.txt", "--constr two.txt", "-r 'three four.txt'",
+    "-r one.txt -c two.txt", "-c two.txt -r one.txt", "-e x -r one.txt", "--frob", "--pre x y", "-r sub/five.txt", "-r",
+    "--pre=1", '-r "one.txt', "-- x", "-x", "--no-b x", "-r ${UNSET}one.txt",
 ]  # fmt: skip
-PATHS = ["./x.whl", "x-1.tar.gz", "../dir", "https://e.org/x.zip", "git+https://e.org/r#egg=x", "./dir[x] ; os_name == 'nt'", "x.zip;a=='b'"]
+PATHS = [
+    "./x.whl",
+    "x-1.tar.gz",
+    "../dir",
+    "https://e.org/x.zip",
+    "git+https://e.org/r#egg=x",
+    "./dir[x] ; os_name == 'nt'",
+    "x.zip;a=='b'",
+]
 COMMENTS = ["", "", "", "", " # c", "#c", "\t#", " # c \\", " # --pre", "# - x"]
 LINE_ENDS = ["\n"] * 12 + ["\r\n", "\\\n", "\\\n", " \\\n", "\\\\\n", "\\ \n", "\n\n"]
 OTHER_ENDS = ["\r", "\x0b", "\x0c", "\x1c", "\x85", "\u2028"]
@@ -52,7 +61,13 @@ def drawn_line(draw, options):
     if kind < 0.36:
         return draw.choice(PATHS) + draw.choice(COMMENTS)
     more = f" {draw.choice(options)}" if draw.random() < 0.15 else ""
-    return draw.choice(["", "", " ", "\\"][: draw.choice([2, 3, 4])]) + draw.choice(NAMES) + draw.choice(ENDS) + more + draw.choice(COMMENTS)
+    return (
+        draw.choice(["", "", " ", "\\"][: draw.choice([2, 3, 4])])
+        + draw.choice(NAMES)
+        + draw.choice(ENDS)
+        + more
+        + draw.choice(COMMENTS)
+    )
 
 
 def drawn_file(draw, may_include=True):
@@ -66,7 +81,9 @@ def drawn_file(draw, may_include=True):
         text += drawn_line(draw, options) + draw.choice(ends)
     encoding = draw.choice(ENCODINGS) if draw.random() < 0.2 else "utf-8"
     if encoding in ("latin-1", "cp1252"):
-        text = draw.choice([f"# -*- coding: {encoding} -*-\n", f"# a\n# vim: coding={encoding}\n"]) + re.sub("[\x85\u2028]", "", text)
+        text = draw.choice([f"# -*- coding: {encoding} -*-\n", f"# a\n# vim: coding={encoding}\n"]) + re.sub(
+            "[\x85\u2028]", "", text
+        )
     return text.encode(encoding)
 
 

@@ -83,7 +83,9 @@ class Projects(OfToml):
             ],
         )
         self.assertEqual((listing.extras, listing.left_out, listing.path), (("gui-extra", "b"), (), str(path)))
-        self.assertEqual(listing.assumed, (Assumption("requires-python", ">=3.8", Place(str(path), entry="project.requires-python")),))
+        self.assertEqual(
+            listing.assumed, (Assumption("requires-python", ">=3.8", Place(str(path), entry="project.requires-python")),)
+        )
         self.assertEqual(self.lines(read(self.folder)), self.lines(listing))
 
     def test_rows(self):
@@ -149,9 +151,13 @@ class Projects(OfToml):
             self.assertEqual((shown[:5], marks[:4]), ("foo=1", "   ^"))
         said, where = self.fault("[project]\ndependencies = ['a', 'foo  # c']\n")
         place = "project.dependencies[1]"
-        self.assertEqual((said, where), (f"requirements: {place}, byte 5, length 3\na requirement has no comment\nfoo  # c\n     ^^^", place))
+        self.assertEqual(
+            (said, where), (f"requirements: {place}, byte 5, length 3\na requirement has no comment\nfoo  # c\n     ^^^", place)
+        )
         said, where = self.fault("[project]\ndependencies = ['a', ' ']\n")
-        self.assertEqual((said, where), (f"requirements: {place}, byte 0, length 1\nan empty text is no requirement\n \n^", place))
+        self.assertEqual(
+            (said, where), (f"requirements: {place}, byte 0, length 1\nan empty text is no requirement\n \n^", place)
+        )
         said, where = self.fault("[project]\ndependencies = ['a', \"b\\nc\"]\n")
         self.assertEqual((said, where), (f"requirements: {place}: 'b\\nc' goes over more than one line", place))
 
@@ -171,9 +177,17 @@ class Projects(OfToml):
             ("[project]\ndependencies = 'a'\n", "project.dependencies: an array is wanted", "project.dependencies"),
             ("[project]\ndependencies = ['a', 1]\n", "project.dependencies[1]: a text is wanted", "project.dependencies[1]"),
             ("[project]\nrequires-python = 3\n", "project.requires-python: a text is wanted", "project.requires-python"),
-            ("[project]\noptional-dependencies = []\n", "project.optional-dependencies: a table is wanted", "project.optional-dependencies"),
+            (
+                "[project]\noptional-dependencies = []\n",
+                "project.optional-dependencies: a table is wanted",
+                "project.optional-dependencies",
+            ),
             ("[project.optional-dependencies]\n'a b' = []\n", "'a b' is no name", 'project.optional-dependencies."a b"'),
-            ("[project.optional-dependencies]\na-b = []\nA_b = []\n", "the extra a-b is there twice", "project.optional-dependencies.A_b"),
+            (
+                "[project.optional-dependencies]\na-b = []\nA_b = []\n",
+                "the extra a-b is there twice",
+                "project.optional-dependencies.A_b",
+            ),
             ("[project.optional-dependencies]\na = 'x'\n", "an array is wanted", "project.optional-dependencies.a"),
         ):
             front = f"{entry}: " if entry and not said.startswith(entry) else ""
@@ -183,11 +197,18 @@ class Projects(OfToml):
         self.assertEqual(entry, "project.requires-python")
 
     def test_faults_of_groups(self):
-        tables = "[dependency-groups]\na = [{include-group = 'b'}]\nb = ['x', {include-group = 'C_d'}]\n'c.d' = [{include-group = 'A'}]\n"
+        groups = ["a = [{include-group = 'b'}]", "b = ['x', {include-group = 'C_d'}]", "'c.d' = [{include-group = 'A'}]"]
+        tables = "\n".join(["[dependency-groups]", *groups])
         at = 'dependency-groups."c.d"[0]'
-        self.assertEqual(self.fault(tables, groups="a"), (f"requirements: {at}: a circle: a includes b includes c-d includes a", at))
-        self.assertEqual(self.fault(tables, groups="z"), ("requirements: there is no dependency group 'z'; there is a, b, c-d", None))
-        self.assertEqual(self.fault("[project]\n", groups="z"), ("requirements: there is no dependency group 'z'; there is none", None))
+        self.assertEqual(
+            self.fault(tables, groups="a"), (f"requirements: {at}: a circle: a includes b includes c-d includes a", at)
+        )
+        self.assertEqual(
+            self.fault(tables, groups="z"), ("requirements: there is no dependency group 'z'; there is a, b, c-d", None)
+        )
+        self.assertEqual(
+            self.fault("[project]\n", groups="z"), ("requirements: there is no dependency group 'z'; there is none", None)
+        )
         for entry, said in (
             ("{include-group = 'no'}", "there is no dependency group 'no'; there is a"),
             ("{include-group = 1}", "a text, or a table of include-group alone, is wanted"),
@@ -196,10 +217,14 @@ class Projects(OfToml):
             ("1", "a text, or a table of include-group alone, is wanted"),
         ):
             where = "dependency-groups.a[0]"
-            self.assertEqual(self.fault(f"[dependency-groups]\na = [{entry}]\n", groups="a"), (f"requirements: {where}: {said}", where))
+            self.assertEqual(
+                self.fault(f"[dependency-groups]\na = [{entry}]\n", groups="a"), (f"requirements: {where}: {said}", where)
+            )
         said = "requirements: dependency-groups.A: the group a is there twice", "dependency-groups.A"
         self.assertEqual(self.fault("[dependency-groups]\na = []\nA = []\n", groups="a"), said)
-        self.assertEqual(self.fault("[dependency-groups]\na = 1\n", groups="a")[0], "requirements: dependency-groups.a: an array is wanted")
+        self.assertEqual(
+            self.fault("[dependency-groups]\na = 1\n", groups="a")[0], "requirements: dependency-groups.a: an array is wanted"
+        )
         error = self.refused(read, self.write(a="foo\n"), groups="x")
         self.assertEqual(str(error), "requirements: dependency groups are read of a pyproject.toml alone")
 
@@ -214,7 +239,10 @@ class Projects(OfToml):
 
     def test_command_line(self):
         path = self.project(PROJECT)
-        self.assertEqual(run("check", path, "--extra", "gui-extra", "--candidates", self.write(c="foo 1\nbaz 1\n"))[1], "baz 1\nfar direct\nfoo 1\n")
+        self.assertEqual(
+            run("check", path, "--extra", "gui-extra", "--candidates", self.write(c="foo 1\nbaz 1\n"))[1],
+            "baz 1\nfar direct\nfoo 1\n",
+        )
         told = f"fowlyore: {path}: project.requires-python: >=3.8: requires-python is not looked at\n"
         self.assertEqual(run("normal", path, "--group", "test")[2][: len(told)], told)
         status, out, err = run("conflicts", path, "--group", "test", "--group", "docs")
