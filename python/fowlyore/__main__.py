@@ -68,7 +68,7 @@ def asked(words: argparse.Namespace) -> Listing:
     """The list of `check` and `matrix`. Extras that its file doesn't define are told."""
     found = tell_assumed(listing(words.requirements, words.group), but=REQUIRES_PYTHON)
     for it in words.extra:
-        if found.extras is not None and normal_name(it) not in found.extras:
+        if found.provided_extras is not None and normal_name(it) not in found.provided_extras:
             complain(f"{found.path}: there is no extra {it}")
     return found
 

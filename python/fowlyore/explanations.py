@@ -13,7 +13,7 @@ from .lists import (
 from .specifiers import InvalidSpecifier, Specifier, SpecifierSet
 from .version import InvalidVersion, Version
 
-__all__ = ["Explanation", "Line", "Refusal", "check_explained", "explain"]
+__all__ = ["Explanation", "Line", "PlacedLine", "Refusal", "check_explained", "explain"]
 
 # Of how many candidates, and of how many lines in a sentence, each is named.
 NAMED = 3
@@ -29,15 +29,23 @@ _SPECIFIERS = re.compile(r"\s*(?:\[[^\]]*\])?\s*\(?([^;#)]*)")
 
 
 class Line(NamedTuple):
-    """A line of a list: its number, from 1, its text without white space around it, and where it came from, of a list that was
-    read from files, and isn't plain."""
+    """A line of a list: its number, from 1, and its text without white space around it."""
 
     number: int
     text: str
+
+    def __str__(self) -> str:
+        return f"line {self.number} ({self.text})"
+
+
+class PlacedLine(Line):
+    """A line of a list that `read` has read, and that isn't plain: its number counts the list's `lines`, and `place` says where
+    it came from."""
+
     place: str = ""
 
     def __str__(self) -> str:
-        return f"{self.place or f'line {self.number}'} ({self.text})"
+        return f"{self.place} ({self.text})"
 
 
 class Refusal(NamedTuple):
@@ -243,8 +251,9 @@ def _lines_of(given: Input, names: List[str]) -> Dict[str, List[_Asking]]:
 def _line_of(given: Input, number: int, text: str) -> Line:
     if given.listing is None:
         return Line(number, text.strip())
-    place = given.listing.place(number)
-    return Line(number, text.strip(), place.within if place.path == given.listing.path else str(place))
+    place, line = given.listing.place(number), PlacedLine(number, text.strip())
+    line.place = place.within if place.path == given.listing.path else str(place)
+    return line
 
 
 def _versions_of(text: str, names: List[str]) -> Dict[str, List[Version]]:

@@ -162,7 +162,7 @@ class Listing:
     """A list that `read` has read. The functions on lists take it as their requirements.
 
     `path` is the file that was named. `left_out` tells what isn't among the lines, `assumed` what the file says of its
-    environments, and `extras` the extras that it defines, by their normal names, or None where it can define none.
+    environments, and `provided_extras` the extras that it has, by their normal names, or None where its kind has none.
     """
 
     def __init__(
@@ -180,7 +180,7 @@ class Listing:
         self.path = path
         self.left_out = tuple(left_out)
         self.assumed = tuple(assumed)
-        self.extras = None if extras is None else tuple(extras)
+        self.provided_extras = None if extras is None else tuple(extras)
         self._texts, self._origins, self._constraints = texts, origins, constraints
         self._plain = plain
 
@@ -191,6 +191,17 @@ class Listing:
 
     def __repr__(self) -> str:
         return f"<Listing({self.path!r})>"
+
+    def _values(self) -> Tuple[object, ...]:
+        return self.path, self.text, tuple(self.lines), self.left_out, self.assumed, self.provided_extras
+
+    def __eq__(self, other: object) -> bool:
+        if not isinstance(other, Listing):
+            return NotImplemented
+        return self._values() == other._values()
+
+    def __hash__(self) -> int:
+        return hash(self._values())
 
     @property
     def is_plain(self) -> bool:
@@ -267,7 +278,7 @@ class Listing:
                 size += len(applying[0])
             if size > _LONGEST:
                 raise ValueError(f"{origin[0].place(origin[1])}: with the markers of what it constrains the list is too long")
-        return Listing(self.path, texts, origins, left_out=self.left_out, assumed=self.assumed, extras=self.extras)
+        return Listing(self.path, texts, origins, left_out=self.left_out, assumed=self.assumed, extras=self.provided_extras)
 
 
 # The bytes of the longest list that the library reads.

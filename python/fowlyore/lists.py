@@ -8,7 +8,7 @@ import json
 import operator
 import os
 import re
-from dataclasses import dataclass
+from dataclasses import dataclass, field
 from typing import Any, Callable, Iterable, List, Mapping, Optional, Sequence, Set, Tuple, TypeVar, Union
 
 from . import _native
@@ -133,7 +133,7 @@ class Conflict:
     name: str
     lines: Tuple[int, ...]
     names_prerelease: bool
-    places: Tuple[str, ...] = ()
+    places: Tuple[str, ...] = field(default=(), repr=False)
 
     def __str__(self) -> str:
         return f"{self.name} {','.join(self.places or map(str, self.lines))}{' pre' if self.names_prerelease else ''}"

@@ -2,6 +2,7 @@
 
 import os
 import pathlib
+import pickle
 import random
 import tempfile
 import unittest
@@ -340,6 +341,9 @@ class Constraints(InFolder):
         (found,) = explain(read(path), ENVIRONMENT, {"foo": ["0.5", "1.5"]})
         there = f"{self.folder}{os.sep}b.txt: line 2 (foo<1)"
         self.assertEqual(found.sentences, [f"1.5 is refused by {there}", "0.5 is refused by line 2 (foo>=1)"])
+        (line,) = found.refusals[0].lines
+        self.assertEqual((line, line.place), ((2, "foo<1"), f"{self.folder}{os.sep}b.txt: line 2"))
+        self.assertEqual(str(pickle.loads(pickle.dumps(line))), str(line))
 
     def test_a_requirements_file_in_a_constraints_file(self):
         """As pip, it asks."""

@@ -65,7 +65,7 @@ class Metadata(OfMetadata):
                 path = self.folder / name
                 path.write_bytes(data.encode())
                 listing = read(path)
-                self.assertEqual((self.lines(listing), listing.extras, listing.left_out), (LINES, ("gui-extra",), ()))
+                self.assertEqual((self.lines(listing), listing.provided_extras, listing.left_out), (LINES, ("gui-extra",), ()))
                 self.assertEqual([(it.text, it.place.line) for it in listing.assumed], [(">=3.8", 7)])
         self.assertEqual([str(it) for it in check(listing, ENVIRONMENT, "", "gui_extra")], ["bar none", "baz none", "foo none"])
 
@@ -129,7 +129,7 @@ class Metadata(OfMetadata):
                 ("qux ;( python_version > '3') and (os_name == 'nt') and extra == 'gui'", 10),
             ],
         )
-        self.assertEqual((listing.extras, listing.lines[0].place.path), (("gui",), str(folder / "requires.txt")))
+        self.assertEqual((listing.provided_extras, listing.lines[0].place.path), (("gui",), str(folder / "requires.txt")))
         for section, said in (("[a b]", "'a b' is no name"), ("[:os_name == 'a') or (os_name == 'b']", "")):
             (folder / "requires.txt").write_text(f"foo\n{section}\nbar\n")
             error = self.refused(read, folder)

@@ -82,7 +82,7 @@ class Projects(OfToml):
                 (f"far @ https://e.org/far.whl ; {extra}", "project.optional-dependencies.Gui_Extra[2]"),
             ],
         )
-        self.assertEqual((listing.extras, listing.left_out, listing.path), (("gui-extra", "b"), (), str(path)))
+        self.assertEqual((listing.provided_extras, listing.left_out, listing.path), (("gui-extra", "b"), (), str(path)))
         self.assertEqual(
             listing.assumed, (Assumption("requires-python", ">=3.8", Place(str(path), entry="project.requires-python")),)
         )
@@ -104,7 +104,7 @@ class Projects(OfToml):
         self.assertEqual(of_groups("docs", "docs"), [pytest, ruff, ("sphinx", "dependency-groups.docs[2]")])
         self.assertEqual(self.lines(read(path, groups="test")), self.lines(read(path, groups=["test"])))
         alone = read(self.project("[dependency-groups]\na = ['x']\n"), groups="a")
-        self.assertEqual((self.lines(alone), alone.extras), ([("x", "dependency-groups.a[0]")], ()))
+        self.assertEqual((self.lines(alone), alone.provided_extras), ([("x", "dependency-groups.a[0]")], ()))
         count = 5000
         deep = "".join(f"g{it} = [{{include-group = 'g{it + 1}'}}]\n" for it in range(count))
         listing = read(self.project(f"[dependency-groups]\n{deep}g{count} = ['x']\n"), groups="g0")
