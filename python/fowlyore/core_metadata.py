@@ -6,7 +6,7 @@ import re
 from typing import Any, Dict, Iterator, List, NamedTuple, NoReturn, Optional, Tuple
 
 from .distributions import normal_name
-from .listings import LeftOut, Listing, Place
+from .listings import REQUIRES_PYTHON, LeftOut, Listing, Place
 from .lists import InvalidInput
 from .projects import Lines, check_marker
 
@@ -56,10 +56,10 @@ def _fields(path: str, text: str) -> Iterator[_Field]:
         if found is None:
             _refuse(path, "a field is wanted: a name, a colon and a value", number)
         if first:
-            yield _Field(name, " ".join(parts), first)
+            yield _Field(name, " ".join(parts).strip(), first)
         name, parts, first = found[1].lower(), [found[2]], number
     if first:
-        yield _Field(name, " ".join(parts), first)
+        yield _Field(name, " ".join(parts).strip(), first)
 
 
 def read_metadata(path: str, data: bytes, requires: Optional[bytes] = None, is_source: bool = False) -> Listing:
@@ -83,9 +83,11 @@ def read_metadata(path: str, data: bytes, requires: Optional[bytes] = None, is_s
         elif it.name == "requires-dist":
             lines.add(place, it.value)
         elif it.name == "requires-python":
-            lines.assume_python(place, it.value)
+            _assume_python(lines, place, it.value)
+        elif it.name == "provides-extra" and normal_name(it.value):
+            extras.append(normal_name(it.value))
         elif it.name == "provides-extra":
-            extras.append(normal_name(it.value) or _refuse(path, f"{it.value!r} is no name", it.line))
+            lines.left_out.append(LeftOut(it.value, place, "no name of an extra"))
         elif it.name == "dynamic" and it.value.lower() in ("requires-dist", "requires-python", "provides-extra"):
             lines.left_out.append(LeftOut(it.value, place, "what builds a wheel of it tells it"))
     if "name" not in told:
@@ -96,6 +98,14 @@ def read_metadata(path: str, data: bytes, requires: Optional[bytes] = None, is_s
     if requires is not None and "requires-dist" not in told:
         extras += _add_sections(os.path.join(os.path.dirname(path), "requires.txt"), requires, lines)
     return lines.listing(list(dict.fromkeys(extras)))
+
+
+def _assume_python(lines: Lines, place: Place, text: str) -> None:
+    """Takes in the versions of Python that a field asks for. As pip does, it passes over what can't be read."""
+    try:
+        lines.assume_python(place, text)
+    except InvalidInput:
+        lines.left_out.append(LeftOut(f"{REQUIRES_PYTHON} {text}", place, "it can't be read"))
 
 
 def _version(text: str) -> Tuple[int, ...]:

@@ -52,6 +52,8 @@ _COMMENT = re.compile(r"(?:^|\s)#.*")
 # A candidate's line that the library reads as one name and one version, or refuses.
 _CANDIDATE = re.compile(r"[^ #\n][^#\n]*")
 _WHITE = " \t\n\r\f"
+# What stands before the reason in the library's refusal of a line, of which a part may be told.
+_OF_LINE = re.compile(r"[a-z]+: line [0-9]+(?:(, byte [0-9]+, length [0-9]+)\n|: )")
 
 
 class InvalidInput(Refused):
@@ -294,16 +296,19 @@ def _refusal(fault: _native.Fault, inputs: Sequence[Input]) -> InvalidInput:
     start, end = characters(line, fault.start, fault.length) if fault.start or fault.length else (None, None)
     text = line.decode("utf-8", "replace")
     if given.listing is not None:
-        return _told_where(fault, given.name, given.listing.located(fault.line, start or 0, end or 0), start is not None)
+        return _told_where(fault.message, given.name, given.listing.located(fault.line, start or 0, end or 0))
     return InvalidInput(
         fault.message, input=given.name, path=given.path, text=text, line=fault.line, start=start, end=end
     )
 
 
-def _told_where(fault: _native.Fault, name: str, at: Located, has_part: bool) -> InvalidInput:
+def _told_where(message: str, name: str, at: Located) -> InvalidInput:
     """A refusal of a line by the place that it came from, in the library's words."""
-    front, _, why = fault.message.partition(": line ")[2].partition("\n" if has_part else ": ")
-    if not has_part:
+    found = _OF_LINE.match(message)
+    if found is None:
+        raise AssertionError(f"{message!r} tells of no line")
+    why = message[found.end() :]
+    if not found[1]:
         return InvalidInput(
             f"{name}: {at.place.within}: {why}", input=name, path=at.place.path, text=at.text, line=at.place.line,
             entry=at.place.entry,

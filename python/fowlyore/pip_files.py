@@ -101,8 +101,9 @@ class _File(Source):
         parts, _ = _parts_of(self.lines, key - 1)
         text = "".join(it.text for it in parts)
         blanks = len(text) - len(text.lstrip())
-        begin, stop = (_in_parts(parts, blanks + _unexpanded(text.strip(), it)) for it in (start, end))
-        number, column = begin
+        inner = text.strip()
+        number, column = _in_parts(parts, blanks + _unexpanded(inner, start, is_end=False))
+        stop = _in_parts(parts, blanks + _unexpanded(inner, end, is_end=True))
         line = self.lines[number]
         return Located(Place(self.path, number + 1), line, column, stop[1] if stop[0] == number else len(line))
 
@@ -144,14 +145,15 @@ def _in_parts(parts: List[_Part], at: int) -> Tuple[int, int]:
     return parts[-1].line, max(0, parts[-1].column + at)
 
 
-def _unexpanded(text: str, at: int) -> int:
-    """A place in a text before its variables were replaced; one within a value is its variable's."""
+def _unexpanded(text: str, at: int, is_end: bool) -> int:
+    """A place in a text before its variables were replaced. One within a value is its variable's, which ends there where a
+    part does."""
     for found in _VARIABLE.finditer(text):
         value = os.environ.get(found[1])
         if not value or at < found.start():
             continue
         if at < found.start() + len(value):
-            return found.start()
+            return found.end() if is_end and at > found.start() else found.start()
         at += len(found[0]) - len(value)
     return min(at, len(text))
 

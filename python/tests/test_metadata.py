@@ -163,7 +163,6 @@ class Metadata(OfMetadata):
             (" x\n", "line 1: a field is wanted: a name, a colon and a value", 1),
             ("Version: 1\n", "there is no field Name, and so this is no core metadata", None),
             ("", "there is no field Name, and so this is no core metadata", None),
-            ("Name: a\nProvides-Extra: a b\n", "line 2: 'a b' is no name", 2),
             (b"Name: a\n\xff: b\n", "line 2: not UTF-8 at byte 8 of the file", 2),
         ):
             path.write_bytes(text if isinstance(text, bytes) else text.encode())
@@ -177,8 +176,14 @@ class Metadata(OfMetadata):
         error = self.refused(check, read(path), ENVIRONMENT, "")
         self.assertTrue(str(error).startswith("requirements: line 3, byte 3, length "), error)
         self.assertEqual((error.line, error.path), (3, str(path)))
-        path.write_text("Name: a\nRequires-Python: >=x\n")
-        self.assertTrue(self.message(path)[0].startswith("requirements: line 2, byte "))
+
+    def test_what_is_left_out(self):
+        path = self.folder / "METADATA"
+        path.write_text("Name: a\nRequires-Python: >=3.6.*\nProvides-Extra: a b\nProvides-Extra: c \nRequires-Dist: b\n")
+        listing = read(path)
+        said = [("requires-python >=3.6.*", "it can't be read", 2), ("a b", "no name of an extra", 3)]
+        self.assertEqual([(it.what, it.why, it.place.line) for it in listing.left_out], said)
+        self.assertEqual((self.lines(listing), listing.provided_extras, listing.assumed), ([("b", 5)], ("c",), ()))
 
     def test_faults_of_archives(self):
         name = "app-1.0-py3-none-any.whl"
