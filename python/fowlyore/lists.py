@@ -314,7 +314,7 @@ def _told_where(message: str, name: str, at: Located) -> InvalidInput:
             entry=at.place.entry,
         )  # fmt: skip
     # (what follows are the line and a caret below it)
-    return refused(at, "\n".join(why.rstrip("\n").split("\n")[:-2]), name)
+    return refused(at, "\n".join(why.split("\n")[:-2]), name)
 
 
 def refused(at: Located, why: str, name: str = "requirements") -> InvalidInput:
