@@ -8,16 +8,20 @@ import random
 import re
 import tempfile
 import unittest
+import warnings
 from contextlib import redirect_stderr
 from unittest import mock
 
 from fowlyore import InvalidInput, read
 
-try:
-    from pip._internal.exceptions import InstallationError
-    from pip._internal.req.req_file import parse_requirements
-except ImportError:  # another pip, or none
-    parse_requirements = None
+with warnings.catch_warnings():
+    # (what pip imports may be deprecated)
+    warnings.simplefilter("ignore")
+    try:
+        from pip._internal.exceptions import InstallationError
+        from pip._internal.req.req_file import parse_requirements
+    except ImportError:  # another pip, or none
+        parse_requirements = None
 
 EXAMPLES = pathlib.Path(__file__).resolve().parents[2] / "examples"
 COUNT = 10_000
@@ -109,7 +113,7 @@ def told_by_listing(listing):
     """The same of a listing: what it left out as a path is a requirement to pip's parser."""
     lines, editables = [], []
     for it in listing.lines:
-        text = re.split(r"(?:^|\s)#", it.text, 1)[0].strip() if listing.is_plain else it.text.strip()
+        text = re.split(r"(?:^|\s)#", it.text, maxsplit=1)[0].strip() if listing.is_plain else it.text.strip()
         if text:
             lines.append((os.path.basename(it.place.path), it.place.line, text, it.is_constraint))
     for it in listing.left_out:
@@ -123,7 +127,7 @@ def told_by_listing(listing):
 
 @unittest.skipUnless(parse_requirements, "pip's own reader of requirements files is not importable: pip._internal.req.req_file")
 class BesidePip(unittest.TestCase):
-    """Other files than these are read by pip and refused here: whose variables bring a comment, a line feed or a variable."""
+    """What pip's parser reads is read alike, but where extras of a constraint, or a comment that a variable brings, are refused."""
 
     def setUp(self):
         room = tempfile.TemporaryDirectory()
@@ -139,7 +143,8 @@ class BesidePip(unittest.TestCase):
         try:
             listing = read(path)
         except InvalidInput as error:
-            self.assertTrue(wanted is None or "can't have extras" in str(error), (str(error), wanted))
+            ours = ("a constraint can't have extras", "with the values of its variables the line has a comment")
+            self.assertTrue(wanted is None or any(it in str(error) for it in ours), (str(error), wanted))
             return False
         lines, editables = told_by_listing(listing)
         if wanted is None:
