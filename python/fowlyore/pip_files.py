@@ -32,10 +32,10 @@ _COMMENT = re.compile(r"(?:^|\s)#")
 _IS_COMMENT = re.compile(r"\s*#")
 _VARIABLE = re.compile(r"\$\{([A-Z0-9_]+)\}")
 _URL = re.compile(r"(?:https?|file):", re.I)
-# What ends a line for pip alone, and what stands before a comment or in none where something may be pip's.
-_ENDS = ("\\\n", "\\\r", "\x0b", "\x0c", "\x1c", "\x1d", "\x1e", "\x85", "\u2028", "\u2029")
+# What ends a line, or is white space, for pip alone; and what stands in no comment where something may be pip's.
+_ENDS = (b"\\\n", b"\\\r", b"\x0b", b"\x0c", b"\x1c", b"\x1d", b"\x1e", b"\x1f")
 _ARCHIVES = (".whl", ".zip", ".tar", ".tgz", ".tbz", ".txz", ".tlz")
-_SIGNS = (" -", "\n-", "${", "/", "\n.", *_ARCHIVES)
+_SIGNS = (b" -", b"\n-", b"${", b"/", b"\n.", *(it.encode() for it in _ARCHIVES))
 # What pip takes for a path, an archive or a URL without a name, where the library reads no requirement.
 _UNNAMED = re.compile(
     r"[./]|(?:https?|file|ftp|(?:git|hg|svn|bzr)\+[a-z]+):|"
@@ -207,16 +207,21 @@ def read_pip(path: str, data: bytes) -> Listing:
 
 def _may_be_pips(data: bytes) -> bool:
     """Whether something of a file may be pip's; a quick answer, for which comments are left out line by line."""
-    if data.endswith(b"\\") or data.count(b"\r") != data.count(b"\r\n") or any(it.encode() in data for it in _ENDS):
+    if (
+        not data.isascii()
+        or data.endswith(b"\\")
+        or data.count(b"\r") != data.count(b"\r\n")
+        or any(it in data for it in _ENDS)
+    ):
         return True
     fronts = []
     for line in data.split(b"\n"):
         front, mark, _ = line.partition(b"#")
         if mark and front and front[-1] not in b" \t":
             return True
-        fronts.append(front)
+        fronts.append(front.strip())
     bare = b"\n".join([b"", *fronts]).lower()
-    return any(it.encode() in bare for it in _SIGNS)
+    return any(it in bare for it in _SIGNS)
 
 
 def _coding_of(data: bytes) -> Optional[Tuple[str, int]]:
@@ -227,7 +232,17 @@ def _coding_of(data: bytes) -> Optional[Tuple[str, int]]:
     front = data.split(b"\n", 2)[:2]
     named = (_ENCODING.search(it) for it in front if it[:1] == b"#")
     found = next((it[1].decode("ascii", "replace") for it in named if it), "utf-8")
-    return None if found.lower().replace("_", "-") in ("utf-8", "utf8") else (found, 0)
+    return None if found.lower().replace("_", "-") in ("utf-8", "utf8") or _is_same(data, found) else (found, 0)
+
+
+def _is_same(data: bytes, encoding: str) -> bool:
+    """Whether bytes are ASCII, and no other text in an encoding, or there is none of this name."""
+    try:
+        return data.isascii() and data.decode(encoding) == data.decode("ascii")
+    except LookupError:
+        return True
+    except UnicodeError:
+        return False
 
 
 def _decoded(path: str, data: bytes, coding: Optional[Tuple[str, int]]) -> str:

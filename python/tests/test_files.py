@@ -85,6 +85,8 @@ class Plain(InFolder):
 
     def test_answers_and_faults_are_those_of_the_path(self):
         for text in (
+            "# coding: klingon\nfoo=1\n",
+            "#coding=latin-1\nfoo=1 # x\n",
             "foo>=1\nbar[a,b]\n",
             "foo==1\nfoo==2",
             "a ; os_name == 'nt'\n# - x\n",
@@ -220,7 +222,7 @@ class Faults(InFolder):
 
     def test_encodings(self):
         said = "requirements: there is no encoding klingon"
-        self.assertEqual(self.fault(self.write(a="# coding: klingon\nfoo\n")), (said, "a.txt", None))
+        self.assertEqual(self.fault(self.write(a="# coding: klingon\nfoo # é\n")), (said, "a.txt", None))
         said = self.fault(self.write(a=b"# coding: ascii\nfoo # \xe9\n"))
         self.assertEqual(said[1:], ("a.txt", None))
         self.assertTrue(said[0].startswith("requirements: not in the encoding ascii: "), said)
