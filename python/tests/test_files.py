@@ -14,6 +14,7 @@ from fowlyore.explanations import explain
 from fowlyore.pip_files import DEEPEST
 from tests.test_command import run
 
+ROUNDS = 150
 ENVIRONMENT = {
     "implementation_name": "cpython", "implementation_version": "3.11.7", "os_name": "posix", "platform_machine": "x86_64",
     "platform_python_implementation": "CPython", "platform_release": "6.1.0", "platform_system": "Linux",
@@ -252,7 +253,7 @@ class Faults(InFolder):
         self.assertEqual(self.texts(read(self.write(a="-c b.txt\n", b="foo[]<2\n"))), ["foo[]<2"])
 
     def place_of(self, path):
-        """The text of the line, and the part of it, that the library refuses; both as they stand in the file."""
+        """The file and the line, and the part of that, that the library refuses, as it stands in the file."""
         error = self.refused(check, read(path), ENVIRONMENT, "")
         front, shown = str(error).split("\n")[0], str(error).rstrip("\n").split("\n")[-2:]
         begin, end = (len(error.text[:it].encode()) for it in (error.start, error.end))
@@ -261,7 +262,7 @@ class Faults(InFolder):
         self.assertEqual(shown[1].index("^"), error.start)
         line = pathlib.Path(error.path).read_text(encoding="utf-8").split("\n")[error.line - 1]
         self.assertEqual(error.text, line)
-        return os.path.basename(error.path), error.line, error.text[error.start : error.end]
+        return os.path.basename(error.path), error.line, error.text[error.start : error.end].strip()
 
     def test_a_line_of_the_file(self):
         self.assertEqual(self.place_of(self.write(a="--pre\n\n  foo=1  # é\n")), ("a.txt", 3, "=1"))
@@ -357,7 +358,7 @@ class Constraints(InFolder):
         draw = random.Random(7)
         markers = ["", "", " ; os_name == 'nt'", " ; extra == 'x'", " ; os_name == 'posix' or extra == 'x'", " ; 'a' == 'b'"]
         some = ["", "<2", ">=1", "!=1", "==2", ">=1.5rc1"]
-        for number in range(150):
+        for number in range(ROUNDS):
             drawn = lambda most: [
                 f"{draw.choice('abc')}{draw.choice(some)}{draw.choice(markers)}" for _ in range(draw.randrange(most))
             ]
