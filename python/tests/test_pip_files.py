@@ -125,9 +125,9 @@ def told_by_listing(listing):
     return lines, sorted(set(editables))
 
 
-@unittest.skipUnless(parse_requirements, "pip's own reader of requirements files is not importable: pip._internal.req.req_file")
+@unittest.skipUnless(parse_requirements, "pip's own reader is not importable: pip._internal.req.req_file")
 class BesidePip(unittest.TestCase):
-    """What pip's parser reads is read alike, but where extras of a constraint, or a comment that a variable brings, are refused."""
+    """What pip's parser reads is read alike; but extras of a constraint, and a comment that a variable brings, are refused."""
 
     def setUp(self):
         room = tempfile.TemporaryDirectory()
