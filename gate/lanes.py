@@ -5,6 +5,7 @@ processors, and one job where it wouldn't: more jobs end a proof sooner, and cos
 """
 
 import os
+import time
 from concurrent.futures import FIRST_COMPLETED, ThreadPoolExecutor, wait
 
 # How much sooner a proof of some size ends by so many jobs.
@@ -14,6 +15,11 @@ MORE_MEMORY = 0.6
 # A chain that matters may have more jobs than there are idle processors, as no check keeps all of its jobs busy; and it
 # doesn't wait for shorter ones to end.
 BESIDE = 2
+# A check has taken most of its memory after so many seconds: that is seen in what is free, and it may still take this part
+# of what is reckoned, which is more than it takes.
+SETTLED, STILL = 60, 0.25
+# How often it is seen whether memory is free by now.
+PAUSE = 5
 
 
 class Task:
@@ -29,12 +35,13 @@ class Task:
 
 
 class Lanes:
-    """Runs tasks, each once those that it waits for have ended. They come after those that they wait for."""
+    """Runs tasks, each once those that it waits for have ended. They come after those that they wait for. `free` gives the
+    memory that is free then, in bytes."""
 
-    def __init__(self, tasks, processors, memory):
+    def __init__(self, tasks, processors, free):
         number = os.environ.get("RT_JOBS", "")
         self.fixed = int(number) if number.isdigit() else 0
-        self.tasks, self.lanes, self.memory = tasks, self.fixed or processors, memory
+        self.tasks, self.lanes, self.free = tasks, self.fixed or processors, free
         for key in reversed([*tasks]):
             for it in tasks[key].waits:
                 tasks[it].chain = max(tasks[it].chain, tasks[it].seconds + tasks[key].chain)
@@ -43,7 +50,7 @@ class Lanes:
 
     def jobs(self, key, held):
         """By how many jobs a task is run beside what waits for this much memory, or 0 where it has to wait."""
-        idle = self.lanes - sum(jobs for _, jobs in self.running.values())
+        idle = self.lanes - sum(jobs for _, jobs, _ in self.running.values())
         if self.fixed:
             return 1 if idle > 0 else 0
         task, work = self.tasks[key], sum(self.tasks[it].seconds for it in self.left)
@@ -53,9 +60,13 @@ class Lanes:
             return 0
         wanted = next((it for it in GAIN if task.chain / GAIN[it] <= share), max(GAIN))
         most = min(wanted, task.most_jobs, free)
-        room = self.memory - held - sum(self.tasks[it].takes(jobs) for it, jobs in self.running.values())
+        room = self.free() - held - sum(self.may_take(*it) for it in self.running.values())
         fits = [it for it in range(1, most + 1) if task.takes(it) <= room]
         return max(fits) if fits else 0 if self.running else 1
+
+    def may_take(self, key, jobs, began):
+        """The memory that a running task may take besides what it has, about."""
+        return self.tasks[key].takes(jobs) * (STILL if time.monotonic() - began > SETTLED else 1)
 
     def start(self, pool):
         ready = [it for it in self.left if all(low in self.given for low in self.tasks[it].waits)]
@@ -66,13 +77,13 @@ class Lanes:
             held += 0 if jobs else self.tasks[key].memory
             if jobs:
                 self.left.remove(key)
-                self.running[pool.submit(self.tasks[key].call, self.given, jobs)] = key, jobs
+                self.running[pool.submit(self.tasks[key].call, self.given, jobs)] = key, jobs, time.monotonic()
 
     def run(self):
         """Runs all, and returns what each gave."""
         with ThreadPoolExecutor(self.lanes + BESIDE) as pool:
             while self.left or self.running:
                 self.start(pool)
-                for it in wait(self.running, return_when=FIRST_COMPLETED).done:
+                for it in wait(self.running, PAUSE, FIRST_COMPLETED).done:
                     self.given[self.running.pop(it)[0]] = it.result()
         return self.given

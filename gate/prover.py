@@ -129,7 +129,7 @@ class Prover:
 
     def run(self, tasks):
         """Runs tasks, as many side by side as processors and memory allow."""
-        return Lanes(tasks, self.rt.processors(), MEMORY * self.rt.free()).run()
+        return Lanes(tasks, self.rt.processors(), lambda: MEMORY * self.rt.free()).run()
 
     def told(self):
         return f"{len(self.proved)} proved, {len(self.taken)} taken from the store"

@@ -126,8 +126,8 @@ fn reach_children(
     Ok(())
 }
 
-/// Whether some valuation with just the listed extras makes a tree hold. Of the trees that are reached the one
-/// that was made last is looked at first, so that none comes again.
+/// Whether some valuation with just the listed extras makes a tree hold. Of the trees that are reached the
+/// one that was made last is looked at first, so that none comes again.
 pub(crate) fn can_hold(
     alloc: Global,
     tree: MarkerTree,

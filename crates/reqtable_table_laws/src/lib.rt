@@ -53,7 +53,8 @@ pub fn cases_are_kept()
         HasItsCases old kept → HasItsCases new kept }
 {}
 
-/// While nodes are added to the interner, a table's cases stay its cases, and it keeps the lines that it kept.
+/// While nodes are added to the interner, a table's cases stay its cases, and it keeps the lines that it
+/// kept.
 pub fn tables_are_kept()
     ensures cases { (old new : List NodeRecord) (table : List KeptPackage) → Extends old new →
         AllByRecursion (HasItsCases old) table → AllByRecursion (HasItsCases new) table }
