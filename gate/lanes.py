@@ -17,7 +17,7 @@ MORE_MEMORY = 0.6
 BESIDE = 2
 # A check has taken most of its memory after so many seconds: that is seen in what is free, and it may still take this part
 # of what is reckoned, which is more than it takes.
-SETTLED, STILL = 60, 0.25
+SETTLED, STILL = 60, 0.3
 # How often it is seen whether memory is free by now.
 PAUSE = 5
 
