@@ -9,8 +9,11 @@
 
 from .errors import Refused
 from .distributions import installed
+from .files import read
+from .listings import Assumption, LeftOut, ListedLine, Listing, Place
 from .lists import Comparison, Conflict, InvalidInput, Row, check, conflicts, matrix, matrix_texts, normal, same
 from .markers import InvalidMarker, Marker, UndefinedComparison, UndefinedEnvironmentName, default_environment
+from .offered import read_candidates, wheelhouse
 from .requirements import InvalidRequirement, Requirement
 from .specifiers import InvalidSpecifier, Specifier, SpecifierSet
 from .urls import MarkerInURLWarning
@@ -18,6 +21,7 @@ from .version import InvalidVersion, Version, parse
 
 __version__ = "0.1.0"
 __all__ = [
+    "Assumption",
     "Comparison",
     "Conflict",
     "InvalidInput",
@@ -25,8 +29,12 @@ __all__ = [
     "InvalidRequirement",
     "InvalidSpecifier",
     "InvalidVersion",
+    "LeftOut",
+    "ListedLine",
+    "Listing",
     "Marker",
     "MarkerInURLWarning",
+    "Place",
     "Refused",
     "Requirement",
     "Row",
@@ -43,5 +51,8 @@ __all__ = [
     "matrix_texts",
     "normal",
     "parse",
+    "read",
+    "read_candidates",
     "same",
+    "wheelhouse",
 ]

@@ -7,13 +7,16 @@ import re
 import sys
 import warnings
 from pathlib import Path
-from typing import Any, Dict, List, Optional, Union
+from typing import Any, Dict, Iterable, List, Optional, Union
 
 from . import __version__
-from .distributions import installed
+from .distributions import installed, normal_name
 from .explanations import check_explained
+from .files import is_project, read, read_text, refuse_groups
+from .listings import REQUIRES_PYTHON, LeftOut, Listing
 from .lists import GREATEST_LIMIT, LIMIT, InvalidInput, check, conflicts, matrix, normal, same
 from .markers import completed
+from .offered import read_candidates, wheelhouse
 from .urls import MarkerInURLWarning
 from .version import InvalidVersion, Version
 
@@ -24,7 +27,9 @@ INPUTS = ("requirements", "environment", "environments", "candidates", "left", "
 
 STATUSES = """exit status: 0 after an answer, 1 where `same` said no, 2 where an input or the command line is refused, 3 where
 memory ran out or a file can't be read or written, as a standard stream that is closed, and 4 where a row is none with --strict.
-FILE may be `-` once, for standard input. A list has a requirement (PEP 508) a line; options of pip, as -r or --hash, are refused."""
+FILE may be `-` once, for standard input. It is a requirements file of pip, as a list with a requirement (PEP 508) a line is one,
+unless its name says otherwise: pyproject.toml, pylock.toml, METADATA, PKG-INFO, *.whl, *.tar.gz, or the folder of a project or of an
+installed distribution."""
 
 
 def source(word: str) -> Source:
@@ -35,6 +40,38 @@ def source(word: str) -> Source:
     if sys.stdin is None:
         raise OSError("standard input is closed")
     return sys.stdin.buffer.read()
+
+
+def listing(word: str, groups: List[str]) -> Listing:
+    """A list that is named. What is left out of it is told."""
+    given = source(word)
+    if isinstance(given, bytes) and groups:
+        refuse_groups(word)
+    found = read_text(given) if isinstance(given, bytes) else read(given, groups=groups)
+    tell_left_out(found.left_out)
+    return found
+
+
+def tell_left_out(left_out: Iterable[LeftOut]) -> None:
+    for it in left_out:
+        complain(str(it))
+
+
+def tell_assumed(found: Listing, but: str = "") -> Listing:
+    """Tells what a list's file says of environments, where none is held against it."""
+    for it in found.assumed:
+        if it.what != but:
+            complain(f"{it.place}: {it.what} {it.text} is not looked at")
+    return found
+
+
+def asked(words: argparse.Namespace) -> Listing:
+    """The list of `check` and `matrix`. Extras that its file doesn't define are told."""
+    found = tell_assumed(listing(words.requirements, words.group), but=REQUIRES_PYTHON)
+    for it in words.extra:
+        if found.provided_extras is not None and normal_name(it) not in found.provided_extras:
+            complain(f"{found.path}: there is no extra {it}")
+    return found
 
 
 def show(*words: object, sep: str = "\n") -> None:
@@ -76,6 +113,8 @@ def parser() -> argparse.ArgumentParser:
 
 def add(commands: Any, name: str, about: str, limit: bool = False) -> argparse.ArgumentParser:
     it: argparse.ArgumentParser = commands.add_parser(name, help=about, description=f"{about[0].upper()}{about[1:]}.")
+    of_group = "a dependency group of pyproject.toml whose lines are taken in too; may be repeated"
+    it.add_argument("--group", action="append", default=[], metavar="NAME", help=of_group)
     if limit:
         of_limit = "how many cases a package may have, which are sets of its lines that apply together (%(default)s)"
         it.add_argument("--limit", type=limit_of, default=LIMIT, metavar="N", help=of_limit)
@@ -104,15 +143,28 @@ def add_matrix(commands: Any) -> None:
 
 
 def add_candidates(it: argparse.ArgumentParser) -> None:
-    of_file = "a file with a name and a version a line (else what is installed for this interpreter)"
-    it.add_argument("--candidates", metavar="FILE", help=of_file)
+    of_file = "names with versions: a file with one a line, pylock.toml, the .json of a package index (else what is installed)"
+    offers = it.add_mutually_exclusive_group()
+    offers.add_argument("--candidates", metavar="FILE", help=of_file)
+    of_folder = "a folder of wheels and source archives, whose names say the candidates; may be repeated"
+    offers.add_argument("--wheelhouse", action="append", default=[], metavar="DIR", help=of_folder)
+    of_python = "answer though requires-python of FILE leaves the environment out"
+    it.add_argument("--ignore-requires-python", action="store_true", help=of_python)
     it.add_argument("--extra", action="append", default=[], metavar="NAME", help="an extra that is asked for; may be repeated")
 
 
 def candidates_of(words: argparse.Namespace) -> Any:
     """The candidates that are named, or those that are installed; what of these is no candidate is told."""
+    told: List[LeftOut] = []
+    if words.wheelhouse:
+        offered = [it for folder in words.wheelhouse for it in wheelhouse(Path(folder), told)]
+        tell_left_out(told)
+        return offered
     if words.candidates is not None:
-        return source(words.candidates)
+        given = source(words.candidates)
+        named = given if isinstance(given, bytes) else read_candidates(given, told)
+        tell_left_out(told)
+        return named
     left_out: List[str] = []
     found = installed(left_out)
     for it in left_out:
@@ -136,9 +188,12 @@ def versions_of(full: str) -> Dict[str, str]:
 
 
 def run_check(words: argparse.Namespace) -> int:
-    requirements = source(words.requirements)
-    inputs = (requirements, environment_of(words), candidates_of(words), words.extra)
-    rows, explanations = check_explained(*inputs) if words.explain else (check(*inputs), [])
+    inputs = (asked(words), environment_of(words), candidates_of(words), words.extra)
+    ignored = words.ignore_requires_python
+    if words.explain:
+        rows, explanations = check_explained(*inputs, ignore_requires_python=ignored)
+    else:
+        rows, explanations = check(*inputs, ignore_requires_python=ignored), []
     why = {it.name: it.sentences for it in explanations}
     for row in rows:
         show(row, *why.get(row.name, ()), sep="\n    ")
@@ -146,39 +201,36 @@ def run_check(words: argparse.Namespace) -> int:
 
 
 def run_matrix(words: argparse.Namespace) -> int:
-    inputs = (source(words.requirements), source(words.environments), candidates_of(words), words.extra)
-    answers = matrix(*inputs, limit=words.limit)
+    inputs = (asked(words), source(words.environments), candidates_of(words), words.extra)
+    answers = matrix(*inputs, limit=words.limit, ignore_requires_python=words.ignore_requires_python)
     for number, rows in enumerate(answers, 1):
         show(f"env {number}", *rows)
     return STRICT if words.strict and any(it.is_none for rows in answers for it in rows) else ANSWERED
 
 
 def run_same(words: argparse.Namespace) -> int:
-    answer = same(source(words.left), source(words.right), words.limit)
+    both = (words.left, words.right)
+    # (groups are those of the projects among the two)
+    of_projects = [it for it in both if is_project(it)] or both
+    left, right = (tell_assumed(listing(it, words.group if it in of_projects else [])) for it in both)
+    answer = same(left, right, words.limit)
     show(answer)
     return ANSWERED if answer else DIFFERENT
 
 
 def run_conflicts(words: argparse.Namespace) -> int:
-    for it in conflicts(source(words.requirements), words.limit):
+    for it in conflicts(tell_assumed(listing(words.requirements, words.group)), words.limit):
         show(it)
     return ANSWERED
 
 
 def run_normal(words: argparse.Namespace) -> int:
-    for it in normal(source(words.requirements)):
+    for it in normal(tell_assumed(listing(words.requirements, words.group))):
         show(it)
     return ANSWERED
 
 
 RUNS = {"check": run_check, "matrix": run_matrix, "same": run_same, "conflicts": run_conflicts, "normal": run_normal}
-
-
-def told(error: InvalidInput) -> str:
-    """What is wrong with an input, by the name of its file."""
-    message = str(error)
-    front = f"{error.input}: "
-    return f"{error.path}: {message[len(front):]}" if error.path and message.startswith(front) else message
 
 
 def write_utf8() -> None:
@@ -206,19 +258,19 @@ def main(words: Optional[List[str]] = None) -> int:
     """Runs a command, by default that of the process, and gives its exit status."""
     if words is None:
         write_utf8()
-    asked = parser().parse_args(words)
-    if sum(getattr(asked, it, None) == "-" for it in INPUTS) > 1:
+    said = parser().parse_args(words)
+    if sum(getattr(said, it, None) == "-" for it in INPUTS) > 1:
         complain("standard input (-) can be one input alone")
         return REFUSED
     try:
         with warnings.catch_warnings():
             complain_of_warnings()
-            status = RUNS[asked.command](asked)
+            status = RUNS[said.command](said)
         if sys.stdout is not None:
             sys.stdout.flush()
         return status
     except InvalidInput as error:
-        complain(told(error))
+        complain(str(error))
         return REFUSED
     except BrokenPipeError:
         # (so that nothing is written to it when the interpreter ends)

@@ -20,10 +20,10 @@ def installed(left_out: Optional[List[str]] = None) -> List[Tuple[str, str]]:
     found: Dict[str, Tuple[str, str]] = {}
     for distribution in importlib.metadata.distributions():
         name, version = _name_and_version(distribution)
-        key = _normal_name(name)
+        key = normal_name(name)
         if key in found:
             continue
-        if key and _is_version(version):
+        if key and is_version(version):
             found[key] = (name, version)
         elif left_out is not None:
             left_out.append(f"{name} {version}")
@@ -37,7 +37,7 @@ def _name_and_version(distribution: importlib.metadata.Distribution) -> Tuple[st
         return "None", "None"
 
 
-def _normal_name(name: str) -> str:
+def normal_name(name: str) -> str:
     """A name's normal form, and nothing where it is none."""
     try:
         requirement = Requirement(name)
@@ -46,7 +46,7 @@ def _normal_name(name: str) -> str:
     return requirement._normal_front()[0] if requirement.name == name else ""
 
 
-def _is_version(text: str) -> bool:
+def is_version(text: str) -> bool:
     try:
         Version(text)
     except InvalidVersion:

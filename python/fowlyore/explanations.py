@@ -8,7 +8,7 @@ from typing import Dict, Iterable, Iterator, List, NamedTuple, Optional, Sequenc
 from . import _native
 from .lists import (
     Candidates, Environment, Extras, Input, Requirements, Row, answered, candidates_input, environment_input, extras_input,
-    requirements_input, rows_of,
+    requirements_input, rows_checked, rows_of,
 )  # fmt: skip
 from .specifiers import InvalidSpecifier, Specifier, SpecifierSet
 from .version import InvalidVersion, Version
@@ -29,13 +29,15 @@ _SPECIFIERS = re.compile(r"\s*(?:\[[^\]]*\])?\s*\(?([^;#)]*)")
 
 
 class Line(NamedTuple):
-    """A line of a list: its number, from 1, and its text without white space around it."""
+    """A line of a list: its number, from 1, and its text without white space around it. Of a list that `read` has read, and that
+    isn't plain, the number counts the list's `lines`, and `place` says where the line came from."""
 
     number: int
     text: str
+    place: str = ""
 
     def __str__(self) -> str:
-        return f"line {self.number} ({self.text})"
+        return f"{self.place or f'line {self.number}'} ({self.text})"
 
 
 class Refusal(NamedTuple):
@@ -172,7 +174,12 @@ def _batches(offers: Iterable[_Offer]) -> Iterator[List[_Offer]]:
 
 
 def explain(
-    requirements: Requirements, environment: Environment = None, candidates: Candidates = None, extras: Extras = ()
+    requirements: Requirements,
+    environment: Environment = None,
+    candidates: Candidates = None,
+    extras: Extras = (),
+    *,
+    ignore_requires_python: bool = False,
 ) -> List[Explanation]:
     """For each row of `check` that is `none`, by name, why it is; the arguments are those of `check`.
 
@@ -189,22 +196,29 @@ def explain(
     >>> print(*explain(["foo>=1", "foo>=3"], candidates={"foo": ["0.9", "2.1"]}))
     line 2 (foo>=3) accepts no candidate; the greatest is 2.1
     """
-    return check_explained(requirements, environment, candidates, extras)[1]
+    return check_explained(
+        requirements, environment, candidates, extras, ignore_requires_python=ignore_requires_python
+    )[1]  # fmt: skip
 
 
 def check_explained(
-    requirements: Requirements, environment: Environment = None, candidates: Candidates = None, extras: Extras = ()
+    requirements: Requirements,
+    environment: Environment = None,
+    candidates: Candidates = None,
+    extras: Extras = (),
+    *,
+    ignore_requires_python: bool = False,
 ) -> Tuple[List[Row], List[Explanation]]:
     """The rows of `check`, and what `explain` says of them; each input is read once."""
     inputs = (
         requirements_input(requirements), environment_input(environment), candidates_input(candidates),
         extras_input(extras),
     )  # fmt: skip
-    rows = rows_of(answered(_native.check, *inputs))
+    rows = rows_checked(inputs, ignore_requires_python)
     names = [it.name for it in rows if it.is_none]
     if not names:
         return rows, []
-    lines = _lines_of(inputs[0].text.decode(), names)
+    lines = _lines_of(inputs[0], names)
     versions = _versions_of(inputs[2].text.decode(), names)
     question = _Question(inputs[1], inputs[3])
     return rows, [_explanation(it, lines[it], versions[it], question) for it in names]
@@ -215,15 +229,22 @@ def _normal(name: str) -> str:
     return re.sub("[-_.]+", "-", name).lower()
 
 
-def _lines_of(text: str, names: List[str]) -> Dict[str, List[_Asking]]:
+def _lines_of(given: Input, names: List[str]) -> Dict[str, List[_Asking]]:
     """The lines that ask for these packages, whether they apply or not; the list is one that `check` has read."""
     found: Dict[str, List[_Asking]] = {it: [] for it in names}
-    for number, line in enumerate(text.split("\n"), 1):
+    for number, line in enumerate(given.text.decode().split("\n"), 1):
         name = _NAME.match(line)
         of_name = None if name is None else found.get(_normal(name[1]))
         if name is not None and of_name is not None:
-            of_name.append(_Asking(Line(number, line.strip()), line[name.end() :]))
+            of_name.append(_Asking(_line_of(given, number, line), line[name.end() :]))
     return found
+
+
+def _line_of(given: Input, number: int, text: str) -> Line:
+    if given.listing is None:
+        return Line(number, text.strip())
+    place = given.listing.place(number)
+    return Line(number, text.strip(), place.within if place.path == given.listing.path else str(place))
 
 
 def _versions_of(text: str, names: List[str]) -> Dict[str, List[Version]]:

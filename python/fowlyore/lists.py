@@ -1,21 +1,23 @@
 """Lists of requirements: `check`, `matrix`, `same`, `conflicts` and `normal`, as the program `reqs` has them.
 
-A list is given in one of three ways: a str or bytes is its text, a path (`pathlib.Path`) names a file of it, and any other
-iterable has its lines: texts, or `Requirement`s.
+A list is given in one of four ways: a str or bytes is its text, a path (`pathlib.Path`) names a file of it, a `Listing` is what
+`read` has read of a file, and any other iterable has its lines: texts, or `Requirement`s.
 """
 
 import json
 import operator
 import os
 import re
-from dataclasses import dataclass
-from typing import Any, Callable, Iterable, List, Mapping, Optional, Sequence, Tuple, TypeVar, Union
+from dataclasses import dataclass, field
+from typing import Any, Callable, Iterable, List, Mapping, Optional, Sequence, Set, Tuple, TypeVar, Union
 
 from . import _native
-from .errors import Refused, characters
+from .errors import Refused, characters, columns
 from .distributions import installed
+from .listings import COMMENT, REQUIRES_PYTHON, Listing, Located, Place, TooLong
 from .markers import completed, environment_json
 from .requirements import InvalidRequirement, Requirement
+from .specifiers import SpecifierSet
 from .urls import warn_of_marker_in
 from .version import Version
 
@@ -25,7 +27,7 @@ __all__ = [
 
 # How many cases a package may have where no limit is named, and the greatest limit, as in `reqs`.
 LIMIT, GREATEST_LIMIT = 4096, 1_000_000
-Requirements = Union[str, bytes, "os.PathLike[str]", Iterable[Union[str, Requirement]]]
+Requirements = Union[str, bytes, "os.PathLike[str]", Listing, Iterable[Union[str, Requirement]]]
 Environment = Union[None, str, bytes, "os.PathLike[str]", Mapping[str, str]]
 Environments = Union[str, bytes, "os.PathLike[str]", Iterable[Mapping[str, str]]]
 Candidates = Union[
@@ -42,29 +44,44 @@ Answer = TypeVar("Answer")
 # A text that is meant as a path, most likely, though a package could have such a name.
 _PATH = re.compile(r"\S+\.(txt|in|json|toml)")
 _ROW = re.compile(r"([^ \[]+)(?:\[([^\]]*)\])? (.*)")
-# A line in which a `;` stands at the end of something that may be a URL, and where a comment begins.
+# A line in which a `;` stands at the end of something that may be a URL.
 _WITH_URL = re.compile(rb"@[^@;\n]*(?<!\s);")
-_COMMENT = re.compile(r"(?:^|\s)#.*")
 # A candidate's line that the library reads as one name and one version, or refuses.
 _CANDIDATE = re.compile(r"[^ #\n][^#\n]*")
 _WHITE = " \t\n\r\f"
+# What stands before the reason in the library's refusal of a line, of which a part may be told.
+_OF_LINE = re.compile(r"[a-z]+: line [0-9]+(?:(, byte [0-9]+, length [0-9]+)\n|: )")
 
 
 class InvalidInput(Refused):
-    """An input was refused. `input` is its name, as `requirements` or `candidates`, and `path` the file that it came from.
+    """An input was refused. `input` is its name, as `requirements` or `candidates`, `path` the file that it came from, and
+    `entry` the entry of a table, as `project.dependencies[0]`, where it came from one. As a text the error begins with the
+    file, or with the name where there is none.
 
     >>> check("foo=1", candidates="")
     Traceback (most recent call last):
     fowlyore.lists.InvalidInput: requirements: line 1...
     """
 
-    def __init__(self, message: str = "", *, input: Optional[str] = None, path: Optional[str] = None, **place: Any) -> None:
+    def __init__(
+        self,
+        message: str = "",
+        *,
+        input: Optional[str] = None,
+        path: Optional[str] = None,
+        entry: Optional[str] = None,
+        **place: Any,
+    ) -> None:
         super().__init__(message, **place)
         self.input = input
         self.path = path
+        self.entry = entry
 
     def __str__(self) -> str:
         # (the library's message has the line with a caret in it)
+        front = f"{self.input}: "
+        if self.path and self.message.startswith(front):
+            return f"{self.path}: {self.message[len(front) :]}"
         return self.message
 
 
@@ -113,23 +130,31 @@ class Comparison:
 
 @dataclass(frozen=True)
 class Conflict:
-    """A package, the numbers of its lines that have no version in common, and whether one of them names a pre-release."""
+    """A package, the numbers of its lines that have no version in common, and whether one of them names a pre-release. Of a
+    list that `read` has read, and that isn't plain, the numbers count its `lines`, and `places` tells where these stand."""
 
     name: str
     lines: Tuple[int, ...]
     names_prerelease: bool
+    places: Tuple[str, ...] = field(default=(), repr=False)
 
     def __str__(self) -> str:
-        return f"{self.name} {','.join(map(str, self.lines))}{' pre' if self.names_prerelease else ''}"
+        return f"{self.name} {','.join(self.places or map(str, self.lines))}{' pre' if self.names_prerelease else ''}"
 
 
 @dataclass(frozen=True)
 class Input:
-    """An input of a call: its name, its bytes, and the file that it was read from."""
+    """An input of a call: its name, its bytes, the file that it was read from, and the list that a reader made of that, where
+    its lines are others than the file's."""
 
     name: str
     text: bytes
     path: Optional[str] = None
+    listing: Optional[Listing] = None
+
+    def place(self, number: int) -> str:
+        """Where a line came from."""
+        return str(self.listing.place(number)) if self.listing else f"{self.path or self.name}: line {number}"
 
 
 def as_bytes(name: str, given: Any, otherwise: Callable[[Any], str]) -> Input:
@@ -146,18 +171,31 @@ def as_bytes(name: str, given: Any, otherwise: Callable[[Any], str]) -> Input:
 def requirements_input(given: Requirements, name: str = "requirements") -> Input:
     if isinstance(given, str) and _PATH.fullmatch(given):
         raise InvalidInput(f"{name}: {given!r} is read as a list's text: give a pathlib.Path for a file", input=name)
-    read = as_bytes(name, given, lambda lines: _joined(name, lines))
+    if isinstance(given, Listing):
+        read = Input(name, given.text, given.path, None if given.is_plain else given)
+    else:
+        read = as_bytes(name, given, lambda lines: _joined(name, lines))
     if _WITH_URL.search(read.text):
         _warn_of_urls(read)
     return read
+
+
+def _asking_input(given: Requirements, name: str = "requirements") -> Input:
+    """An input of which each line asks for something: constraints as lines that apply where others do."""
+    if isinstance(given, Listing) and given.has_constraints:
+        try:
+            given = given.without_constraints()
+        except TooLong as error:
+            raise unread(error.place, error.why, name) from None
+    return requirements_input(given, name)
 
 
 def _warn_of_urls(given: Input) -> None:
     """Warns of each line whose URL ends in a marker."""
     for number, line in enumerate(given.text.split(b"\n"), 1):
         if _WITH_URL.search(line):
-            url = _url_of(_COMMENT.sub("", line.decode("utf-8", "replace")))
-            warn_of_marker_in(url, f"{given.path or given.name}: line {number}: ")
+            url = _url_of(COMMENT.split(line.decode("utf-8", "replace"), maxsplit=1)[0])
+            warn_of_marker_in(url, f"{given.place(number)}: ")
 
 
 def _url_of(text: str) -> str:
@@ -257,9 +295,50 @@ def _refusal(fault: _native.Fault, inputs: Sequence[Input]) -> InvalidInput:
     line = given.text.split(b"\n")[fault.line - 1]
     start, end = characters(line, fault.start, fault.length) if fault.start or fault.length else (None, None)
     text = line.decode("utf-8", "replace")
+    if given.listing is not None:
+        return _told_where(fault.message, given.name, given.listing.located(fault.line, start or 0, end or 0))
     return InvalidInput(
         fault.message, input=given.name, path=given.path, text=text, line=fault.line, start=start, end=end
     )
+
+
+def _told_where(message: str, name: str, at: Located) -> InvalidInput:
+    """A refusal of a line by the place that it came from, in the library's words."""
+    found = _OF_LINE.match(message)
+    if found is None:
+        raise AssertionError(f"{message!r} tells of no line")
+    why = message[found.end() :]
+    if not found[1]:
+        return unread(at.place, why, name, at.text)
+    # (what follows are the line and a caret below it)
+    return refused(at, "\n".join(why.split("\n")[:-2]), name)
+
+
+def refused(at: Located, why: str, name: str = "requirements") -> InvalidInput:
+    """The error of a part of a line, told as the library tells one."""
+    start, end = (len(_native.encoded(at.text[:it])) for it in (at.start, at.end))
+    marks = " " * columns(at.text[: at.start]) + "^" * max(1, columns(at.text[at.start : at.end]))
+    return InvalidInput(
+        f"{name}: {at.place.within}, byte {start}, length {end - start}\n{why}\n{at.text}\n{marks}", input=name,
+        path=at.place.path, text=at.text, line=at.place.line, start=at.start, end=at.end, entry=at.place.entry,
+    )  # fmt: skip
+
+
+def unread(place: Place, why: str, name: str = "requirements", text: Optional[str] = None) -> InvalidInput:
+    """The error of a place in a file, or of the file as a whole; `text` is what stands there, where it is told."""
+    front = f"{place.within}: " if place.within else ""
+    return InvalidInput(
+        f"{name}: {front}{why}", input=name, path=place.path, text=text, line=place.line, entry=place.entry
+    )  # fmt: skip
+
+
+def decoded(path: str, data: bytes, name: str = "requirements") -> str:
+    """The text of a file in UTF-8. Raises `InvalidInput` for any other, by its line."""
+    try:
+        return data.decode("utf-8")
+    except UnicodeDecodeError as error:
+        line = data.count(b"\n", 0, error.start) + 1
+        raise unread(Place(path, line), f"not UTF-8 at byte {error.start} of the file", name) from None
 
 
 def rows_of(text: str) -> List[Row]:
@@ -274,13 +353,21 @@ def rows_of(text: str) -> List[Row]:
 
 
 def check(
-    requirements: Requirements, environment: Environment = None, candidates: Candidates = None, extras: Extras = ()
+    requirements: Requirements,
+    environment: Environment = None,
+    candidates: Candidates = None,
+    extras: Extras = (),
+    *,
+    ignore_requires_python: bool = False,
 ) -> List[Row]:
     """For each package that a line which applies asks for, by name, the greatest candidate that all these lines take.
 
     `environment` has values in place of the running interpreter's, `candidates` are names with versions, by default what is
     installed, and `extras` are those that are asked for. A pre-release is taken only where a line names one. The versions of
     an interpreter of a pre-release are read as `Marker.evaluate` says, but in an environment that is a text or a file.
+
+    Of a list that `read` has read its constraints hold for what other lines ask for, and an environment whose Python its file
+    doesn't admit raises `InvalidInput`, unless `ignore_requires_python` is set.
 
     >>> candidates = {"requests": ["2.31.0", "2.33.0rc1"], "numpy": ["1.26.3"]}
     >>> for row in check(["requests[socks]>=2.8.1", "NumPy==1.26.4"], candidates=candidates):
@@ -292,7 +379,30 @@ def check(
         requirements_input(requirements), environment_input(environment), candidates_input(candidates),
         extras_input(extras),
     )  # fmt: skip
-    return rows_of(answered(_native.check, *inputs))
+    return rows_checked(inputs, ignore_requires_python)
+
+
+def rows_checked(inputs: Tuple[Input, Input, Input, Input], ignore_requires_python: bool = False) -> List[Row]:
+    """The rows of `check`, of its inputs."""
+    rows = rows_of(answered(_native.check, *inputs))
+    listing = inputs[0].listing
+    if listing is not None and listing.has_constraints:
+        asked = rows_of(answered(_native.check, Input("requirements", listing.asking), *inputs[1:]))
+        names = {it.name for it in asked}
+        rows = [it for it in rows if it.name in names]
+    if listing is not None and not ignore_requires_python:
+        _hold_to_python(listing, inputs[1], json.loads(inputs[1].text))
+    return rows
+
+
+def _hold_to_python(listing: Listing, given: Input, environment: Mapping[str, str], number: Optional[int] = None) -> None:
+    """Refuses an environment whose Python the file of a list doesn't admit; as pip does, by the numbers of its release."""
+    full = environment.get("python_full_version", "")
+    for it in listing.assumed:
+        if it.what == REQUIRES_PYTHON and not SpecifierSet(it.text).contains(Version(full).base_version):
+            of_number = "" if number is None else f"environment {number}: "
+            why = f"Python {full} is not in {it.text}, which {it.place} asks for"
+            raise InvalidInput(f"{given.name}: {of_number}{why}", input=given.name, path=given.path)
 
 
 def matrix(
@@ -301,6 +411,8 @@ def matrix(
     candidates: Candidates = None,
     extras: Extras = (),
     limit: int = LIMIT,
+    *,
+    ignore_requires_python: bool = False,
 ) -> List[List[Row]]:
     """What `check` answers for each of some environments, which are whole ones: of each no value is the running one's. The
     versions of a mapping are read as `Marker.evaluate` says, those of a text or a file as they stand there.
@@ -313,7 +425,10 @@ def matrix(
     >>> matrix("colorama ; sys_platform == 'win32'", [linux, windows], {"colorama": ["0.4.6"]})
     [[], [Row(name='colorama', extras=(), outcome='0.4.6')]]
     """
-    return [rows_of(it) for it in matrix_texts(requirements, environments, candidates, extras, limit)]
+    texts = matrix_texts(
+        requirements, environments, candidates, extras, limit, ignore_requires_python=ignore_requires_python
+    )  # fmt: skip
+    return [rows_of(it) for it in texts]
 
 
 def matrix_texts(
@@ -322,6 +437,8 @@ def matrix_texts(
     candidates: Candidates = None,
     extras: Extras = (),
     limit: int = LIMIT,
+    *,
+    ignore_requires_python: bool = False,
 ) -> List[str]:
     """The rows of `matrix` as one text for each environment, which is what `reqs check` prints for it.
 
@@ -335,6 +452,29 @@ def matrix_texts(
         requirements_input(requirements), environments_input(environments), candidates_input(candidates),
         extras_input(extras),
     )  # fmt: skip
+    texts = _texts_of_matrix(inputs, limit)
+    listing = inputs[0].listing
+    if listing is not None and listing.has_constraints:
+        asked = _texts_of_matrix((Input("requirements", listing.asking), *inputs[1:]), limit)
+        texts = [_rows_of_names(text, _names_of(those)) for text, those in zip(texts, asked)]
+    if listing is not None and not ignore_requires_python:
+        for number, it in enumerate(json.loads(inputs[1].text), 1):
+            _hold_to_python(listing, inputs[1], it, number)
+    return texts
+
+
+def _names_of(text: str) -> Set[str]:
+    """The names of rows."""
+    return {it.split(" ", 1)[0].split("[", 1)[0] for it in _native.lines_of(text)}
+
+
+def _rows_of_names(text: str, names: Set[str]) -> str:
+    """The rows of some names."""
+    return "".join(f"{it}\n" for it in _native.lines_of(text) if it.split(" ", 1)[0].split("[", 1)[0] in names)
+
+
+def _texts_of_matrix(inputs: Tuple[Input, Input, Input, Input], limit: int) -> List[str]:
+    """The rows of each environment, as one text."""
     texts = texts_of(answered(_native.matrix, *inputs, limit=limit))
     listed = json.loads(inputs[1].text)
     if len(texts) == len(listed):
@@ -359,7 +499,7 @@ def same(left: Requirements, right: Requirements, limit: int = LIMIT) -> Compari
     >>> same("foo>=1", "foo>=1\\nfoo<2 ; os_name == 'nt'")
     Comparison(package='foo', place="os_name == 'nt'")
     """
-    answer = answered(_native.same, requirements_input(left, "left"), requirements_input(right, "right"), limit=limit)
+    answer = answered(_native.same, _asking_input(left, "left"), _asking_input(right, "right"), limit=limit)
     lines = _native.lines_of(answer)
     return Comparison() if lines == ["yes"] else Comparison(lines[1], lines[2])
 
@@ -370,12 +510,22 @@ def conflicts(requirements: Requirements, limit: int = LIMIT) -> List[Conflict]:
     >>> conflicts(["numpy>=1.26", "numpy<1.26 ; sys_platform == 'win32'"])
     [Conflict(name='numpy', lines=(1, 2), names_prerelease=False)]
     """
-    answer = answered(_native.conflicts, requirements_input(requirements), limit=limit)
+    given = requirements_input(requirements)
+    answer = answered(_native.conflicts, given, limit=limit)
     found = []
     for line in _native.lines_of(answer):
         name, numbers, *pre = line.split(" ")
         found.append(Conflict(name, tuple(map(int, numbers.split(","))), bool(pre)))
-    return found
+    return found if given.listing is None else _placed(found, given.listing)
+
+
+def _placed(found: List[Conflict], listing: Listing) -> List[Conflict]:
+    """Conflicts with the places of their lines, but for those of constraints alone, which ask for nothing."""
+    asking = (it for it in found if not all(map(listing.is_constraint, it.lines)))
+    return [
+        Conflict(it.name, it.lines, it.names_prerelease, tuple(listing.place(at).beside(listing.path) for at in it.lines))
+        for it in asking
+    ]  # fmt: skip
 
 
 def normal(requirements: Requirements) -> List[str]:
@@ -384,4 +534,4 @@ def normal(requirements: Requirements) -> List[str]:
     >>> normal("Foo_Bar [b , a] < 2.0 , >= 1.16 ; python_version >= '3.8'")
     ["foo-bar[b,a]>=1.16,<2.0 ; python_full_version >= '3.8'"]
     """
-    return _native.lines_of(answered(_native.normal, requirements_input(requirements)))
+    return _native.lines_of(answered(_native.normal, _asking_input(requirements)))

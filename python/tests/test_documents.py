@@ -48,7 +48,7 @@ class Documented(unittest.TestCase):
         text = " ".join(PAGE.read_text(encoding="utf-8").split())
         found = re.search(r"After a fork of a process with threads the child must not call (- .*)? This holds for forks", text)[1]
         listed = [r"anything, .* `malloc` .*", r"`installed\(\)`, or `check`, .* without candidates, .*", r"`import fowlyore`, .*"]
-        self.assertRegex(found, "^- " + " - ".join(listed))
+        self.assertRegex(found, "^- " + " - ".join([*listed, "`read` and `read_candidates`, .*"]))
 
     def test_statuses(self):
         said = re.search(r"The status is (.*?)\. ", PAGE.read_text(encoding="utf-8"), re.S)[1]
