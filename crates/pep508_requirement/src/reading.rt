@@ -8,20 +8,22 @@ ghost use Rattle.std.specs.Str.{skip_leading_whitespace};
 ghost use Rattle.pep508_url.specs.Vars.{IsAbsolute};
 ghost use Rattle.pep508_error.specs.Cursors.{rest_of, IsBehind};
 ghost use Rattle.pep508_tree.specs.Meaning.{Extends};
-ghost use Rattle.pep508_marker_read.specs.MarkerOutcome.{ReadsMarker};
+ghost use Rattle.pep508_marker_read.specs.MarkerOutcome.{SaysMarker};
 ghost use Rattle.pep508_requirement_text.specs.FrontOutcome.{IsPlain};
 ghost use Rattle.pep508_error.specs.Refusals.{IsOf};
+ghost use Rattle.pep508_requirement.specs.MarkedReading.{ReadsMarked};
 ghost use Rattle.pep508_requirement.specs.MarkerBehind.{marker_behind, TakesWarnings};
 ghost use Rattle.pep508_requirement.specs.Pieces.{ReadsAsked, ReadsPiece};
 ghost use Rattle.pep508_requirement.specs.RequirementReading.{ReadsRequirement};
 
 use crate::left::{last_mark, refuse_first};
-use crate::{Requirement, VersionOrUrl};
+use crate::{MarkedRequirement, Requirement, VersionOrUrl};
 use pep508_error::{Cursor, Pep508Error, Refusal};
+use pep508_formula::MarkerFormula;
 use pep508_marker::{Reporter, Silent};
-use pep508_marker_read::read_marker;
+use pep508_marker_read::read_formula;
 use pep508_requirement_text::{Front, Source, UrlPiece, read_front};
-use pep508_tree::{Interner, MarkerTree};
+use pep508_tree::Interner;
 use pep508_url::{Pep508Url, Vars};
 use read_outcome::FromValueError;
 use serde_json::Value;
@@ -75,28 +77,19 @@ impl<T: Pep508Url> Requirement<T> {
         ensures keeps { Extends interner.old.nodes interner.new.nodes }
         ensures counts { interner.new.conjunctions ≡ interner.old.conjunctions }
     {
-        let (front, rest) = match read_front(alloc, Cursor::new(text), vars) {
-            Ok(found) => found,
-            Err(refusal) => return Err(Pep508Error::of(alloc, refusal)),
-        };
-        let Front {
-            name,
-            extras,
-            source,
-        } = front;
-        let version_or_url = match read_asked(alloc, source, vars, working_dir) {
-            Ok(version_or_url) => version_or_url,
+        let read = match MarkedRequirement::parse_reporter(
+            alloc,
+            vars,
+            text,
+            working_dir,
+            reporter,
+        ) {
+            Ok(read) => read,
             Err(error) => return Err(error),
         };
-        match read_behind(alloc, interner, &version_or_url, rest, reporter) {
-            Ok(marker) => Ok(Requirement {
-                name,
-                extras,
-                version_or_url,
-                marker,
-                origin: None,
-            }),
-            Err(refusal) => Err(Pep508Error::of(alloc, refusal)),
+        match read.with_tree(alloc, interner) {
+            Ok(requirement) => Ok(requirement),
+            Err(_) => Err(Pep508Error::memory(alloc)),
         }
     }
 
@@ -139,6 +132,66 @@ impl<T: Pep508Url> Requirement<T> {
     }
 }
 
+impl<T: Pep508Url> MarkedRequirement<T> {
+    /// Reads a requirement as `Requirement::parse` does, and makes no tree of its marker: the same texts are
+    /// taken, and the same errors told of others.
+    ///
+    /// Linear in the text, but for bringing specifiers in order and for the versions that a marker's key is
+    /// compared with at once, of which n take O(n log n); takes memory for what is read and for an error.
+    pub fn parse(
+        alloc: Global,
+        vars: &Vars,
+        text: &str,
+        working_dir: Option<&str>,
+    ) -> Result<Self, Pep508Error<T>>
+        requires { IfSome working_dir (λ directory. IsAbsolute directory.now) }
+        ensures { ReadsMarked (λ url. T.reads vars.now url (option_copied working_dir.entry))
+            T.lacks_memory vars.now text.now result }
+    {
+        MarkedRequirement::parse_reporter(alloc, vars, text, working_dir, &mut Silent)
+    }
+
+    /// Reads a requirement as `parse` does, and reports the warnings of its marker. Those of a marker that is
+    /// refused may have been reported too, as far as it was read.
+    pub fn parse_reporter<R: Reporter>(
+        alloc: Global,
+        vars: &Vars,
+        text: &str,
+        working_dir: Option<&str>,
+        reporter: &mut R,
+    ) -> Result<Self, Pep508Error<T>>
+        requires directory { IfSome working_dir (λ directory. IsAbsolute directory.now) }
+        requires can_report { R.can_report reporter.old }
+        ensures answered { ReadsMarked (λ url. T.reads vars.now url (option_copied working_dir.entry))
+            T.lacks_memory vars.now text.now result }
+        ensures warnings { OnOk result (TakesWarnings R.takes reporter.old reporter.new text.now) }
+        ensures again { R.can_report reporter.new }
+    {
+        let (front, rest) = match read_front(alloc, Cursor::new(text), vars) {
+            Ok(found) => found,
+            Err(refusal) => return Err(Pep508Error::of(alloc, refusal)),
+        };
+        let Front {
+            name,
+            extras,
+            source,
+        } = front;
+        let version_or_url = match read_asked(alloc, source, vars, working_dir) {
+            Ok(version_or_url) => version_or_url,
+            Err(error) => return Err(error),
+        };
+        match read_behind(alloc, &version_or_url, rest, reporter) {
+            Ok(formula) => Ok(MarkedRequirement {
+                name,
+                extras,
+                version_or_url,
+                formula,
+            }),
+            Err(refusal) => Err(Pep508Error::of(alloc, refusal)),
+        }
+    }
+}
+
 /// What is asked for by what was read at the front.
 fn read_asked<T: Pep508Url>(
     alloc: Global,
@@ -177,28 +230,26 @@ fn read_piece<T: Pep508Url>(
     }
 }
 
-/// The marker behind a front, which always holds where nothing is left; or why what is left is none.
+/// The formula of the marker behind a front, which says nothing where nothing is left; or why what is left is
+/// none.
 fn read_behind<'a, T: Pep508Url, R: Reporter>(
     alloc: Global,
-    interner: &mut Interner,
     version_or_url: &Option<VersionOrUrl<T>>,
     rest: Cursor<'a>,
     reporter: &mut R,
-) -> Result<MarkerTree, Refusal<'a>>
+) -> Result<MarkerFormula, Refusal<'a>>
     requires { R.can_report reporter.old }
-    ensures read { ReadsMarker R.takes reporter.old reporter.new interner.new.nodes result
+    ensures read { SaysMarker R.takes reporter.old reporter.new result
         (marker_behind (skip_leading_whitespace (chars (rest_of rest.entry)))) }
     ensures again { R.can_report reporter.new }
-    ensures keeps { Extends interner.old.nodes interner.new.nodes }
-    ensures counts { interner.new.conjunctions ≡ interner.old.conjunctions }
     ensures of { IfErr result (IsOf rest.entry) }
 {
     let left = rest.after_whitespace();
     let Some((first, inside)) = left.split_first() else {
-        return Ok(MarkerTree::TRUE);
+        return Ok(MarkerFormula::new(alloc));
     };
     if first == ';' {
-        return read_marker(alloc, interner, inside, reporter);
+        return read_formula(alloc, inside, reporter);
     }
     Err(refuse_left(alloc, version_or_url, rest, left, first))
 }

@@ -4,9 +4,9 @@ ghost use Rattle.std.specs.Prelude.{◌≡◌, ◌≢◌, List, map, IfErr, IfOk
 ghost use Rattle.std.specs.List.{AllZip};
 ghost use Rattle.pep508_url.specs.Vars.{Variables};
 ghost use Rattle.pep508_evaluation.specs.Valuations.{valuation_of};
-ghost use Rattle.reqtable_requirements.specs.Asks.{AreOfNodes, asks_of};
+ghost use Rattle.reqtable_requirements.specs.Asks.{asks_of};
 ghost use Rattle.reqtable_requirements.specs.LineReading.{LineRecord};
-ghost use Rattle.reqtable_requirements.specs.Requirements.{StandsFor};
+ghost use Rattle.reqtable_requirements.specs.Requirements.{SaysLine};
 ghost use Rattle.reqs_json.specs.Rows.{IsAnswerIn};
 ghost use Rattle.reqs_ends.specs.declared.fault.Input.TheVariants.{First, Second};
 ghost use Rattle.reqs_ends.specs.Faults.{IsPlain, IsOfTexts};
@@ -17,15 +17,14 @@ ghost use Rattle.reqs_answers.specs.Texts.{behind_lines, texts_of};
 use crate::admitting::is_admitted;
 use pep508_environment::MarkerEnvironment;
 use pep508_name::ExtraName;
-use pep508_tree::Interner;
 use pep508_url::Vars;
 use reqs_ends::{
     Input, RunFault, Status, read_candidates, read_environment, read_extras, read_input,
-    read_requirements, write_answer,
+    read_marked_lines, write_answer,
 };
 use reqs_json::Format;
 use reqtable_answer::Admission;
-use reqtable_requirements::Requirements;
+use reqtable_requirements::MarkedLines;
 use reqtable_text::Candidates;
 use std::alloc::{AllocError, Global};
 use std::io::{Read, Write};
@@ -39,7 +38,7 @@ use std::io::{Read, Write};
 ///
 /// All inputs are read whole, in this order; then the extras are read as names, and then each
 /// input as what it is. The answer is made whole before the first write, by one call of
-/// `Requirements::judge`.
+/// `MarkedLines::judge`.
 pub fn check<L: Read, E: Read, C: Read, W: Write>(
     alloc: Global,
     requirements: &mut L,
@@ -86,12 +85,10 @@ fn check_text(
         requirements.old.items environment.old.items candidates.old.items) }
 {
     let extras = read_extras(alloc, extras)?;
-    let mut interner = Interner::new(alloc);
-    let requirements = read_requirements(alloc, Input::First, requirements, &mut interner, vars)?;
+    let requirements = read_marked_lines(alloc, Input::First, requirements, vars)?;
     text_behind(
         alloc,
         &requirements,
-        &interner,
         &extras,
         environment,
         candidates,
@@ -102,16 +99,13 @@ fn check_text(
 /// The text of the answer for requirements and extras that are read.
 fn text_behind(
     alloc: Global,
-    requirements: &Requirements,
-    interner: &Interner,
+    requirements: &MarkedLines,
     extras: &[ExtraName],
     environment: &mut Vec<u8>,
     candidates: &mut Vec<u8>,
     format: Format,
 ) -> Result<String, RunFault>
-    requires { AreOfNodes interner.now.nodes requirements.now }
-    ensures { (vars : Variables) (said : List LineRecord) →
-        AllZip (StandsFor vars interner.now.nodes) requirements.now said →
+    ensures { (vars : Variables) (said : List LineRecord) → AllZip (SaysLine vars) requirements.now said →
         AnswersText IsPlain format result (behind_lines (environment_from Second 1) extras.now said
         environment.old.items candidates.old.items) }
 {
@@ -120,7 +114,6 @@ fn text_behind(
     match answer_text(
         alloc,
         requirements,
-        interner,
         &environment,
         extras,
         &candidates,
@@ -134,20 +127,18 @@ fn text_behind(
 /// The text of what the requirements ask for in the environment with the extras, in a format.
 fn answer_text(
     alloc: Global,
-    requirements: &Requirements,
-    interner: &Interner,
+    requirements: &MarkedLines,
     environment: &MarkerEnvironment,
     extras: &[ExtraName],
     candidates: &Candidates,
     format: Format,
 ) -> Result<String, AllocError>
-    requires { AreOfNodes interner.now.nodes requirements.now }
     ensures { IfOk result (λ text. (vars : Variables) (said : List LineRecord) →
-        AllZip (StandsFor vars interner.now.nodes) requirements.now said →
+        AllZip (SaysLine vars) requirements.now said →
         IsAnswerIn format on_request (asks_of (valuation_of environment.now extras.now) said) candidates.now
         (string_bytes text)) }
 {
     let admission = Admission::new(|version, named| is_admitted(version, named));
-    let answer = requirements.judge(alloc, interner, environment, extras, candidates, &admission)?;
+    let answer = requirements.judge(alloc, environment, extras, candidates, &admission)?;
     reqs_json::answer_text(alloc, format, &answer, candidates)
 }

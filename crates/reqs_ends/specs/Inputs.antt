@@ -10,14 +10,12 @@ use Rattle.serde_json.specs.Read.{read}
 use Rattle.serde_json.specs.Written.{has_float}
 use Rattle.pep508_name.specs.Name.{name_reading}
 use Rattle.pep508_url.specs.Vars.{Variables}
-use Rattle.pep508_tree.specs.Meaning.{NodeRecord}
 use Rattle.pep508_environment.specs.Environment.{EnvironmentRecord, environment_of}
 use Rattle.reqtable_text.specs.TextLines.{with_first}
 use Rattle.reqtable_text.specs.declared.candidates.Candidate.{Candidate}
 use Rattle.reqtable_text.specs.Candidates.{candidates_of}
 use Rattle.reqtable_requirements.specs.LineReading.{LineRecord}
-use Rattle.reqtable_requirements.specs.Requirements.{requirements_of, StandsFor}
-use Rattle.reqtable_requirements.specs.declared.requirements.Line.{Line}
+use Rattle.reqtable_requirements.specs.Requirements.{requirements_of}
 use Rattle.reqs_ends.specs.declared.fault.Input.{Input}
 use Rattle.reqs_ends.specs.declared.fault.JsonShape.TheVariants as shapes
 use Rattle.reqs_ends.specs.declared.fault.RunFault.{RunFault}
@@ -64,12 +62,12 @@ extras_of (text ∷ texts) = with_first (extra_of text) (extras_of texts)
 abbrev pub lines_from : Variables → Input → List ℕ → Result (List LineRecord) Cause
 lines_from vars input bytes = with_cause (requirements_cause input) (requirements_of vars bytes)
 
--- what reading a list of requirements returned, with these nodes afterwards
-abbrev pub AnswersLines : Variables → List NodeRecord → Input → List ℕ → Result (List Line) RunFault → Type 0
-AnswersLines vars nodes input bytes (Ok lines) =
-    (said : List LineRecord) × (lines_from vars input bytes ≡ Ok said)
-    × AllZip (StandsFor vars nodes) lines said
-AnswersLines vars nodes input bytes (Err fault) =
+-- what reading a list of requirements returned: lines of which each stands for its record
+abbrev pub AnswersLines : {L : Type 0} → (L → LineRecord → Type 0) → Variables → Input → List ℕ
+    → Result (List L) RunFault → Type 0
+AnswersLines Stands vars input bytes (Ok lines) =
+    (said : List LineRecord) × (lines_from vars input bytes ≡ Ok said) × AllZip Stands lines said
+AnswersLines Stands vars input bytes (Err fault) =
     Refuses (IsOfTexts vars input bytes) fault (lines_from vars input bytes)
 
 -- the environment of this number that a JSON value of an input is

@@ -7,6 +7,7 @@ ghost use Rattle.std.specs.Str.Lossy.{utf8_valid_len};
 ghost use Rattle.serde_json.specs.Read.{read};
 ghost use Rattle.serde_json.specs.View.{view};
 ghost use Rattle.pep508_tree.specs.Meaning.{Extends};
+ghost use Rattle.reqtable_requirements.specs.Requirements.{SaysLine, StandsFor};
 ghost use Rattle.reqs_ends.specs.Faults.{AnswersRun};
 ghost use Rattle.reqs_ends.specs.Inputs.{ReadsInput, extra_of, extras_of, AnswersLines};
 ghost use Rattle.reqs_ends.specs.Inputs.{environment_in, environment_from, candidates_from};
@@ -17,7 +18,7 @@ use pep508_name::{ExtraName, InvalidNameError};
 use pep508_tree::Interner;
 use pep508_url::Vars;
 use reqs_io::{ASK_LIMIT, INPUT_LIMIT, read_whole};
-use reqtable_requirements::Requirements;
+use reqtable_requirements::{MarkedLines, Requirements};
 use reqtable_text::Candidates;
 use serde_json::Value;
 use std::alloc::Global;
@@ -65,7 +66,8 @@ pub fn read_requirements(
     interner: &mut Interner,
     vars: &Vars,
 ) -> Result<Requirements, RunFault>
-    ensures lines { AnswersLines vars.now interner.new.nodes input bytes.old.items result }
+    ensures lines { AnswersLines (StandsFor vars.now interner.new.nodes) vars.now input bytes.old.items
+        result }
     ensures keeps { Extends interner.old.nodes interner.new.nodes }
 {
     let read = Requirements::parse(alloc, bytes, interner, vars);
@@ -73,6 +75,23 @@ pub fn read_requirements(
     match read {
         Ok(requirements) => Ok(requirements),
         Err(fault) => Err(RunFault::of_requirements(input, fault)),
+    }
+}
+
+/// Reads a list of requirements without trees of its markers, and lets its bytes go.
+pub fn read_marked_lines(
+    alloc: Global,
+    input: Input,
+    bytes: &mut Vec<u8>,
+    vars: &Vars,
+) -> Result<MarkedLines, RunFault>
+    ensures { AnswersLines (SaysLine vars.now) vars.now input bytes.old.items result }
+{
+    let read = MarkedLines::parse(alloc, bytes, vars);
+    *bytes = Vec::new(alloc);
+    match read {
+        Ok(lines) => Ok(lines),
+        Err(refused) => Err(RunFault::of_requirements(input, refused)),
     }
 }
 

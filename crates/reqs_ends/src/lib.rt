@@ -11,5 +11,8 @@ mod output;
 
 pub use environments::read_environments;
 pub use fault::{Input, JsonShape, RefusedCause, RefusedWord, RunFault, Status};
-pub use input::{read_candidates, read_environment, read_extras, read_input, read_requirements};
+pub use input::{
+    read_candidates, read_environment, read_extras, read_input, read_marked_lines,
+    read_requirements,
+};
 pub use output::write_answer;

@@ -11,9 +11,9 @@ use Rattle.pep508_url.specs.UrlFaults.{told_url}
 use Rattle.pep508_url.specs.UrlTexts.{Verbatim, verbatim_reading}
 use Rattle.pep508_url.specs.Vars.{Variables}
 use Rattle.pep508_url.specs.declared.error.VerbatimUrlError.{VerbatimUrlError}
-use Rattle.pep508_tree.specs.Meaning.{NodeRecord}
-use Rattle.pep508_requirement.specs.RequirementReading.{IsRead, IsRefused}
-use Rattle.pep508_requirement.specs.declared.requirement.Requirement.{Requirement}
+use Rattle.pep508_requirement.specs.MarkedReading.{IsReadMarked}
+use Rattle.pep508_requirement.specs.RequirementReading.{IsRefused}
+use Rattle.pep508_requirement.specs.declared.marked.MarkedRequirement.{MarkedRequirement}
 use Rattle.pep508_requirement.specs.declared.version_or_url.VersionOrUrl.{VersionOrUrl}
 use Rattle.pep508_requirement.specs.declared.version_or_url.VersionOrUrl.TheVariants as asked
 use Rattle.reqs_reply.specs.declared.place.Place.{Place}
@@ -42,7 +42,7 @@ asked_lines (Some (asked.VersionSpecifier list)) = list_value_text list ++ codes
 asked_lines (Some (asked.Url url)) = codes "\n" ++ (unwrap_or url.given [] ++ codes "\n")
 
 -- the name, extras with commas between them, specifiers, URL, each on a line
-abbrev pub front_lines : Requirement Verbatim VerbatimUrlError → List ℕ
+abbrev pub front_lines : MarkedRequirement Verbatim VerbatimUrlError → List ℕ
 front_lines r =
     r.name ++ (codes "\n"
     ++ (join_with_byte 44 r.extras.items ++ (codes "\n" ++ asked_lines r.version_or_url)))
@@ -69,7 +69,7 @@ place_text (Some place) = decimal place.0 ++ (codes " " ++ decimal place.1)
 
 -- the parts are those of a requirement's front, each on a line, and then the place of its marker in the text,
 -- by the characters that are left after the front
-pub record HasParts (text left : List ℕ) (r : Requirement Verbatim VerbatimUrlError) (parts : List ℕ)
+pub record HasParts (text left : List ℕ) (r : MarkedRequirement Verbatim VerbatimUrlError) (parts : List ℕ)
     : Type 0 where
   pub place : Option (ℕ × ℕ)
   pub stands : IsMarkerPlace text left place
@@ -77,10 +77,9 @@ pub record HasParts (text left : List ℕ) (r : Requirement Verbatim VerbatimUrl
 
 -- these are the parts of the requirement that bytes are
 pub record AreParts (bytes parts : List ℕ) : Type 0 where
-  pub nodes : List NodeRecord
-  pub requirement : Requirement Verbatim VerbatimUrlError
+  pub requirement : MarkedRequirement Verbatim VerbatimUrlError
   pub is_utf8_text : is_utf8 bytes ≡ true
-  pub reads : IsRead ReadsUrl nodes bytes requirement
+  pub reads : IsReadMarked ReadsUrl bytes requirement
   pub has_parts : HasParts bytes reads.left requirement parts
 
 -- bytes are a text that is no requirement, for what an error says

@@ -13,9 +13,9 @@ use crate::refusing::refused;
 use crate::texts::normal_text;
 use pep508_environment::MarkerEnvironment;
 use pep508_error::{Pep508Error, Pep508ErrorSource};
-use pep508_evaluation::MarkerTreeEvaluation;
+use pep508_formula_truth::holds_in;
 use pep508_marker::Silent;
-use pep508_marker_read::MarkerTreeReading;
+use pep508_marker_read::{MarkerTreeReading, parse_formula};
 use pep508_name::ExtraName;
 use pep508_tree::{Interner, MarkerTree};
 use pep508_url::VerbatimUrl;
@@ -79,7 +79,8 @@ fn read_tree(
 }
 
 /// `1` where the marker that a line is holds in an environment with extras, `0` where it doesn't, `?` where
-/// the line is no marker.
+/// the line is no marker. Makes no tree: linear in the line, but for the versions that a key is compared with at
+/// once, of which n take O(n log n).
 pub fn mark_of_line(
     alloc: Global,
     line: &[u8],
@@ -103,9 +104,8 @@ fn mark_of_text(
     ensures { IfOk result (λ mark.
         mark ≡ held_mark (valuation_of environment.now extras.now) (marker_at (chars text.now))) }
 {
-    let mut interner = Interner::new(alloc);
-    match read_tree(alloc, &mut interner, text) {
-        Ok(tree) => Ok(mark_of(tree.evaluate(&interner, environment, extras))),
+    match parse_formula(alloc, text, &mut Silent) {
+        Ok(formula) => Ok(mark_of(holds_in(alloc, &formula, environment, extras)?)),
         Err(error) => mark_of_error(&error),
     }
 }

@@ -12,9 +12,8 @@ ghost use Rattle.reqs_markers.specs.Parts.{HasParts, RequirementEnds};
 use crate::refusing::refused;
 use pep508_error::Cursor;
 use pep508_name::ExtraName;
-use pep508_requirement::{Requirement, VersionOrUrl};
+use pep508_requirement::{MarkedRequirement, VersionOrUrl};
 use pep508_requirement_text::read_front;
-use pep508_tree::Interner;
 use pep508_url::{Vars, VerbatimUrl};
 use reqs_reply::{Ended, Reply, text_of};
 use std::alloc::{AllocError, Global};
@@ -35,7 +34,8 @@ pub fn no_variables(alloc: Global) -> Result<Vars, AllocError>
 /// marker stands in the text: the first byte and the number of bytes, which are all that follow the `;`.
 /// Another text is refused where it stops being a requirement.
 ///
-/// Linear in the text, but for bringing specifiers in order and for combining the marker's trees.
+/// Makes no tree of the marker: linear in the text, but for bringing specifiers in order and for the versions that
+/// a key is compared with at once, of which n take O(n log n).
 pub fn requirement(alloc: Global, bytes: &[u8], out: &mut [u8]) -> Reply
     ensures { RepliesAs (RequirementEnds bytes.now) out.old out.new result }
 {
@@ -53,8 +53,7 @@ fn requirement_parts(alloc: Global, bytes: &[u8]) -> Ended
     let Ok(vars) = no_variables(alloc) else {
         return Ended::OutOfMemory;
     };
-    let mut interner = Interner::new(alloc);
-    match Requirement::parse(alloc, &mut interner, &vars, text, Some(ROOT)) {
+    match MarkedRequirement::parse(alloc, &vars, text, Some(ROOT)) {
         Ok(requirement) => Ended::answered(parts_text(alloc, &vars, text, &requirement)),
         Err(error) => refused(alloc, 1, &error),
     }
@@ -90,7 +89,7 @@ fn parts_text(
     alloc: Global,
     vars: &Vars,
     text: &str,
-    requirement: &Requirement<VerbatimUrl>,
+    requirement: &MarkedRequirement<VerbatimUrl>,
 ) -> Result<String, AllocError>
     ensures { IfOk result (λ parts. (front : Front) (rest : List ℕ) →
         front_reading text.now ≡ Ok (front, rest) →
@@ -113,7 +112,10 @@ fn push_place(text: &mut String, place: Option<(usize, usize)>) -> Result<(), Al
 }
 
 /// The lines of a requirement's front.
-fn front_lines(alloc: Global, requirement: &Requirement<VerbatimUrl>) -> Result<String, AllocError>
+fn front_lines(
+    alloc: Global,
+    requirement: &MarkedRequirement<VerbatimUrl>,
+) -> Result<String, AllocError>
     ensures { IfOk result (λ text. string_bytes text ≡ front_lines requirement.now) }
 {
     let mut text = String::from_str(alloc, requirement.name.as_str())?;

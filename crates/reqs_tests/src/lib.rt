@@ -9,6 +9,8 @@ mod copies;
 #[cfg(test)]
 mod ends;
 #[cfg(test)]
+mod formulas;
+#[cfg(test)]
 mod lists;
 #[cfg(test)]
 mod tables;

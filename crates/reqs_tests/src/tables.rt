@@ -17,7 +17,7 @@ use std::fmt::Write;
 use std::test::Fail;
 
 /// CPython 3.11.4 on Linux.
-fn environment(alloc: Global) -> Result<MarkerEnvironment, AllocError> {
+pub fn environment(alloc: Global) -> Result<MarkerEnvironment, AllocError> {
     let builder = MarkerEnvironmentBuilder {
         implementation_name: "cpython",
         implementation_version: "3.11.4",

@@ -13,6 +13,13 @@
 //! let text = answer.text(alloc, &candidates)?;
 //! ```
 //!
+//! Who judges for one environment alone needs no trees of markers, which may be large:
+//!
+//! ```text
+//! let lines = MarkedLines::parse(alloc, requirements_text, &vars)?;
+//! let answer = lines.judge(alloc, &environment, &extras, &candidates, &admission)?;
+//! ```
+//!
 //! Without any environment a list has one normal text and the lines that contradict each other, and two lists
 //! of one interner require the same or not:
 //!
@@ -46,10 +53,12 @@
 pub mod laws;
 
 pub use pep508_rs;
-pub use reqtable_answer::{Admission, Answer, Ask, AskSource, Outcome, Row, answer_to, ask_of};
+pub use reqtable_answer::{
+    Admission, Answer, Ask, AskSource, Outcome, Row, answer_to, ask_of, ask_of_marked,
+};
 pub use reqtable_compare::{LineCause, Same, SameError, Side, same};
 pub use reqtable_conflicts::{Conflict, conflicts};
 pub use reqtable_normal::{NormalCause, NormalError, normal};
-pub use reqtable_requirements::{Line, Requirements, RequirementsError};
+pub use reqtable_requirements::{Line, MarkedLine, MarkedLines, Requirements, RequirementsError};
 pub use reqtable_table::{Case, Runs, Table, TableError};
 pub use reqtable_text::{Candidate, CandidateFault, Candidates, CandidatesError, Ordered, Placed};

@@ -6,6 +6,7 @@ use Rattle.pep508_url.specs.UrlTexts.{Verbatim}
 use Rattle.pep508_url.specs.declared.error.VerbatimUrlError.{VerbatimUrlError}
 use Rattle.pep508_requirement_text.specs.FrontReading.{Source, Front}
 use Rattle.pep508_requirement_text.specs.FrontReading.Source.{Any, Specifiers, Url}
+use Rattle.pep508_requirement.specs.declared.marked.MarkedRequirement.{MarkedRequirement}
 use Rattle.pep508_requirement.specs.declared.requirement.Requirement.{Requirement}
 use Rattle.pep508_requirement.specs.declared.version_or_url.VersionOrUrl.{VersionOrUrl}
 use Rattle.pep508_requirement.specs.declared.version_or_url.VersionOrUrl.TheVariants as asked
@@ -39,6 +40,14 @@ wanted_seen (Some (asked.Url url)) = Url []
 
 abbrev pub requirement_seen : Asked → Front
 requirement_seen requirement = record {
+  name = requirement.name;
+  extras = requirement.extras.items;
+  source = wanted_seen requirement.version_or_url;
+}
+
+-- the same of one whose marker is a formula
+abbrev pub marked_seen : MarkedRequirement Verbatim VerbatimUrlError → Front
+marked_seen requirement = record {
   name = requirement.name;
   extras = requirement.extras.items;
   source = wanted_seen requirement.version_or_url;

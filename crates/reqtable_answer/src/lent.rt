@@ -1,11 +1,11 @@
 //! What is asked of a package, lent by whatever asks it.
 
 ghost use Rattle.std.specs.Prelude.{◌≡◌};
-ghost use Rattle.reqtable_answer.specs.Says.{ask_seen, source_seen, requirement_seen, wanted_seen};
+ghost use Rattle.reqtable_answer.specs.Says.{ask_seen, marked_seen, source_seen, requirement_seen, wanted_seen};
 
 use pep440_specifier_list::VersionSpecifiers;
 use pep508_name::{ExtraName, PackageName};
-use pep508_requirement::{Requirement, VersionOrUrl};
+use pep508_requirement::{MarkedRequirement, Requirement, VersionOrUrl};
 use pep508_url::VerbatimUrl;
 
 /// With what a package is asked for.
@@ -35,6 +35,17 @@ pub fn ask_of(requirement: &Requirement<VerbatimUrl>) -> Ask<'_>
         name: &requirement.name,
         extras: requirement.extras.as_slice(),
         source: source_of(&requirement.version_or_url),
+    }
+}
+
+/// The same of one whose marker is a formula. It takes no memory.
+pub fn ask_of_marked(marked: &MarkedRequirement<VerbatimUrl>) -> Ask<'_>
+    ensures { ask_seen result ≡ marked_seen marked.now }
+{
+    Ask {
+        name: &marked.name,
+        extras: marked.extras.as_slice(),
+        source: source_of(&marked.version_or_url),
     }
 }
 

@@ -21,4 +21,4 @@ pub use admission::Admission;
 pub use answer::{Answer, Outcome, Row};
 pub use answering::answer_to;
 pub use extras::united_extras;
-pub use lent::{Ask, AskSource, ask_of};
+pub use lent::{Ask, AskSource, ask_of, ask_of_marked};

@@ -11,9 +11,11 @@ use Rattle.pep508_tree.specs.Meaning.{NodeRecord}
 use Rattle.pep508_error.specs.declared.error.Pep508Error.{Pep508Error}
 use Rattle.pep508_error.specs.declared.error.Pep508ErrorSource.{Pep508ErrorSource}
 use Rattle.pep508_error.specs.declared.error.Pep508ErrorSource.TheVariants as sources
+use Rattle.pep508_formula.specs.Postfix.{formula_of}
 use Rattle.pep508_marker_read.specs.MarkerOutcome.{IsTreeOf}
 use Rattle.pep508_requirement.specs.RequirementReading.{AsksFor, IsRefused}
 use Rattle.reqtable_text.specs.TextLines.{text_lines, lines_of_text}
+use Rattle.reqtable_requirements.specs.declared.marked.MarkedLine.{MarkedLine}
 use Rattle.reqtable_requirements.specs.declared.requirements.Line.{Line}
 use Rattle.reqtable_requirements.specs.declared.requirements.RequirementsError.{RequirementsError}
 use Rattle.reqtable_requirements.specs.declared.requirements.RequirementsError.TheVariants as errors
@@ -38,6 +40,14 @@ pub record StandsFor (vars : Variables) (nodes : List NodeRecord) (line : Line) 
   pub asks : AsksFor (ReadsUrl vars) said.front.source line.requirement.version_or_url
   pub tree : IsTreeOf nodes line.requirement.marker said.formula
 
+-- a line says what the record does: the formula of its marker is the record's
+pub record SaysLine (vars : Variables) (line : MarkedLine) (said : LineRecord) : Type 0 where
+  pub number : line.number ≡ said.number
+  pub name : line.requirement.name ≡ said.front.name
+  pub extras : line.requirement.extras.items ≡ said.front.extras
+  pub asks : AsksFor (ReadsUrl vars) said.front.source line.requirement.version_or_url
+  pub formula : formula_of line.requirement.formula ≡ said.formula
+
 -- what an error says of a text, if it is not want of memory
 abbrev pub told_requirements : RequirementsError → Option LinesFault
 told_requirements (errors.NotText offset) = Some (NotText offset)
@@ -51,11 +61,11 @@ IsErrorOf vars number text (errors.Line named error) =
     (named ≡ number) × IsRefused (ReadsUrl vars) lacks_memory vars text error
 IsErrorOf vars number text error = Unit {0}
 
--- what reading one line returned, with these nodes afterwards
-abbrev pub ReadsLine : Variables → List NodeRecord → ℕ → List ℕ → Result Line RequirementsError → Type 0
-ReadsLine vars nodes number text (Ok line) =
-    (said : LineRecord) × (line_of vars number text ≡ Ok said) × StandsFor vars nodes line said
-ReadsLine vars nodes number text (Err error) =
+-- what reading one line returned
+abbrev pub ReadsLine : Variables → ℕ → List ℕ → Result MarkedLine RequirementsError → Type 0
+ReadsLine vars number text (Ok line) =
+    (said : LineRecord) × (line_of vars number text ≡ Ok said) × SaysLine vars line said
+ReadsLine vars number text (Err error) =
     Tells (told_requirements error) (line_of vars number text) × IsErrorOf vars number text error
 
 -- the error is that of some line's text
@@ -65,12 +75,12 @@ IsErrorIn vars texts (errors.Line number error) =
     × (texts ≡ front ++ (number, text) ∷ back) × IsRefused (ReadsUrl vars) lacks_memory vars text error
 IsErrorIn vars texts error = Unit {0}
 
--- what reading some lines returned, by what there is to read
-abbrev pub ReadsLines : {X : Type 0} → (X → List Line) → Variables → List NodeRecord → List (ℕ × List ℕ)
-    → Result (List LineRecord) LinesFault → Result X RequirementsError → Type 0
-ReadsLines view vars nodes texts reading (Ok lines) =
-    (said : List LineRecord) × (reading ≡ Ok said) × AllZip (StandsFor vars nodes) (view lines) said
-ReadsLines view vars nodes texts reading (Err error) =
+-- what reading some lines returned, by what there is to read: lines of which each stands for its record
+abbrev pub ReadsLines : {X L : Type 0} → (L → LineRecord → Type 0) → (X → List L) → Variables
+    → List (ℕ × List ℕ) → Result (List LineRecord) LinesFault → Result X RequirementsError → Type 0
+ReadsLines Stands view vars texts reading (Ok lines) =
+    (said : List LineRecord) × (reading ≡ Ok said) × AllZip Stands (view lines) said
+ReadsLines Stands view vars texts reading (Err error) =
     Tells (told_requirements error) reading × IsErrorIn vars texts error
 
 -- what reading a requirements text returned, with these nodes afterwards: lines that stand for those of the
@@ -78,7 +88,13 @@ ReadsLines view vars nodes texts reading (Err error) =
 abbrev pub ReadsRequirements : Variables → List NodeRecord → List ℕ → Result (List Line) RequirementsError
     → Type 0
 ReadsRequirements vars nodes bytes result =
-    ReadsLines (λ lines. lines) vars nodes (text_lines bytes) (requirements_of vars bytes) result
+    ReadsLines (StandsFor vars nodes) (λ lines. lines) vars (text_lines bytes) (requirements_of vars bytes)
+    result
+
+-- the same with the formulas of markers
+abbrev pub SaysRequirements : Variables → List ℕ → Result (List MarkedLine) RequirementsError → Type 0
+SaysRequirements vars bytes result =
+    ReadsLines (SaysLine vars) (λ lines. lines) vars (text_lines bytes) (requirements_of vars bytes) result
 
 -- the refusal of a line for an error of its requirement
 abbrev pub refusal_by : ℕ → Pep508Error Verbatim VerbatimUrlError

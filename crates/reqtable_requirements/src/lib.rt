@@ -3,6 +3,8 @@
 
 mod judgement;
 pub mod laws;
+mod marked;
 mod requirements;
 
+pub use marked::{MarkedLine, MarkedLines};
 pub use requirements::{Line, Requirements, RequirementsError, copied_packages};

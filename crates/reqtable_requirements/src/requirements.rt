@@ -1,26 +1,25 @@
 //! A requirements text: one requirement line after another.
 
-ghost use Rattle.std.specs.Prelude.{◌≡◌, Some, IfOk, map};
+ghost use Rattle.std.specs.Prelude.{◌≡◌, Some, List, IfOk, map};
 ghost use Rattle.std.specs.Cmp.Lexicographic.{slice_cmp};
 ghost use Rattle.std.specs.List.{AllZip, list_any};
 ghost use Rattle.std.specs.List.Sorted.{IsStrictlySortedBy};
 ghost use Rattle.std.specs.Ordering.{nat_cmp};
 ghost use Rattle.std.specs.Str.{bytes_eq};
 ghost use Rattle.pep508_tree.specs.Meaning.{Extends};
-ghost use Rattle.reqtable_text.specs.TextLines.{text_lines, each_line};
 ghost use Rattle.reqtable_requirements.specs.Copies.{IsLineCopy, lines_among};
-ghost use Rattle.reqtable_requirements.specs.LineReading.{line_of};
+ghost use Rattle.pep508_url.specs.Vars.{Variables};
+ghost use Rattle.reqtable_requirements.specs.LineReading.{LineRecord};
 ghost use Rattle.reqtable_requirements.specs.ReadLines.{AreRead};
-ghost use Rattle.reqtable_requirements.specs.Requirements.{ReadsLine, ReadsLines};
-ghost use Rattle.reqtable_requirements.specs.Requirements.{ReadsRequirements, refusal_of};
+ghost use Rattle.reqtable_requirements.specs.Requirements.{ReadsRequirements, SaysLine, StandsFor};
 
 use crate::laws::{line_numbers_rise, specifiers_are_read_from_texts};
-use pep508_error::{Pep508Error, Pep508ErrorSource};
+use crate::{MarkedLine, MarkedLines};
+use pep508_error::Pep508Error;
 use pep508_name::PackageName;
 use pep508_requirement::Requirement;
 use pep508_tree::Interner;
 use pep508_url::{Vars, VerbatimUrl};
-use reqtable_text::text_lines::{as_text, is_blank, line_text};
 use std::alloc::{AllocError, AllocFailed, Global};
 use std::error::Error;
 use std::fmt;
@@ -137,8 +136,8 @@ impl Requirements {
     /// count and are left out. Each other line is a requirement (PEP 508, "Grammar"), whose relative paths
     /// stand in the project's root. The first one that isn't ends the reading.
     ///
-    /// Time and memory are those of reading each line's requirement. The nodes of the interner stay,
-    /// refused or not.
+    /// Reads all lines as `MarkedLines::parse` does, and then makes their trees. Time and memory are those of
+    /// both. The nodes of the interner stay, refused or not.
     pub fn parse(
         alloc: Global,
         bytes: &[u8],
@@ -149,11 +148,8 @@ impl Requirements {
         ensures keeps { Extends interner.old.nodes interner.new.nodes }
         ensures counts { interner.new.conjunctions ≡ interner.old.conjunctions }
     {
-        let text = match as_text(bytes) {
-            Ok(text) => text,
-            Err(offset) => return Err(RequirementsError::NotText { offset }),
-        };
-        let lines = read_lines(alloc, text, interner, vars)?;
+        let marked = MarkedLines::parse(alloc, bytes, vars)?;
+        let lines = with_trees(alloc, interner, marked.into_lines())?;
         line_numbers_rise();
         specifiers_are_read_from_texts();
         Ok(Requirements { lines })
@@ -250,55 +246,29 @@ impl Eq for Requirements {
     ghost laws = { lists_equiv laws-law };
 }
 
-/// The refusal of a line for this error of its requirement.
-fn refusal(number: usize, error: Pep508Error<VerbatimUrl>) -> RequirementsError
-    ensures { result ≡ refusal_of number error }
-{
-    match error.message() {
-        Pep508ErrorSource::Memory => RequirementsError::Memory,
-        Pep508ErrorSource::NumberAtEnd => RequirementsError::NumberAtEnd { number },
-        _ => RequirementsError::Line { number, error },
-    }
-}
-
-/// The requirement that a line's text is.
-fn read_line(
+/// The lines with trees of their markers. A line's formula is let go once its tree is made.
+fn with_trees(
     alloc: Global,
-    number: usize,
-    text: &str,
     interner: &mut Interner,
-    vars: &Vars,
-) -> Result<Line, RequirementsError>
-    ensures read { ReadsLine vars.now interner.new.nodes number text.now result }
+    lines: Vec<MarkedLine>,
+) -> Result<Vec<Line>, AllocError>
+    ensures made { IfOk result (λ made. (vars : Variables) (said : List LineRecord) →
+        AllZip (SaysLine vars) lines.items said →
+        AllZip (StandsFor vars interner.new.nodes) made.items said) }
     ensures keeps { Extends interner.old.nodes interner.new.nodes }
     ensures counts { interner.new.conjunctions ≡ interner.old.conjunctions }
 {
-    match Requirement::parse(alloc, interner, vars, text, Some(vars.project_root())) {
-        Ok(requirement) => Ok(Line {
+    let mut made = Vec::new(alloc);
+    for line in lines {
+        let MarkedLine {
             number,
             requirement,
-        }),
-        Err(error) => Err(refusal(number, error)),
+        } = line;
+        let requirement = requirement.with_tree(alloc, interner)?;
+        made.push(Line {
+            number,
+            requirement,
+        })?;
     }
-}
-
-fn read_lines(
-    alloc: Global,
-    text: &str,
-    interner: &mut Interner,
-    vars: &Vars,
-) -> Result<Vec<Line>, RequirementsError>
-    ensures read { ReadsLines (λ read. read.items) vars.now interner.new.nodes (text_lines text.now)
-        (each_line (line_of vars.now) (text_lines text.now)) result }
-    ensures keeps { Extends interner.old.nodes interner.new.nodes }
-    ensures counts { interner.new.conjunctions ≡ interner.old.conjunctions }
-{
-    let mut read = Vec::new(alloc);
-    for (index, line) in text.split('\n').enumerate() {
-        let line = line_text(line);
-        if !is_blank(line) {
-            read.push(read_line(alloc, index + 1, line, interner, vars)?)?;
-        }
-    }
-    Ok(read)
+    Ok(made)
 }
