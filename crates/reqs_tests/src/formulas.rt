@@ -2,6 +2,7 @@
 
 use crate::tables::environment;
 use pep440_version::Version;
+use pep508_environment::MarkerEnvironment;
 use pep508_evaluation::MarkerTreeEvaluation;
 use pep508_formula::{FormulaPart, MarkerFormula, Parts};
 use pep508_formula_truth::holds_in;
@@ -24,15 +25,27 @@ fn extra(alloc: Global) -> Result<ExtraName, AllocError> {
     ExtraName::from_str(alloc, "a").or(Err(AllocError))
 }
 
+fn formula_of(alloc: Global, text: &str) -> Result<MarkerFormula, AllocError> {
+    parse_formula::<VerbatimUrl, Silent>(alloc, text, &mut Silent).or(Err(AllocError))
+}
+
+fn holds_by_tree(
+    alloc: Global,
+    formula: &MarkerFormula,
+    at: &MarkerEnvironment,
+    extras: &[ExtraName],
+) -> Result<bool, AllocError> {
+    let mut interner = Interner::new(alloc);
+    let tree = tree_of(alloc, &mut interner, formula)?;
+    Ok(tree.evaluate(&interner, at, extras))
+}
+
 /// Whether a marker holds, by its formula and by the tree of that.
 fn held(alloc: Global, text: &str) -> Result<(bool, bool), AllocError> {
     let at = environment(alloc)?;
     let extras = [extra(alloc)?];
-    let read = parse_formula::<VerbatimUrl, Silent>(alloc, text, &mut Silent);
-    let formula = read.or(Err(AllocError))?;
-    let mut interner = Interner::new(alloc);
-    let tree = tree_of(alloc, &mut interner, &formula)?;
-    let by_tree = tree.evaluate(&interner, &at, &extras);
+    let formula = formula_of(alloc, text)?;
+    let by_tree = holds_by_tree(alloc, &formula, &at, &extras)?;
     Ok((holds_in(alloc, &formula, &at, &extras)?, by_tree))
 }
 
@@ -77,21 +90,29 @@ fn built(alloc: Global) -> Result<MarkerFormula, AllocError> {
     Ok(formula)
 }
 
-#[test]
-fn a_formula_is_shown_in_postfix_order(rt: HostRuntime) -> Result<(), Fail> {
-    let alloc = rt.alloc();
-    let formula = built(alloc)?;
+fn push_part(text: &mut String, part: FormulaPart<'_>) -> Result<(), AllocError> {
+    match part {
+        FormulaPart::Says(expression) => write!(text, "{expression}, "),
+        FormulaPart::LeftOut => text.push_str("nothing, "),
+        FormulaPart::And => text.push_str("and, "),
+        FormulaPart::Or => text.push_str("or"),
+    }
+}
+
+fn shown(alloc: Global, formula: &MarkerFormula) -> Result<String, AllocError> {
     let mut text = String::new(alloc);
     let mut left: Parts<'_> = formula.parts();
     while let Some((part, behind)) = left.split_first() {
-        match part {
-            FormulaPart::Says(expression) => write!(text, "{expression}, ")?,
-            FormulaPart::LeftOut => text.push_str("nothing, ")?,
-            FormulaPart::And => text.push_str("and, ")?,
-            FormulaPart::Or => text.push_str("or")?,
-        }
+        push_part(&mut text, part)?;
         left = behind;
     }
+    Ok(text)
+}
+
+#[test]
+fn a_formula_is_shown_in_postfix_order(rt: HostRuntime) -> Result<(), Fail> {
+    let formula = built(rt.alloc())?;
+    let text = shown(rt.alloc(), &formula)?;
     assert_eq!(rt;
         text.as_str(),
         "extra == 'a', nothing, and, extra == 'b', or"
@@ -99,27 +120,59 @@ fn a_formula_is_shown_in_postfix_order(rt: HostRuntime) -> Result<(), Fail> {
     Ok(())
 }
 
+fn marked(alloc: Global, vars: &Vars) -> Result<MarkedRequirement<VerbatimUrl>, AllocError> {
+    let text = "foo>=1 ; sys_platform == 'linux' and extra == 'a'";
+    MarkedRequirement::parse(alloc, vars, text, None).or(Err(AllocError))
+}
+
+fn is_meant(
+    alloc: Global,
+    read: &MarkedRequirement<VerbatimUrl>,
+    extras: &[ExtraName],
+) -> Result<bool, AllocError> {
+    let at = environment(alloc)?;
+    read.evaluate_markers(alloc, &at, extras)
+}
+
+fn is_meant_by_tree(
+    alloc: Global,
+    read: MarkedRequirement<VerbatimUrl>,
+    extras: &[ExtraName],
+) -> Result<bool, AllocError> {
+    let mut interner = Interner::new(alloc);
+    let made = read.with_tree(alloc, &mut interner)?;
+    let at = environment(alloc)?;
+    Ok(made.evaluate_markers(&interner, &at, extras))
+}
+
 #[test]
 fn a_requirement_is_meant_with_and_without_a_tree(rt: HostRuntime) -> Result<(), Fail> {
     let alloc = rt.alloc();
     let vars = Vars::new(alloc, &[], "/w")?;
-    let at = environment(alloc)?;
-    let text = "foo>=1 ; sys_platform == 'linux' and extra == 'a'";
-    let read = MarkedRequirement::<VerbatimUrl>::parse(alloc, &vars, text, None);
-    let read = read.or(Err(AllocError))?;
-    assert!(rt; read.evaluate_markers(alloc, &at, &[extra(alloc)?])?);
-    assert!(rt; !read.evaluate_markers(alloc, &at, &[])?);
-    let mut interner = Interner::new(alloc);
-    let made = read.with_tree(alloc, &mut interner)?;
-    assert!(rt; made.evaluate_markers(&interner, &at, &[extra(alloc)?]));
-    let refused = MarkedRequirement::<VerbatimUrl>::parse_reporter(
+    let read = marked(alloc, &vars)?;
+    let extras = [extra(alloc)?];
+    assert!(rt; is_meant(alloc, &read, &extras)?);
+    assert!(rt; !is_meant(alloc, &read, &[])?);
+    assert!(rt; is_meant_by_tree(alloc, read, &extras)?);
+    Ok(())
+}
+
+fn is_refused(alloc: Global, text: &str) -> Result<bool, AllocError> {
+    let vars = Vars::new(alloc, &[], "/w")?;
+    let read = MarkedRequirement::<VerbatimUrl>::parse_reporter(
         alloc,
         &vars,
-        "foo ; os_name",
+        text,
         None,
         &mut Silent,
     );
-    assert!(rt; refused.is_err());
+    Ok(read.is_err())
+}
+
+#[test]
+fn a_marker_that_is_none_is_refused_without_a_tree(rt: HostRuntime) -> Result<(), Fail> {
+    assert!(rt; is_refused(rt.alloc(), "foo ; os_name")?);
+    assert!(rt; !is_refused(rt.alloc(), "foo ; os_name == 'x'")?);
     Ok(())
 }
 
@@ -129,23 +182,44 @@ const LINES: &str = "foo>=1.5 ; sys_platform == 'linux'\n\
     foo[x] ; extra == 'a'\n\
     baz @ ./c\n";
 
-/// The answers of both judges to the lists.
-fn judged(alloc: Global, candidates: &str) -> Result<(String, String), AllocError> {
+/// The answer to the list of which no trees are made.
+fn marked_answer(
+    alloc: Global,
+    at: &MarkerEnvironment,
+    extras: &[ExtraName],
+    candidates: &Candidates,
+) -> Result<String, AllocError> {
     let vars = Vars::new(alloc, &[], "/w")?;
+    let lines = MarkedLines::parse(alloc, LINES.as_bytes(), &vars).or(Err(AllocError))?;
+    let admission = Admission::new(|_: &Version, _: bool| true);
+    let answer = lines.judge(alloc, at, extras, candidates, &admission)?;
+    answer.text(alloc, candidates)
+}
+
+/// The answer to the list with trees.
+fn answer_by_trees(
+    alloc: Global,
+    at: &MarkerEnvironment,
+    extras: &[ExtraName],
+    candidates: &Candidates,
+) -> Result<String, AllocError> {
+    let vars = Vars::new(alloc, &[], "/w")?;
+    let mut interner = Interner::new(alloc);
+    let read = Requirements::parse(alloc, LINES.as_bytes(), &mut interner, &vars);
+    let lines = read.or(Err(AllocError))?;
+    let admission = Admission::new(|_: &Version, _: bool| true);
+    let answer = lines.judge(alloc, &interner, at, extras, candidates, &admission)?;
+    answer.text(alloc, candidates)
+}
+
+/// The answers of both judges.
+fn judged(alloc: Global, candidates: &str) -> Result<(String, String), AllocError> {
     let at = environment(alloc)?;
     let extras = [extra(alloc)?];
     let candidates = Candidates::parse(alloc, candidates.as_bytes()).or(Err(AllocError))?;
-    let admission = Admission::new(|_: &Version, _: bool| true);
-    let marked = MarkedLines::parse(alloc, LINES.as_bytes(), &vars).or(Err(AllocError))?;
-    let answer = marked.judge(alloc, &at, &extras, &candidates, &admission)?;
-    let mut interner = Interner::new(alloc);
-    let read = Requirements::parse(alloc, LINES.as_bytes(), &mut interner, &vars);
-    let read = read.or(Err(AllocError))?;
-    let other = read.judge(alloc, &interner, &at, &extras, &candidates, &admission)?;
-    Ok((
-        answer.text(alloc, &candidates)?,
-        other.text(alloc, &candidates)?,
-    ))
+    let marked = marked_answer(alloc, &at, &extras, &candidates)?;
+    let other = answer_by_trees(alloc, &at, &extras, &candidates)?;
+    Ok((marked, other))
 }
 
 #[test]
