@@ -57,7 +57,8 @@ fn earlier_same(
     None
 }
 
-/// The same cases, each with the mark of an earlier tree once more.
+/// Cases of some trees as those of one tree more, which is one of them again: each case has the mark of that
+/// earlier tree at its end too.
 pub(crate) fn with_marks_again(
     alloc: Global,
     cases: Vec<TreeCase>,

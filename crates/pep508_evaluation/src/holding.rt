@@ -83,7 +83,8 @@ fn child_at(tree: MarkerTree, interner: &Interner, index: usize) -> Option<Marke
     }
 }
 
-/// The same, which was made before the tree; there is none behind the last.
+/// A child of the node at a tree's root, by its place, and none behind the last. Each was made before the
+/// tree.
 pub(crate) fn root_child(tree: MarkerTree, interner: &Interner, index: usize) -> Option<MarkerTree>
     requires { IsTree interner.now.nodes tree }
     ensures child { result ≡ slice_get (children_of (root_of interner.now.nodes tree)) index }
